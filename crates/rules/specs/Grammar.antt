@@ -1,0 +1,63 @@
+-- The grammar's records, section "Records": classes with their ranges, then productions with their elements.
+use Prim.Native.Nat.{ℕ, zero, suc, _+_, _-_}
+use mathlib.Core.List.{List, [], _∷_, map}
+use mathlib.Core.Bool.{Bool, true, false, cond, _||_}
+use mathlib.Core.Option.{Option, none, some}
+use lib.Dec.{eqb}
+use Rattle.rules.specs.Records.{recordCount, kindOf, fieldA, fieldB, fieldD, units, textOf, heads, after, things, ofKind, nth}
+
+-- the records of an element, of a production (its elements follow it), of a class (its ranges follow it)
+unfoldable pub elementSize : List ℕ → ℕ → ℕ
+elementSize g e = 1 + cond (eqb (fieldA g e) 0) (units (fieldB g e)) 0
+
+unfoldable pub productionSize : List ℕ → ℕ → ℕ
+productionSize g p = after (elementSize g) (fieldD g p) (p + 1) - p
+
+unfoldable pub grammarSize : List ℕ → ℕ → ℕ
+grammarSize g p = cond (eqb (kindOf g p) 1) (1 + fieldD g p) (productionSize g p)
+
+unfoldable pub grammarThings : List ℕ → List ℕ
+grammarThings g = things g (grammarSize g) (recordCount g) 0
+
+-- the heads of the classes and of the productions, by their numbers
+unfoldable pub classes : List ℕ → List ℕ
+classes g = ofKind g 1 (grammarThings g)
+
+unfoldable pub productions : List ℕ → List ℕ
+productions g = ofKind g 3 (grammarThings g)
+
+unfoldable pub class : List ℕ → ℕ → Option ℕ
+class g n = nth (classes g) n
+
+unfoldable pub production : List ℕ → ℕ → Option ℕ
+production g n = nth (productions g) n
+
+-- "4 element: a = 0 keyword (b bytes of text follow), 1 class b, 2 nonterminal b, 3 repetition of nonterminal b"
+pub data Element : Type 0 where
+  keyword : List ℕ → Element
+  lexeme : ℕ → Element
+  nonterminal : ℕ → Element
+  repetition : ℕ → Element
+
+unfoldable pub elementNumbered : List ℕ → ℕ → ℕ → Element
+elementNumbered g zero e = keyword (textOf g e)
+elementNumbered g (suc zero) e = lexeme (fieldB g e)
+elementNumbered g (suc (suc zero)) e = nonterminal (fieldB g e)
+elementNumbered g (suc (suc (suc a))) e = repetition (fieldB g e)
+
+unfoldable pub elementAt : List ℕ → ℕ → Element
+elementAt g e = elementNumbered g (fieldA g e) e
+
+unfoldable pub elementHeads : List ℕ → ℕ → List ℕ
+elementHeads g p = heads (elementSize g) (fieldD g p) (p + 1)
+
+unfoldable pub elements : List ℕ → ℕ → List Element
+elements g p = map (elementAt g) (elementHeads g p)
+
+-- "A nonterminal exists if it has a production"
+unfoldable pub hasProduction : List ℕ → ℕ → List ℕ → Bool
+hasProduction g n [] = false
+hasProduction g n (p ∷ ps) = eqb (fieldB g p) n || hasProduction g n ps
+
+unfoldable pub nonterminalExists : List ℕ → ℕ → Bool
+nonterminalExists g n = hasProduction g n (productions g)

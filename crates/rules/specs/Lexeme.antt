@@ -1,0 +1,91 @@
+-- Lexemes, section "Typing": "A lexeme of a class is well-formed UTF-8 (RFC 3629) with a character count from least to most, each character in some range."
+use Prim.Native.Nat.{ℕ, zero, suc, _+_, _-_, _*_}
+use mathlib.Core.List.{List, [], _∷_, _++_}
+use mathlib.Core.Bool.{Bool, true, false, cond, not, _&&_, _||_}
+use mathlib.Core.Option.{Option, none, some}
+use lib.ListN.{length}
+use lib.Dec.{eqb, leb}
+use Rattle.rules.specs.Faults.{onFound}
+use Rattle.rules.specs.Records.{byteOf, fieldB, fieldC, fieldD, row}
+use Rattle.rules.specs.Grammar.{class}
+
+abbrev pub within : ℕ → ℕ → ℕ → Bool
+within low high b = leb low b && leb b high
+
+-- UTF-8 between two bytes: so many bytes of a character are still due, the next of them in low..high; its bits so far; the characters before it
+pub record Decoding : Type 0 where
+  pub valid : Bool
+  pub due : ℕ
+  pub low : ℕ
+  pub high : ℕ
+  pub bits : ℕ
+  pub characters : List ℕ
+
+unfoldable pub between : List ℕ → Decoding
+between cs = record { valid = true; due = 0; low = 0; high = 0; bits = 0; characters = cs }
+
+unfoldable pub inside : List ℕ → ℕ → ℕ → ℕ → ℕ → Decoding
+inside cs n low high bits = record { valid = true; due = n; low = low; high = high; bits = bits; characters = cs }
+
+unfoldable pub broken : Decoding
+broken = record { valid = false; due = 0; low = 0; high = 0; bits = 0; characters = [] }
+
+-- RFC 3629, section 4, line by line: the first byte of a character, and the range of the byte after it
+unfoldable pub firstByte : List ℕ → ℕ → Decoding
+firstByte cs b =
+    cond (leb b 0x7f) (between (cs ++ b ∷ []))
+    (cond (within 0xc2 0xdf b) (inside cs 1 0x80 0xbf (b - 0xc0))
+    (cond (eqb b 0xe0) (inside cs 2 0xa0 0xbf (b - 0xe0))
+    (cond (within 0xe1 0xec b) (inside cs 2 0x80 0xbf (b - 0xe0))
+    (cond (eqb b 0xed) (inside cs 2 0x80 0x9f (b - 0xe0))
+    (cond (within 0xee 0xef b) (inside cs 2 0x80 0xbf (b - 0xe0))
+    (cond (eqb b 0xf0) (inside cs 3 0x90 0xbf (b - 0xf0))
+    (cond (within 0xf1 0xf3 b) (inside cs 3 0x80 0xbf (b - 0xf0))
+    (cond (eqb b 0xf4) (inside cs 3 0x80 0x8f (b - 0xf0))
+    broken))))))))
+
+-- a later byte brings six bits; the last one ends the character
+unfoldable pub laterByte : Decoding → ℕ → Decoding
+laterByte s b =
+    cond (not (within (s .low) (s .high) b)) broken
+    (cond (eqb (s .due) 1) (between (s .characters ++ (s .bits * 64 + (b - 0x80)) ∷ []))
+    (inside (s .characters) (s .due - 1) 0x80 0xbf (s .bits * 64 + (b - 0x80))))
+
+unfoldable pub nextByte : Decoding → ℕ → Decoding
+nextByte s b = cond (not (s .valid)) broken (cond (eqb (s .due) 0) (firstByte (s .characters) b) (laterByte s b))
+
+unfoldable pub decode : Decoding → List ℕ → Decoding
+decode s [] = s
+decode s (b ∷ bs) = decode (nextByte s b) bs
+
+-- the characters of a text, if it is well-formed
+unfoldable pub decoded : Decoding → Option (List ℕ)
+decoded s = cond (s .valid && eqb (s .due) 0) (some (s .characters)) none
+
+unfoldable pub charactersOf : List ℕ → Option (List ℕ)
+charactersOf text = decoded (decode (between []) text)
+
+-- "2 range: bytes 1-3 lowest and 4-6 highest code point, little-endian"
+unfoldable pub lowest : List ℕ → ℕ → ℕ
+lowest g r = byteOf g r 1 + 256 * byteOf g r 2 + 65536 * byteOf g r 3
+
+unfoldable pub highest : List ℕ → ℕ → ℕ
+highest g r = byteOf g r 4 + 256 * byteOf g r 5 + 65536 * byteOf g r 6
+
+unfoldable pub ranges : List ℕ → ℕ → List ℕ
+ranges g p = row (fieldD g p) (p + 1)
+
+unfoldable pub inSome : List ℕ → List ℕ → ℕ → Bool
+inSome g [] x = false
+inSome g (r ∷ rs) x = within (lowest g r) (highest g r) x || inSome g rs x
+
+unfoldable pub allInSome : List ℕ → List ℕ → List ℕ → Bool
+allInSome g rs [] = true
+allInSome g rs (x ∷ xs) = inSome g rs x && allInSome g rs xs
+
+-- "Counts are of characters, never bytes": the class whose record is at p admits the characters
+unfoldable pub admits : List ℕ → ℕ → List ℕ → Bool
+admits g p cs = within (fieldB g p) (fieldC g p) (length cs) && allInSome g (ranges g p) cs
+
+unfoldable pub isLexeme : List ℕ → ℕ → List ℕ → Bool
+isLexeme g c text = onFound (class g c) false (λ p. onFound (charactersOf text) false (admits g p))

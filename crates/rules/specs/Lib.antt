@@ -1,0 +1,16 @@
+pub mod Faults
+pub mod Records
+pub mod Blocks
+pub mod Lexeme
+pub mod Grammar
+pub mod Templates
+pub mod Value
+pub mod Layout
+pub mod Limits
+pub mod Names
+pub mod Classes
+pub mod Typing
+pub mod Walk
+pub mod Derivation
+pub mod Answers
+pub mod Cases

@@ -1,0 +1,35 @@
+-- The value's records, section "Records": "1 text: b bytes, c size. 2 yes/no: a 0 or 1. 3 list and 4 record: c size, d children."
+use Prim.Native.Nat.{ℕ, zero, suc, _+_}
+use mathlib.Core.List.{List, [], _∷_}
+use mathlib.Core.Bool.{Bool, true, false, cond, _||_}
+use mathlib.Core.Option.{Option, none, some}
+use lib.Dec.{eqb, leb}
+use Rattle.rules.specs.Records.{kindOf, fieldA, fieldC, fieldD, textOf, heads}
+
+-- a yes/no has no size field
+unfoldable pub valueSize : List ℕ → ℕ → ℕ
+valueSize v w = cond (eqb (kindOf v w) 2) 1 (fieldC v w)
+
+unfoldable pub children : List ℕ → ℕ → List ℕ
+children v w = heads (valueSize v) (fieldD v w) (w + 1)
+
+-- the values directly below a value
+unfoldable pub valuesBelow : List ℕ → ℕ → List ℕ
+valuesBelow v w = cond (leb 3 (kindOf v w)) (children v w) []
+
+-- the value at w, if it is one of these: a text's bytes, whether a yes/no is yes, the items of a list, the fields of a record
+unfoldable pub when : {A : Type 0} → Bool → A → Option A
+when true a = some a
+when false a = none
+
+unfoldable pub asText : List ℕ → ℕ → Option (List ℕ)
+asText v w = when (eqb (kindOf v w) 1) (textOf v w)
+
+unfoldable pub asYesNo : List ℕ → ℕ → Option Bool
+asYesNo v w = when (eqb (kindOf v w) 2) (eqb (fieldA v w) 1)
+
+unfoldable pub asList : List ℕ → ℕ → Option (List ℕ)
+asList v w = when (eqb (kindOf v w) 3) (children v w)
+
+unfoldable pub asRecord : List ℕ → ℕ → Option (List ℕ)
+asRecord v w = when (eqb (kindOf v w) 4) (children v w)
