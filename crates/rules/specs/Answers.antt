@@ -8,7 +8,7 @@ use lib.Dec.{leb}
 use Rattle.rules.specs.Faults.{need, both, every, onFound}
 use Rattle.rules.specs.Blocks.{isKind, streamLength, streamBlocks, payloadLength, packed, unpacked}
 use Rattle.rules.specs.Layout.{grammarLayout, templatesLayout, valueLayout}
-use Rattle.rules.specs.Limits.{templatesLimits, valueLimits}
+use Rattle.rules.specs.Limits.{deepest, templatesLimits, valueLimits}
 use Rattle.rules.specs.Names.{grammarNames, templatesNames}
 use Rattle.rules.specs.Classes.{grammarClasses}
 use Rattle.rules.specs.Typing.{templatesTyping, valueTyping}
@@ -19,7 +19,7 @@ use Rattle.rules.specs.declared.Answer.{Answer}
 unfoldable pub answer : ℕ → ℕ → ℕ → ℕ → ℕ → Answer
 answer number kind place steps bytes = record { number = number; kind = kind; place = place; steps = steps; bytes = bytes }
 
--- the streams that a call is lent; the check call has no value
+-- the streams that a call is lent
 pub data Stream : Type 0 where
   grammar templates value : List ℕ → Stream
 
@@ -51,7 +51,8 @@ placed kind (some place) = some (kind, place)
 unfoldable pub over : (Stream → Option ℕ) → List Stream → Option (ℕ × ℕ)
 over fault = every (λ s. placed (streamKind s) (fault s))
 
--- a refusal by its number, with steps and bytes 0; where there is none, what is tried next
+-- a refusal by its number, "For 1 to 9 steps and bytes are 0"; where there is none, what is tried next. (It is a function of nothing, so
+-- that antt computes it only where it is tried.)
 unfoldable pub try : ℕ → Option (ℕ × ℕ) → (Unit {0} → Option Answer) → Option Answer
 try number none next = next tt
 try number (some (kind, place)) next = some (answer number kind place 0 0)
@@ -59,9 +60,10 @@ try number (some (kind, place)) next = some (answer number kind place 0 0)
 unfoldable pub accept : Unit {0} → Option Answer
 accept _ = none
 
--- The order of the checks. 1 to 7, over grammar and templates, or over grammar, templates and value:
+-- The order of the checks. 1 to 7, of a grammar and a template set; 1 to 4 also of the streams that come with them:
 unfoldable pub setRefusal : List ℕ → List ℕ → List Stream → (Unit {0} → Option Answer) → Option Answer
-setRefusal g t streams next =
+setRefusal g t more next =
+    let streams = grammar g ∷ templates t ∷ more in
     try 1 (over (λ s. streamLength (bytesOf s)) streams) λ _.
     try 2 (over (λ s. streamBlocks (streamKind s) (bytesOf s)) streams) λ _.
     try 3 (over layoutOf streams) λ _.
@@ -72,14 +74,18 @@ setRefusal g t streams next =
 
 -- "The check call tries 1 to 7 on grammar and templates"
 unfoldable pub checkRefusal : List ℕ → List ℕ → Option Answer
-checkRefusal g t = setRefusal g t (grammar g ∷ templates t ∷ []) accept
+checkRefusal g t = setRefusal g t [] accept
 
--- "the evaluate call all, in this order"; "9. The scratch has fewer than 4,800 16-bit numbers", with kind and place 0
+-- "9. The scratch has fewer than 4,800 16-bit numbers, 24 for each depth."
+unfoldable pub scratchNeeded : ℕ
+scratchNeeded = 24 * deepest
+
+-- "the evaluate call all, in this order"; "9 has kind and place 0"
 unfoldable pub evaluateRefusal : List ℕ → List ℕ → List ℕ → List ℕ → Option Answer
 evaluateRefusal g t v scratch =
-    setRefusal g t (grammar g ∷ templates t ∷ value v ∷ []) λ _.
+    setRefusal g t (value v ∷ []) λ _.
     try 8 (placed 3 (valueTyping g t v)) λ _.
-    try 9 (placed 0 (need (leb 4800 (length scratch)) 0)) accept
+    try 9 (placed 0 (need (leb scratchNeeded (length scratch)) 0)) accept
 
 -- 10 to 12 are the walk's
 unfoldable pub limitNumber : Limit → ℕ
@@ -106,11 +112,12 @@ left a text out scratch =
 unfoldable pub kept : Answer → List ℕ → List ℕ → Outcome
 kept a out scratch = record { result = a; output = out; scratch = scratch }
 
--- 99 is no number of the paper: no walk of an accepted set is stuck
+-- "kind and place are 0 when finished"; 10 to 12 have the node's place, "with kind 2". That a walk is stuck is never answered (`never-stuck`
+-- of crate theorems); it would be refused by 99, which is no number of the paper.
 unfoldable pub walked : End → List ℕ → List ℕ → Outcome
 walked (done s) out scratch = left (answer 0 0 0 (s .steps) (length (s .text))) (s .text) out scratch
 walked (ended l p s) out scratch = left (answer (limitNumber l) 2 p (s .steps) (length (s .text))) (s .text) out scratch
-walked stuck out scratch = kept (answer 99 0 0 0 0) out scratch
+walked stuck out scratch = kept (answer 99 2 0 0 0) out scratch
 
 unfoldable pub unlessRefused : Option Answer → (Unit {0} → End) → List ℕ → List ℕ → Outcome
 unlessRefused none run out scratch = walked (run tt) out scratch

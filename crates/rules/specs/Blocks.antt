@@ -7,7 +7,7 @@ use lib.ListN.{length, getD, take, drop, replicate}
 use lib.Dec.{eqb, leb}
 use lib.Bits.{bitXor}
 use Rattle.rules.specs.Faults.{need, every}
-use Rattle.rules.specs.Records.{row}
+use Rattle.rules.specs.Records.{word, row}
 
 -- 32-bit FNV-1a: "start 2166136261; for each byte, xor, then multiply by 16777619 modulo 2^32".
 -- The byte stands first in the xor, which is symmetric, as antt goes through the first number's digits.
@@ -21,12 +21,9 @@ unfoldable pub fnv1a : ℕ → List ℕ → ℕ
 fnv1a h [] = h
 fnv1a h (b ∷ bs) = fnv1a (multiplied (bitXor b h)) bs
 
--- numbers of 16 and 32 bits, little-endian
-unfoldable pub word : List ℕ → ℕ → ℕ
-word s i = getD s i 0 + 256 * getD s (i + 1) 0
-
+-- a number of 32 bits, little-endian
 unfoldable pub word32 : List ℕ → ℕ → ℕ
-word32 s i = word s i + 65536 * word s (i + 2)
+word32 s at = word s at + 65536 * word s (at + 2)
 
 -- a block's kind and byte 3 are as they should be, and bytes 508-511 are the check of bytes 0-507
 unfoldable pub sound : ℕ → List ℕ → Bool
@@ -36,7 +33,8 @@ sound kind b = eqb (getD b 2 0) kind && (eqb (getD b 3 0) 0 && eqb (word32 b 508
 unfoldable pub isKind : ℕ → Bool
 isKind kind = leb 1 kind && leb kind 3
 
--- the single-block call: "a length other than 512, a kind outside 1 to 3, a byte 3 that isn't zero or a wrong check gives back an empty part"
+-- the single-block call: "its number isn't judged, and a length other than 512, a kind outside 1 to 3, a byte 3 that isn't zero or a wrong check
+-- gives back an empty part". These are the bytes; that they are a part of the lent buffer is said where the call is.
 unfoldable pub blockPayload : List ℕ → List ℕ
 blockPayload b = cond (eqb (length b) 512 && (isKind (getD b 2 0) && sound (getD b 2 0) b)) (take 504 (drop 4 b)) []
 

@@ -6,8 +6,8 @@ use mathlib.Core.Bool.{Bool, true, false}
 use mathlib.Core.Option.{Option, none, some}
 use lib.ListN.{length, take, replicate}
 use Rattle.rules.specs.Faults.{need, both, every, tree, onFound, at}
-use Rattle.rules.specs.Records.{base, byteOf, kindOf, fieldA, fieldB, fieldC, fieldD, recordCount, recordsFrom, units, textOf, paddingOf, zeros, heads, after, row, things, ofKind, nth, numbered}
-use Rattle.rules.specs.Blocks.{fnvStart, multiplied, fnv1a, word, word32, sound, isKind, blockPayload, streamLength, block, blockRight, streamBlocks, bytes32, checked, filled, packedBlock, packedBlocks, packed, payloadLength, payloads, unpacked}
+use Rattle.rules.specs.Records.{base, byteOf, word, kindOf, fieldA, fieldB, fieldC, fieldD, recordCount, recordsFrom, units, textOf, paddingOf, zeros, heads, after, row, things, ofKind, nth, numbered}
+use Rattle.rules.specs.Blocks.{fnvStart, multiplied, fnv1a, word32, sound, isKind, blockPayload, streamLength, block, blockRight, streamBlocks, bytes32, checked, filled, packedBlock, packedBlocks, packed, payloadLength, payloads, unpacked}
 use Rattle.rules.specs.Lexeme.{between, inside, broken, firstByte, laterByte, nextByte, decode, decoded, charactersOf, lowest, highest, ranges, inSome, allInSome, admits, isLexeme}
 use Rattle.rules.specs.Grammar.{elementSize, productionSize, grammarSize, grammarThings, classes, productions, class, production, elementNumbered, elementAt, elementHeads, elements, hasProduction, nonterminalExists}
 use Rattle.rules.specs.Templates.{templatesSize, templatesThings, types, templates, type, template, fieldHeads, typeNumbered, typeAt, typeOf, parameterHeads, parameters, body, formNumbered, formOf, nodes, paths, path, first, second, nodesOf, nodesBelow, variable, fieldNumbers}
@@ -18,7 +18,7 @@ use Rattle.rules.specs.Names.{exists, elementNamed, grammarNames, typeNa
 use Rattle.rules.specs.Classes.{rangeRight, classBounds, grammarClasses}
 use Rattle.rules.specs.Typing.{asksClass, asksNonterminal, asksRepetition, asksItem, positions, textClass, isYesNo, itemType, fieldTypes, typeAlong, pathType, argumentsFit, site, suitsForm, suits, sites, sitesOf, sitesBelow, misfit, bodySite, only, declared, templatesTyping, typed, hasForm, hasType, paired, typedOf, typedBelow, mistyped, valueTyping}
 use Rattle.rules.specs.Walk.{start, andThen, valueAlong, pathValue, pathValues, write, inOrder, withChild, pieces, visitForm, counted, reached, visit, walk}
-use Rattle.rules.specs.Answers.{answer, streamKind, bytesOf, layoutOf, limitsOf, placed, over, try, accept, setRefusal, checkRefusal, evaluateRefusal, limitNumber, check, left, kept, walked, unlessRefused, input, evaluate, packRefusal, unpackRefusal, written, pack, unpack}
+use Rattle.rules.specs.Answers.{answer, streamKind, bytesOf, layoutOf, limitsOf, placed, over, try, accept, setRefusal, checkRefusal, scratchNeeded, evaluateRefusal, limitNumber, check, left, kept, walked, unlessRefused, input, evaluate, packRefusal, unpackRefusal, written, pack, unpack}
 use Rattle.rules.specs.declared.Answer.{Answer}
 
 -- a record by its fields; a range; a text of at most 8 bytes, in its unit
@@ -100,12 +100,12 @@ cases =
 -- the evaluate call on packed streams, an output of zeros and 4,800 numbers of scratch; what is left of the output is its first bytes
 unfoldable pub evaluated : Case → Answer × List ℕ
 evaluated c =
-    let o = evaluate (packed 1 exampleGrammar) (packed 2 (c .templates)) (packed 3 (c .value)) (c .fuel) (replicate (c .room) 0) (replicate 4800 0) in
+    let o = evaluate (packed 1 exampleGrammar) (packed 2 (c .templates)) (packed 3 (c .value)) (c .fuel) (replicate (c .room) 0) (replicate scratchNeeded 0) in
     (o .result, take (o .result .bytes) (o .output))
 
 unfoldable pub stated : Case → Answer × List ℕ
 stated c = (c .expected, c .text)
 
 pub cases-hold : map evaluated cases ≡ map stated cases
-unfolding head range unit exampleGrammar exampleTypes exampleTemplates endlessTemplates twoTitles noTitle longTitle emptyTitle on whole cases evaluated stated need both every tree onFound at base byteOf kindOf fieldA fieldB fieldC fieldD recordCount recordsFrom units textOf paddingOf zeros heads after row things ofKind nth numbered fnvStart multiplied fnv1a word word32 sound isKind blockPayload streamLength block blockRight streamBlocks bytes32 checked filled packedBlock packedBlocks packed payloadLength payloads unpacked between inside broken firstByte laterByte nextByte decode decoded charactersOf lowest highest ranges inSome allInSome admits isLexeme elementSize productionSize grammarSize grammarThings classes productions class production elementNumbered elementAt elementHeads elements hasProduction nonterminalExists templatesSize templatesThings types templates type template fieldHeads typeNumbered typeAt typeOf parameterHeads parameters body formNumbered formOf nodes paths path first second nodesOf nodesBelow variable fieldNumbers valueSize children valuesBelow when asText asYesNo asList asRecord thenRead inRow whileKind textEnd rangeEnd classEnd elementEnd productionEnd grammarEnd namingEnd typeEnd pathEnd formEnd sized nodeEnd templateEnd templatesEnd childrenEnd kindEnd valueEnd ended layoutFault grammarLayout templatesLayout valueLayout deepest looped loopsBelow loopedBelow fewLoops templateLimits templatesLimits valueLimits exists elementNamed grammarNames typeNamed typeNames formNamed nodeNamed templateNames templatesNames rangeRight classBounds grammarClasses asksClass asksNonterminal asksRepetition asksItem positions textClass isYesNo itemType fieldTypes typeAlong pathType argumentsFit site suitsForm suits sites sitesOf sitesBelow misfit bodySite only declared templatesTyping typed hasForm hasType paired typedOf typedBelow mistyped valueTyping start andThen valueAlong pathValue pathValues write inOrder withChild pieces visitForm counted reached visit walk answer streamKind bytesOf layoutOf limitsOf placed over try accept setRefusal checkRefusal evaluateRefusal limitNumber check left kept walked unlessRefused input evaluate packRefusal unpackRefusal written pack unpack
+unfolding head range unit exampleGrammar exampleTypes exampleTemplates endlessTemplates twoTitles noTitle longTitle emptyTitle on whole cases evaluated stated need both every tree onFound at base byteOf word kindOf fieldA fieldB fieldC fieldD recordCount recordsFrom units textOf paddingOf zeros heads after row things ofKind nth numbered fnvStart multiplied fnv1a word32 sound isKind blockPayload streamLength block blockRight streamBlocks bytes32 checked filled packedBlock packedBlocks packed payloadLength payloads unpacked between inside broken firstByte laterByte nextByte decode decoded charactersOf lowest highest ranges inSome allInSome admits isLexeme elementSize productionSize grammarSize grammarThings classes productions class production elementNumbered elementAt elementHeads elements hasProduction nonterminalExists templatesSize templatesThings types templates type template fieldHeads typeNumbered typeAt typeOf parameterHeads parameters body formNumbered formOf nodes paths path first second nodesOf nodesBelow variable fieldNumbers valueSize children valuesBelow when asText asYesNo asList asRecord thenRead inRow whileKind textEnd rangeEnd classEnd elementEnd productionEnd grammarEnd namingEnd typeEnd pathEnd formEnd sized nodeEnd templateEnd templatesEnd childrenEnd kindEnd valueEnd ended layoutFault grammarLayout templatesLayout valueLayout deepest looped loopsBelow loopedBelow fewLoops templateLimits templatesLimits valueLimits exists elementNamed grammarNames typeNamed typeNames formNamed nodeNamed templateNames templatesNames rangeRight classBounds grammarClasses asksClass asksNonterminal asksRepetition asksItem positions textClass isYesNo itemType fieldTypes typeAlong pathType argumentsFit site suitsForm suits sites sitesOf sitesBelow misfit bodySite only declared templatesTyping typed hasForm hasType paired typedOf typedBelow mistyped valueTyping start andThen valueAlong pathValue pathValues write inOrder withChild pieces visitForm counted reached visit walk answer streamKind bytesOf layoutOf limitsOf placed over try accept setRefusal checkRefusal scratchNeeded evaluateRefusal limitNumber check left kept walked unlessRefused input evaluate packRefusal unpackRefusal written pack unpack
 cases-hold = refl

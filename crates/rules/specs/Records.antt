@@ -1,4 +1,5 @@
--- Records, section "Records": 8 bytes, by index, straight from the blocks of a stream. What lies past the end of the stream is 0.
+-- Records, section "Records": 8 bytes, by index, straight from the blocks of a stream. A byte past the end of the stream is 0, and a text
+-- that runs past it is cut short; refusal 3 meets both.
 use Prim.Native.Nat.{ℕ, zero, suc, _+_, _*_, _/_, _%_}
 use mathlib.Core.List.{List, [], _∷_, _++_}
 use mathlib.Core.Bool.{Bool, true, false, _&&_}
@@ -13,6 +14,10 @@ base i = 512 * (i / 63) + 4 + 8 * (i % 63)
 unfoldable pub byteOf : List ℕ → ℕ → ℕ → ℕ
 byteOf s i j = getD s (base i + j) 0
 
+-- a number of 16 bits, little-endian
+unfoldable pub word : List ℕ → ℕ → ℕ
+word s at = getD s at 0 + 256 * getD s (at + 1) 0
+
 -- "Byte 0 kind, byte 1 a, then words b, c, d of 16 bits, little-endian"
 unfoldable pub kindOf : List ℕ → ℕ → ℕ
 kindOf s i = byteOf s i 0
@@ -21,13 +26,13 @@ unfoldable pub fieldA : List ℕ → ℕ → ℕ
 fieldA s i = byteOf s i 1
 
 unfoldable pub fieldB : List ℕ → ℕ → ℕ
-fieldB s i = byteOf s i 2 + 256 * byteOf s i 3
+fieldB s i = word s (base i + 2)
 
 unfoldable pub fieldC : List ℕ → ℕ → ℕ
-fieldC s i = byteOf s i 4 + 256 * byteOf s i 5
+fieldC s i = word s (base i + 4)
 
 unfoldable pub fieldD : List ℕ → ℕ → ℕ
-fieldD s i = byteOf s i 6 + 256 * byteOf s i 7
+fieldD s i = word s (base i + 6)
 
 -- the records of a whole stream; the bytes of n records from i on
 unfoldable pub recordCount : List ℕ → ℕ
@@ -37,7 +42,8 @@ unfoldable pub recordsFrom : List ℕ → ℕ → ℕ → List ℕ
 recordsFrom s zero i = []
 recordsFrom s (suc n) i = take 8 (drop (base i) s) ++ recordsFrom s n (suc i)
 
--- "Text follows its head in units of 8 bytes, the last zero-padded; length 0 has no unit": the units of n bytes, and the text of b bytes after the head at i
+-- "Text follows its head in units of 8 bytes, the last zero-padded; length 0 has no unit": the units of n bytes; the text of b bytes
+-- after the head at i, and its padding
 unfoldable pub units : ℕ → ℕ
 units n = (n + 7) / 8
 

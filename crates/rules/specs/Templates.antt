@@ -6,7 +6,7 @@ use mathlib.Core.Option.{Option, none, some}
 use lib.ListN.{take, drop}
 use lib.Dec.{eqb}
 use Rattle.rules.specs.Faults.{onFound}
-use Rattle.rules.specs.Records.{base, recordCount, byteOf, kindOf, fieldA, fieldB, fieldC, fieldD, heads, row, things, ofKind, nth}
+use Rattle.rules.specs.Records.{recordCount, recordsFrom, byteOf, kindOf, fieldA, fieldB, fieldC, fieldD, heads, row, things, ofKind, nth}
 use Rattle.rules.specs.declared.Form.{Form}
 use Rattle.rules.specs.declared.Form.the-variants.{Build, Literal, Place, Expand, If, For, Sequence, Unknown}
 
@@ -115,4 +115,4 @@ unfoldable pub variable : List ℕ → ℕ → ℕ
 variable t p = byteOf t p 1
 
 unfoldable pub fieldNumbers : List ℕ → ℕ → List ℕ
-fieldNumbers t p = take (byteOf t p 2) (drop (base p + 3) t)
+fieldNumbers t p = take (byteOf t p 2) (drop 3 (recordsFrom t 1 p))

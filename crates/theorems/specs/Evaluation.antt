@@ -1,0 +1,73 @@
+-- The evaluation rules a second time, as a relation in the manner of source document 001: its dynamic rules of Fig. 11, and of Fig. 6 where that leaves them.
+-- 001's judgement `T, Θ ⊢ tstmt ⇒ ψ` is `Evaluates g t v env p x`. T is env, the places of the variables' values in the value v; Θ is the template code t;
+-- tstmt is the node at p, and ψ the text x. g is the target language's grammar. No steps, depth or room stand here, and of the walk only what paths find.
+use Prim.Native.Nat.{ℕ}
+use mathlib.Core.Path.{_≡_}
+use mathlib.Core.Bool.{true, false}
+use mathlib.Core.List.{List, [], _∷_, _++_}
+use mathlib.Core.Option.{some}
+use Rattle.rules.specs.Records.{fieldB, textOf}
+use Rattle.rules.specs.Grammar.{production, elements, Element, keyword, lexeme, nonterminal, repetition}
+use Rattle.rules.specs.Templates.{template, body, formOf, nodes, paths, path, first, second}
+use Rattle.rules.specs.Value.{asText, asYesNo, asList}
+use Rattle.rules.specs.Walk.{pathValue, pathValues}
+use Rattle.rules.specs.declared.Form.the-variants.{Build, Literal, Place, Expand, If, For, Sequence}
+
+mutual
+  -- `T, Θ ⊢ tstmt ⇒ ψ`. Of a path, `T ⊢ texpr ⇒ ν` is that `pathValue` finds the value ν;
+  -- `⊢ ν ⇒ φ` that ν is a text, `⊢_L ν ⇒ ν*` a list of these items, `⊢_B ν ⇒ β` a yes or a no.
+  pub data Evaluates (g t v : List ℕ) : List ℕ → ℕ → List ℕ → Type 0 where
+    -- the rule of each grammar rule, [pprog], [pstmt₁] ..: its elements in order, their texts in a row
+    build : {env : List ℕ} {p q : ℕ} {x : List ℕ} → formOf t p ≡ Build
+        → production g (fieldB t p) ≡ some q → Builds g t v env (elements g q) (nodes t p) x → Evaluates g t v env p x
+    -- the rule of each morphem class: "a morphem generates itself"
+    literal : {env : List ℕ} {p : ℕ} → formOf t p ≡ Literal → Evaluates g t v env p (textOf t p)
+    -- [expr]
+    place : {env : List ℕ} {p w : ℕ} {x : List ℕ} → formOf t p ≡ Place
+        → pathValue t v env (path p) ≡ some w → asText v w ≡ some x → Evaluates g t v env p x
+    -- [expand]: the body, with "a fresh set of variables, those that its paths find"
+    expand : {env ws : List ℕ} {p q : ℕ} {x : List ℕ} → formOf t p ≡ Expand
+        → template t (fieldB t p) ≡ some q → pathValues t v env (paths t p) ≡ some ws → Evaluates g t v ws (body t q) x → Evaluates g t v env p x
+    -- [then]
+    then : {env : List ℕ} {p w : ℕ} {x : List ℕ} → formOf t p ≡ If
+        → pathValue t v env (path p) ≡ some w → asYesNo v w ≡ some true → Evaluates g t v env (first p) x → Evaluates g t v env p x
+    -- [else]
+    else : {env : List ℕ} {p w : ℕ} {x : List ℕ} → formOf t p ≡ If
+        → pathValue t v env (path p) ≡ some w → asYesNo v w ≡ some false → Evaluates g t v env (second t p) x → Evaluates g t v env p x
+    -- [for]
+    for : {env ws : List ℕ} {p w : ℕ} {x : List ℕ} → formOf t p ≡ For
+        → pathValue t v env (path p) ≡ some w → asList v w ≡ some ws → Loops g t v env (first p) ws x → Evaluates g t v env p x
+    -- the list that stands for a Kleene closure
+    sequence : {env : List ℕ} {p : ℕ} {x : List ℕ} → formOf t p ≡ Sequence → Items g t v env (nodes t p) x → Evaluates g t v env p x
+
+  -- the premises that 001 adds for each element of a grammar rule, with the children that are left; a keyword takes none
+  pub data Builds (g t v : List ℕ) : List ℕ → List Element → List ℕ → List ℕ → Type 0 where
+    -- nothing is left to build; children that no element takes, of which a typed build has none, give no text
+    no-element : {env cs : List ℕ} → Builds g t v env [] cs []
+    -- 4: "For a keyword kw, the premise ψ = kw"
+    own-bytes : {env cs w y : List ℕ} {es : List Element} → Builds g t v env es cs y → Builds g t v env (keyword w ∷ es) cs (w ++ y)
+    -- 3: "For a morphem class"
+    of-class : {env cs x y : List ℕ} {n c : ℕ} {es : List Element}
+        → Evaluates g t v env c x → Builds g t v env es cs y → Builds g t v env (lexeme n ∷ es) (c ∷ cs) (x ++ y)
+    -- 1: "For a nonterminal"
+    of-nonterminal : {env cs x y : List ℕ} {n c : ℕ} {es : List Element}
+        → Evaluates g t v env c x → Builds g t v env es cs y → Builds g t v env (nonterminal n ∷ es) (c ∷ cs) (x ++ y)
+    -- 2: "For a Kleene closure"; its list is the sequence at c
+    of-repetition : {env cs x y : List ℕ} {n c : ℕ} {es : List Element}
+        → Evaluates g t v env c x → Builds g t v env es cs y → Builds g t v env (repetition n ∷ es) (c ∷ cs) (x ++ y)
+
+  -- the texts of a sequence's items, in order and with nothing between
+  pub data Items (g t v : List ℕ) : List ℕ → List ℕ → List ℕ → Type 0 where
+    no-item : {env : List ℕ} → Items g t v env [] []
+    one-item : {env cs x y : List ℕ} {c : ℕ} → Evaluates g t v env c x → Items g t v env cs y → Items g t v env (c ∷ cs) (x ++ y)
+
+  -- the texts of a for's body p, one for each item of the list, in order: "the item being one variable more"
+  pub data Loops (g t v : List ℕ) : List ℕ → ℕ → List ℕ → List ℕ → Type 0 where
+    no-turn : {env : List ℕ} {p : ℕ} → Loops g t v env p [] []
+    one-turn : {env ws x y : List ℕ} {p w : ℕ} → Evaluates g t v (env ++ w ∷ []) p x → Loops g t v env p ws y → Loops g t v env p (w ∷ ws) (x ++ y)
+
+-- a whole set: "template 0's body and the value as its one variable"
+pub record EvaluatesSet (g t v x : List ℕ) : Type 0 where
+  pub head : ℕ
+  pub template-0 : template t 0 ≡ some head
+  pub evaluates : Evaluates g t v (0 ∷ []) (body t head) x

@@ -1,0 +1,150 @@
+-- What a check says when it finds nothing: one law for each way in which checks are put together.
+use mathlib.Core.Path.{_≡_, refl, sym, _∙_, ap, subst}
+use mathlib.Core.Logic.{_↔_, Iff·rfl, Iff·trans}
+use Prim.Native.Nat.{ℕ, zero, suc, _+_, _≤_, _<_}
+use mathlib.Core.List.{List, [], _∷_, _++_, map}
+use mathlib.Core.Bool.{Bool, true, false, _&&_, _||_, false≢true, true≢false}
+use mathlib.Core.Option.{Option, none, some, Option·some-ne-none, Option·none-ne-some, Option·some-injective}
+use native.Mathlib.Omega.{arith}
+use lib.Dec.{eqb, leb, ltb}
+use borrow.Author.Tests.{eqb-true, eq-eqb, leb-true, le-leb, ltb-true, lt-ltb}
+use Rattle.rules.specs.Records.{nth}
+use Rattle.rules.specs.Answers.{placed, try}
+use Rattle.rules.specs.declared.Answer.{Answer}
+use Rattle.rules.specs.Faults.{need, both, every, tree, onFound, at}
+
+pub need-none : {A : Type 0} (b : Bool) (x : A) → need b x ≡ none → b ≡ true
+unfolding need
+need-none true x e = refl
+need-none false x e = absurd (Option·some-ne-none x e)
+
+pub need-iff : {A : Type 0} (b : Bool) (x : A) → (need b x ≡ none) ↔ (b ≡ true)
+unfolding need
+need-iff true x = (λ e. refl, λ e. refl)
+need-iff false x = (λ e. absurd (Option·some-ne-none x e), λ e. absurd (false≢true e))
+
+pub both-none : {A : Type 0} (a b : Option A) → both a b ≡ none → (a ≡ none) × (b ≡ none)
+unfolding both
+both-none none b e = (refl, e)
+both-none (some x) b e = absurd (Option·some-ne-none x e)
+
+pub both-iff : {A : Type 0} (a b : Option A) → (both a b ≡ none) ↔ ((a ≡ none) × (b ≡ none))
+unfolding both
+both-iff none b = (λ e. (refl, e), λ e. e .1)
+both-iff (some x) b = (λ e. absurd (Option·some-ne-none x e), λ e. absurd (Option·some-ne-none x (e .0)))
+
+pub every-nil : {A B : Type 0} (f : A → Option B) → every f [] ≡ none
+unfolding every
+every-nil f = refl
+
+pub every-cons : {A B : Type 0} (f : A → Option B) (x : A) (xs : List A) → f x ≡ none → every f xs ≡ none → every f (x ∷ xs) ≡ none
+unfolding every both
+every-cons f x xs e r = rw e r
+
+-- x is an entry of xs
+pub data In {A : Type 0} (x : A) : List A → Type 0 where
+  here : (xs : List A) → In x (x ∷ xs)
+  later : (y : A) (xs : List A) → In x xs → In x (y ∷ xs)
+
+pub in-nth : {A : Type 0} {x : A} {xs : List A} → In x xs → (n : ℕ) × (nth xs n ≡ some x)
+unfolding nth
+in-nth (here xs) = (0, refl)
+in-nth (later y xs i) = let r = in-nth i in (suc (r .0), r .1)
+
+pub nth-in : {A : Type 0} (xs : List A) (n : ℕ) (x : A) → nth xs n ≡ some x → In x xs
+unfolding nth
+nth-in [] n x e = absurd (Option·none-ne-some x e)
+nth-in (y ∷ ys) zero x e = subst (λ z. In z (y ∷ ys)) (Option·some-injective y x e) (here ys)
+nth-in (y ∷ ys) (suc n) x e = later y ys (nth-in ys n x e)
+
+pub in-map : {A B : Type 0} (f : A → B) {x : A} {xs : List A} → In x xs → In (f x) (map f xs)
+in-map f (here xs) = here _
+in-map f (later y xs i) = later _ _ (in-map f i)
+
+pub every-in : {A B : Type 0} (f : A → Option B) {x : A} {xs : List A} → every f xs ≡ none → In x xs → f x ≡ none
+unfolding every
+every-in f e (here xs) = both-none _ _ e .0
+every-in f e (later y xs i) = every-in f (both-none _ _ e .1) i
+
+pub in-every : {A B : Type 0} (f : A → Option B) (xs : List A) → ((x : A) → In x xs → f x ≡ none) → every f xs ≡ none
+unfolding every both
+in-every f [] h = refl
+in-every f (x ∷ xs) h = rw (h x (here xs)) (in-every f xs (λ y i. h y (later x xs i)))
+
+pub every-iff : {A B : Type 0} (f : A → Option B) (xs : List A) → (every f xs ≡ none) ↔ ((x : A) → In x xs → f x ≡ none)
+every-iff f xs = (λ e x i. every-in f e i, in-every f xs)
+
+pub onFound-true : {A : Type 0} (o : Option A) (f : A → Bool) → (onFound o false f ≡ true) ↔ ((a : A) × (o ≡ some a) × (f a ≡ true))
+unfolding onFound
+onFound-true none f = (λ e. absurd (false≢true e), λ e. absurd (Option·none-ne-some (e .0) (e .1)))
+onFound-true (some a) f = (λ e. (a, refl, e), λ e. subst (λ x. f x ≡ true) (sym (Option·some-injective a (e .0) (e .1))) (e .2))
+
+pub onFound-some : {A B : Type 0} (o : Option A) (f : A → Option B) (b : B) → onFound o none f ≡ some b → (a : A) × (o ≡ some a) × (f a ≡ some b)
+unfolding onFound
+onFound-some none f b e = absurd (Option·none-ne-some b e)
+onFound-some (some a) f b e = (a, refl, e)
+
+pub onFound-none : {A B : Type 0} (o : Option A) (b : B) (f : A → Option B) → (onFound o (some b) f ≡ none) ↔ ((a : A) × (o ≡ some a) × (f a ≡ none))
+unfolding onFound
+onFound-none none b f = (λ e. absurd (Option·some-ne-none b e), λ e. absurd (Option·none-ne-some (e .0) (e .1)))
+onFound-none (some a) b f = (λ e. (a, refl, e), λ e. subst (λ x. f x ≡ none) (sym (Option·some-injective a (e .0) (e .1))) (e .2))
+
+pub found : {A B : Type 0} {o : Option A} {a : A} (b : B) (f : A → B) → o ≡ some a → onFound o b f ≡ f a
+unfolding onFound
+found b f e = rw e
+
+pub at-none : {A : Type 0} (place : A → ℕ) (o : Option A) → (at place o ≡ none) ↔ (o ≡ none)
+unfolding at
+at-none place none = (λ e. refl, λ e. refl)
+at-none place (some x) = (λ e. absurd (Option·some-ne-none (place x) e), λ e. absurd (Option·some-ne-none x e))
+
+pub at-some : {A : Type 0} (place : A → ℕ) (o : Option A) (p : ℕ) → at place o ≡ some p → (x : A) × (o ≡ some x) × (place x ≡ p)
+unfolding at
+at-some place none p e = absurd (Option·none-ne-some p e)
+at-some place (some x) p e = (x, refl, Option·some-injective (place x) p e)
+
+pub and-iff : (a b : Bool) → ((a && b) ≡ true) ↔ ((a ≡ true) × (b ≡ true))
+and-iff true b = (λ e. (refl, e), λ e. e .1)
+and-iff false b = (λ e. absurd (false≢true e), λ e. absurd (false≢true (e .0)))
+
+pub eqb-iff : (a b : ℕ) → (eqb a b ≡ true) ↔ (a ≡ b)
+eqb-iff a b = (eqb-true a b, eq-eqb a b)
+
+pub leb-iff : (a b : ℕ) → (leb a b ≡ true) ↔ (a ≤ b)
+leb-iff a b = (leb-true a b, le-leb a b)
+
+pub ltb-iff : (a b : ℕ) → (ltb a b ≡ true) ↔ (a < b)
+ltb-iff a b = (ltb-true a b, lt-ltb a b)
+
+-- a check finds nothing, and neither does what is tried next
+pub placed-iff : (kind : ℕ) (fault : Option ℕ) → (placed kind fault ≡ none) ↔ (fault ≡ none)
+unfolding placed
+placed-iff kind none = (λ e. refl, λ e. refl)
+placed-iff kind (some p) = (λ e. absurd (Option·some-ne-none _ e), λ e. absurd (Option·some-ne-none p e))
+
+pub try-iff : (number : ℕ) (fault : Option (ℕ × ℕ)) (next : Unit {0} → Option Answer) → (try number fault next ≡ none) ↔ ((fault ≡ none) × (next tt ≡ none))
+unfolding try
+try-iff number none next = (λ e. (refl, e), λ e. e .1)
+try-iff number (some x) next = (λ e. absurd (Option·some-ne-none _ e), λ e. absurd (Option·some-ne-none x (e .0)))
+
+-- y stands so many levels below x
+pub data Below {A : Type 0} (below : A → List A) : A → ℕ → A → Type 0 where
+  itself : (x : A) → Below below x 0 x
+  under : (x c y : A) (d : ℕ) → In c (below x) → Below below c d y → Below below x (suc d) y
+
+-- a tree has no fault exactly when everything in it is at most k deep, itself counting 1, and passes its own test
+pub tree-in : {A : Type 0} (ok : A → Bool) (below : A → List A) (k : ℕ) {x y : A} {d : ℕ} → tree ok below k x ≡ none → Below below x d y → (d < k) × (ok y ≡ true)
+unfolding tree
+tree-in ok below zero e (itself x) = absurd (Option·some-ne-none x e)
+tree-in ok below zero e (under x c y d i b) = absurd (Option·some-ne-none x e)
+tree-in ok below (suc k) e (itself x) = (omega arith, need-none (ok x) x (both-none _ _ e .0))
+tree-in ok below (suc k) e (under x c y d i b) =
+    let r = tree-in ok below k (every-in (tree ok below k) (both-none _ _ e .1) i) b in
+    (omega arith, r .1)
+
+pub in-tree : {A : Type 0} (ok : A → Bool) (below : A → List A) (k : ℕ) (x : A) → ((d : ℕ) (y : A) → Below below x d y → (d < k) × (ok y ≡ true)) → tree ok below k x ≡ none
+unfolding tree both need
+in-tree ok below zero x h = absurd (let z : 0 < 0 = h 0 x (itself x) .0 in omega arith)
+in-tree ok below (suc k) x h =
+    rw (h 0 x (itself x) .1)
+    (in-every (tree ok below k) (below x) λ c i. in-tree ok below k c λ d y b. let r = h (suc d) y (under x c y d i b) in (omega arith, r .1))

@@ -1,0 +1,227 @@
+-- "blocks packed and unpacked return the same records, with zero fill at most after them" (demand 2): a packed stream meets neither 1 nor 2,
+-- and unpacking it gives the payload, zero-filled.
+use mathlib.Core.Path.{_≡_, refl, ap, ap₂, sym, _∙_}
+use Prim.Native.Nat.{ℕ, zero, suc, _+_, _-_, _*_, _/_, _%_, _≤_, _<_}
+use mathlib.Core.List.{List, [], _∷_, _++_, append-assoc, append-nil}
+use mathlib.Core.Bool.{Bool, true, false}
+use mathlib.Core.Logic.{_↔_}
+use mathlib.Core.Option.{Option, none, some, Option·some-ne-none}
+use native.Mathlib.Omega.{arith}
+use native.Mathlib.Nat.{mod-eq-of-lt, sub-zero, add-zero, zero-add}
+use borrow.Author.Tests.{le-leb, leb-true, leb-false}
+use lib.Dec.{leb}
+use lib.ListN.{length, take, drop, getD, replicate, length-append, length-take, length-drop, length-replicate, replicate-append-replicate, take-append-drop, drop-of-length-le}
+use lib.Pow.{shr-shr}
+use lib.Bits.{bitXor}
+use lib.Seq.{length-take-le, take-at, drop-at, getD-append-add, take-all, drop-drop, take-append-seam}
+use Rattle.rules.specs.Records.{word}
+use Rattle.rules.specs.Blocks.{fnvStart, multiplied, fnv1a, word32, isKind, streamLength, block, streamBlocks, bytes32, checked, filled, packedBlock, packedBlocks, packed, payloadLength, payloads, unpacked}
+use Rattle.rules.specs.Answers.{answer, placed, try, accept, packRefusal, unpackRefusal, Written, written, pack, unpack}
+use Rattle.rules.specs.declared.Answer.{Answer}
+use Rattle.theorems.specs.Laws.{need-iff, both-iff, and-iff, leb-iff, placed-iff, try-iff}
+use Rattle.theorems.specs.Streams.{length-exactly, RightBlock, blocks-exactly}
+
+-- the check is a number of 32 bits
+fnv1a-small : (h : ℕ) (s : List ℕ) → h < 4294967296 → fnv1a h s < 4294967296
+unfolding fnv1a multiplied
+fnv1a-small h [] l = l
+fnv1a-small h (b ∷ bs) l = fnv1a-small (multiplied (bitXor b h)) bs (omega arith)
+
+filled-length : (p : List ℕ) → length p ≤ 504 → length (filled p) ≡ 504
+unfolding filled
+filled-length p l = length-append p (replicate (504 - length p) 0) ∙ simp length-replicate (omega arith)
+
+-- bytes 0 to 507 of a packed block
+abbrev unchecked : ℕ → ℕ → List ℕ → List ℕ
+unchecked kind n p = (n % 256 ∷ n / 256 % 256 ∷ kind ∷ 0 ∷ []) ++ filled p
+
+unchecked-length : (kind n : ℕ) (p : List ℕ) → length p ≤ 504 → length (unchecked kind n p) ≡ 508
+unchecked-length kind n p l = omega (arith, filled-length p l)
+
+block-length : (kind n : ℕ) (p : List ℕ) → length p ≤ 504 → length (packedBlock kind n p) ≡ 512
+unfolding packedBlock checked bytes32
+block-length kind n p l = length-append (unchecked kind n p) (bytes32 (fnv1a fnvStart (unchecked kind n p))) ∙ omega (arith, unchecked-length kind n p l)
+
+past : (b c : List ℕ) (n k : ℕ) → length b ≡ n → getD (b ++ c) (n + k) 0 ≡ getD c k 0
+past b c n k l = rw (← l) (getD-append-add b c k 0)
+
+-- four digits of base 256 give a number of 32 bits back
+digits : (h : ℕ) → h < 4294967296 → h % 256 + 256 * (h / 256 % 256) + 65536 * (h / 65536 % 256 + 256 * (h / 16777216 % 256)) ≡ h
+digits h m =
+    let c : h / 16777216 < 256 = omega arith in
+    let d : h / 16777216 % 256 ≡ h / 16777216 = mod-eq-of-lt c in
+    omega (arith, shr-shr h 8 8, shr-shr h 16 8)
+
+word32-at : (b : List ℕ) (h : ℕ) → length b ≡ 508 → h < 4294967296 → word32 (b ++ bytes32 h) 508 ≡ h
+unfolding word32 word bytes32
+word32-at b h l m = omega (arith, past b (bytes32 h) 508 0 l, past b (bytes32 h) 508 1 l, past b (bytes32 h) 508 2 l, past b (bytes32 h) 508 3 l, digits h m)
+
+-- the check at the end of a checked block is that of the bytes before it
+check-at : (b : List ℕ) → length b ≡ 508 → word32 (checked b) 508 ≡ fnv1a fnvStart (take 508 (checked b))
+unfolding checked fnvStart
+check-at b l =
+    word32-at b (fnv1a 2166136261 b) l (fnv1a-small 2166136261 b (omega arith)) ∙ ap (fnv1a 2166136261) (sym (take-at b (bytes32 (fnv1a 2166136261 b)) 508 l))
+
+-- block i of packed blocks that are numbered from n on
+block-of-packed : (kind k n : ℕ) (p : List ℕ) (i : ℕ) → i < k → block (packedBlocks kind k n p) i ≡ packedBlock kind (n + i) (take 504 (drop (504 * i) p))
+unfolding packedBlocks block
+block-of-packed kind zero n p i l = absurd (omega arith)
+block-of-packed kind (suc k) n p zero l =
+    rw add-zero (take-at (packedBlock kind n (take 504 p)) _ 512 (block-length kind n (take 504 p) (rw length-take (omega arith))))
+block-of-packed kind (suc k) n p (suc i) l =
+    let b : List ℕ = packedBlock kind n (take 504 p) in
+    let r : List ℕ = packedBlocks kind k (suc n) (drop 504 p) in
+    let z : length b ≡ 512 = block-length kind n (take 504 p) (rw length-take (omega arith)) in
+    let c : 512 * suc i ≡ 512 + 512 * i = omega arith in
+    let d : 504 + 504 * i ≡ 504 * suc i = omega arith in
+    let m : suc n + i ≡ n + suc i = omega arith in
+    rw (c, ← drop-drop (512 * i) 512 (b ++ r), drop-at b r 512 z, block-of-packed kind k (suc n) (drop 504 p) i (omega arith), m, drop-drop (504 * i) 504 p, d)
+
+-- a packed block has nothing wrong
+right-block : (kind n : ℕ) (s p : List ℕ) → block s n ≡ packedBlock kind n p → length p ≤ 504 → n < 65536 → RightBlock kind s n
+unfolding packedBlock checked word
+right-block kind n s p e l m =
+    record { number-right = rw e (omega arith); kind-right = rw e; byte3-right = rw e; check-right = rw e (check-at (unchecked kind n p) (unchecked-length kind n p l)) }
+
+blocks-length : (kind k n : ℕ) (p : List ℕ) → length (packedBlocks kind k n p) ≡ 512 * k
+unfolding packedBlocks
+blocks-length kind zero n p = refl
+blocks-length kind (suc k) n p =
+    length-append (packedBlock kind n (take 504 p)) (packedBlocks kind k (suc n) (drop 504 p))
+    ∙ ap₂ _+_ (block-length kind n (take 504 p) (rw length-take (omega arith))) (blocks-length kind k (suc n) (drop 504 p))
+    ∙ omega arith
+
+-- the number of blocks of a payload, and of the zeros after it
+abbrev pub blockCount : List ℕ → ℕ
+blockCount payload = (length payload + 503) / 504
+
+abbrev pub fillCount : List ℕ → ℕ
+fillCount payload = 504 * blockCount payload - length payload
+
+pub packed-length : (kind : ℕ) (payload : List ℕ) → length (packed kind payload) ≡ 512 * blockCount payload
+unfolding packed
+packed-length kind payload = blocks-length kind (blockCount payload) 0 payload
+
+-- "with zero fill at most after them": less than a block's payload
+pub fill-small : (payload : List ℕ) → fillCount payload < 504
+fill-small payload = omega arith
+
+-- "a multiple of 8 bytes, 8 to 64,512"
+legal-length : (payload : List ℕ) → payloadLength payload ≡ none → (8 ≤ length payload) × (length payload ≤ 64512)
+unfolding payloadLength
+legal-length payload e =
+    let h = and-iff _ _ .0 (need-iff {A = ℕ} _ 0 .0 e) in
+    (leb-iff 8 (length payload) .0 (h .0), leb-iff (length payload) 64512 .0 (and-iff _ _ .0 (h .1) .0))
+
+-- a packed stream meets neither 1 nor 2
+pub packed-meets-neither : (kind : ℕ) (payload : List ℕ) → payloadLength payload ≡ none
+    → (streamLength (packed kind payload) ≡ none) × (streamBlocks kind (packed kind payload) ≡ none)
+unfolding packed
+packed-meets-neither kind payload e =
+    let r = legal-length payload e in
+    let a : 8 ≤ length payload = r .0 in
+    let b : length payload ≤ 64512 = r .1 in
+    let n : length (packed kind payload) ≡ 512 * blockCount payload = packed-length kind payload in (
+      length-exactly (packed kind payload) .1 (record { some-bytes = omega arith; at-most = omega arith; whole-blocks = rw n (omega arith) }),
+      blocks-exactly kind (packed kind payload) .1 λ i l.
+          right-block kind i (packed kind payload) (take 504 (drop (504 * i) payload))
+          (block-of-packed kind (blockCount payload) 0 payload i (omega arith) ∙ rw zero-add) (rw length-take (omega arith)) (omega arith),
+    )
+
+payload-of-block : (kind n : ℕ) (p r : List ℕ) → length p ≤ 504 → take 504 (drop 4 (packedBlock kind n p ++ r)) ≡ filled p
+unfolding packedBlock checked
+payload-of-block kind n p r l = rw append-assoc (take-at (filled p) _ 504 (filled-length p l))
+
+fill-long : (k : ℕ) (p : List ℕ) → 504 ≤ length p → filled (take 504 p) ++ (drop 504 p ++ replicate (504 * k - length (drop 504 p)) 0) ≡ p ++ replicate (504 * suc k - length p) 0
+unfolding filled
+fill-long k p l =
+    let e : 504 * k - length (drop 504 p) ≡ 504 * suc k - length p = rw length-drop (omega arith) in
+    rw (length-take-le 504 p l, append-nil, e, ← append-assoc, take-append-drop)
+
+fill-short : (k : ℕ) (p : List ℕ) → length p < 504 → filled (take 504 p) ++ (drop 504 p ++ replicate (504 * k - length (drop 504 p)) 0) ≡ p ++ replicate (504 * suc k - length p) 0
+unfolding filled
+fill-short k p l =
+    let e : 504 - length p + 504 * k ≡ 504 * suc k - length p = omega arith in
+    let d : drop 504 p ≡ [] = drop-of-length-le p {i = 504} (omega arith) in
+    rw (take-all 504 p (omega arith), d, append-assoc, sub-zero, replicate-append-replicate {A = ℕ} (504 - length p) (504 * k) 0, e)
+
+fill-more : (k : ℕ) (p : List ℕ) → filled (take 504 p) ++ (drop 504 p ++ replicate (504 * k - length (drop 504 p)) 0) ≡ p ++ replicate (504 * suc k - length p) 0
+fill-more k p = go (leb 504 (length p)) refl
+  where
+    go : (b : Bool) → leb 504 (length p) ≡ b → filled (take 504 p) ++ (drop 504 p ++ replicate (504 * k - length (drop 504 p)) 0) ≡ p ++ replicate (504 * suc k - length p) 0
+    go true b = fill-long k p (leb-true 504 (length p) b)
+    go false b = fill-short k p (leb-false 504 (length p) b)
+
+payloads-packed : (kind k n : ℕ) (p : List ℕ) → length p ≤ 504 * k → payloads k (packedBlocks kind k n p) ≡ p ++ replicate (504 * k - length p) 0
+unfolding payloads packedBlocks
+payloads-packed kind zero n [] l = refl
+payloads-packed kind zero n (x ∷ xs) l = absurd (omega arith)
+payloads-packed kind (suc k) n p l =
+    let b : List ℕ = packedBlock kind n (take 504 p) in
+    let r : List ℕ = packedBlocks kind k (suc n) (drop 504 p) in
+    let m : length (take 504 p) ≤ 504 = rw length-take (omega arith) in
+    ap₂ _++_ (payload-of-block kind n (take 504 p) r m)
+    (ap (payloads k) (drop-at b r 512 (block-length kind n (take 504 p) m)) ∙ payloads-packed kind k (suc n) (drop 504 p) (rw length-drop (omega arith)))
+    ∙ fill-more k p
+
+-- the round trip of the definitions
+pub unpacked-packed : (kind : ℕ) (payload : List ℕ) → unpacked (packed kind payload) ≡ payload ++ replicate (fillCount payload) 0
+unfolding unpacked packed
+unpacked-packed kind payload =
+    let c : length (packed kind payload) / 512 ≡ blockCount payload = omega (arith, packed-length kind payload) in
+    ap (λ (k : ℕ). payloads k (packed kind payload)) c ∙ payloads-packed kind (blockCount payload) 0 payload (omega arith)
+
+-- the bytes that a call wrote
+abbrev pub bytesWritten : Written → List ℕ
+bytesWritten w = take (w .result .bytes) (w .output)
+
+-- a pack call that is not refused wrote the packed stream
+pub pack-writes : (kind : ℕ) (payload out : List ℕ) → packRefusal kind payload out ≡ none → bytesWritten (pack kind payload out) ≡ packed kind payload
+unfolding pack written answer
+pack-writes kind payload out e = rw (e, written) (take-append-seam (packed kind payload) _)
+
+-- what a pack call tried, where it is not refused
+pack-tried : (kind : ℕ) (payload out : List ℕ) → packRefusal kind payload out ≡ none → (payloadLength payload ≡ none) × (isKind kind ≡ true)
+unfolding packRefusal
+pack-tried kind payload out e =
+    let a = try-iff 1 _ _ .0 e in
+    let b = try-iff 2 _ _ .0 (a .1) in
+    (placed-iff 0 _ .0 (a .0), need-iff {A = ℕ} _ 0 .0 (placed-iff 0 _ .0 (b .0)))
+
+-- an unpack call is not refused where nothing that it tries is wrong
+unpack-tries : (kind : ℕ) (s out : List ℕ) → streamLength s ≡ none → isKind kind ≡ true → streamBlocks kind s ≡ none → length (unpacked s) ≤ length out → unpackRefusal kind s out ≡ none
+unfolding unpackRefusal accept
+unpack-tries kind s out a b c l =
+    try-iff 1 _ _ .1 (
+      placed-iff 0 _ .1 a,
+      try-iff 2 _ _ .1 (
+        placed-iff 0 _ .1 (both-iff _ _ .1 (need-iff {A = ℕ} _ 0 .1 b, c)),
+        try-iff 12 _ _ .1 (placed-iff 0 _ .1 (need-iff {A = ℕ} _ 0 .1 (le-leb _ _ l)), refl),
+      ),
+    )
+
+-- Of the calls: the stream that a pack call wrote, unpacked into a buffer with room for it
+pub record RoundTrip (kind : ℕ) (payload out out′ : List ℕ) : Type 0 where
+  -- "turns a payload .. into blocks"
+  pub pack-answer : pack kind payload out .result ≡ answer 0 0 0 0 (512 * blockCount payload)
+  pub unpack-unrefused : unpackRefusal kind (bytesWritten (pack kind payload out)) out′ ≡ none
+  pub unpack-answer : unpack kind (bytesWritten (pack kind payload out)) out′ .result ≡ answer 0 0 0 0 (504 * blockCount payload)
+  -- the payload, the fill, and then what the buffer held
+  pub unpack-output : unpack kind (bytesWritten (pack kind payload out)) out′ .output ≡ payload ++ replicate (fillCount payload) 0 ++ drop (504 * blockCount payload) out′
+
+pub unpack-of-pack : (kind : ℕ) (payload out out′ : List ℕ) → packRefusal kind payload out ≡ none → 504 * blockCount payload ≤ length out′ → RoundTrip kind payload out out′
+unfolding unpack written pack
+unpack-of-pack kind payload out out′ e l =
+    let s : List ℕ = packed kind payload in
+    let w : bytesWritten (pack kind payload out) ≡ s = pack-writes kind payload out e in
+    let u : unpacked s ≡ payload ++ replicate (fillCount payload) 0 = unpacked-packed kind payload in
+    let n : length (unpacked s) ≡ 504 * blockCount payload = rw u (length-append payload (replicate (fillCount payload) 0) ∙ simp length-replicate (omega arith)) in
+    let t = pack-tried kind payload out e in
+    let m = packed-meets-neither kind payload (t .0) in
+    let r : unpackRefusal kind s out′ ≡ none = unpack-tries kind s out′ (m .0) (t .1) (m .1) (omega arith) in
+    record {
+      pack-answer = rw (e, written, packed-length);
+      unpack-unrefused = rw w r;
+      unpack-answer = rw (w, r, written, n);
+      unpack-output = rw (w, r, written, n, u, append-assoc);
+    }

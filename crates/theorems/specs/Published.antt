@@ -1,0 +1,20 @@
+-- The check is 32-bit FNV-1a as it is published: "for each byte, xor, then multiply by 16777619 modulo 2^32".
+use mathlib.Core.Path.{_≡_, ap, ap₂, sym, _∙_}
+use Prim.Native.Nat.{ℕ, _+_, _*_, _/_, _%_, _<_}
+use mathlib.Core.List.{List, _∷_}
+use native.Mathlib.Nat.{mod-lt, zero-add}
+use lib.Bits.{bitXor, xor-comm, xor-block, xor-zero-l}
+use lib.Pow.{split, pow-pos}
+use Rattle.rules.specs.Blocks.{multiplied, fnv1a}
+
+-- the definition has the byte first in the xor; the published step has the number so far first
+pub published : (h b : ℕ) (bs : List ℕ) → fnv1a h (b ∷ bs) ≡ fnv1a (bitXor h b * 16777619 % 4294967296) bs
+unfolding fnv1a multiplied
+published h b bs = ap (λ (x : ℕ). fnv1a (x * 16777619 % 4294967296) bs) (xor-comm b h)
+
+-- the xor with a byte changes the low byte only
+pub xor-byte : (h b : ℕ) → b < 256 → bitXor b h ≡ h / 256 * 256 + bitXor b (h % 256)
+xor-byte h b l =
+    ap₂ bitXor (sym (zero-add b)) (sym (split h 8))
+    ∙ xor-block 8 0 (h / 256) b (h % 256) l (mod-lt h (pow-pos 8))
+    ∙ ap (λ (x : ℕ). x * 256 + bitXor b (h % 256)) (xor-zero-l (h / 256))

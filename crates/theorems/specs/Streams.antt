@@ -1,0 +1,65 @@
+-- Refusals 1 and 2 as statements, and that the checks find no fault exactly where they hold.
+use mathlib.Core.Path.{_≡_, refl, subst}
+use mathlib.Core.Logic.{_↔_}
+use Prim.Native.Nat.{ℕ, zero, suc, _+_, _/_, _%_, _≤_, _<_}
+use mathlib.Core.List.{List}
+use mathlib.Core.Bool.{Bool, true, false}
+use mathlib.Core.Option.{none}
+use native.Mathlib.Omega.{arith}
+use lib.ListN.{length, getD, take}
+use lib.Dec.{eqb}
+use borrow.Author.Tests.{eqb-true, eqb-false}
+use Rattle.rules.specs.Records.{word, row, heads}
+use Rattle.rules.specs.Blocks.{fnv1a, fnvStart, word32, sound, streamLength, block, blockRight, streamBlocks}
+use Rattle.theorems.specs.Laws.{need-iff, every-in, in-every, and-iff, eqb-iff, leb-iff, In, here, later}
+
+-- 1: "A stream's length is zero, above 65,536 or no multiple of 512." None of these:
+pub record WellSized (s : List ℕ) : Type 0 where
+  pub some-bytes : 1 ≤ length s
+  pub at-most : length s ≤ 65536
+  pub whole-blocks : length s % 512 ≡ 0
+
+pub length-exactly : (s : List ℕ) → (streamLength s ≡ none) ↔ WellSized s
+unfolding streamLength
+length-exactly s = (
+  λ e. let h = and-iff _ _ .0 (need-iff {A = ℕ} _ 0 .0 e) in let k = and-iff _ _ .0 (h .1) in
+      record { some-bytes = leb-iff _ _ .0 (h .0); at-most = leb-iff _ _ .0 (k .0); whole-blocks = eqb-iff _ _ .0 (k .1) },
+  λ w. need-iff {A = ℕ} _ 0 .1 (and-iff _ _ .1 (leb-iff _ _ .1 (w .some-bytes), and-iff _ _ .1 (leb-iff _ _ .1 (w .at-most), eqb-iff _ _ .1 (w .whole-blocks)))),
+)
+
+-- 2: "A block has a wrong number, kind, byte 3 or check." Block n of a stream of a kind has none of these wrong:
+pub record RightBlock (kind : ℕ) (s : List ℕ) (n : ℕ) : Type 0 where
+  pub number-right : word (block s n) 0 ≡ n
+  pub kind-right : getD (block s n) 2 0 ≡ kind
+  pub byte3-right : getD (block s n) 3 0 ≡ 0
+  pub check-right : word32 (block s n) 508 ≡ fnv1a fnvStart (take 508 (block s n))
+
+pub block-exactly : (kind : ℕ) (s : List ℕ) (n : ℕ) → (blockRight kind s n ≡ true) ↔ RightBlock kind s n
+unfolding blockRight sound
+block-exactly kind s n = (
+  λ e. let a = and-iff _ _ .0 e in let b = and-iff _ _ .0 (a .1) in let c = and-iff _ _ .0 (b .1) in
+      record { number-right = eqb-iff _ _ .0 (a .0); kind-right = eqb-iff _ _ .0 (b .0); byte3-right = eqb-iff _ _ .0 (c .0); check-right = eqb-iff _ _ .0 (c .1) },
+  λ r. and-iff _ _ .1 (eqb-iff _ _ .1 (r .number-right), and-iff _ _ .1 (eqb-iff _ _ .1 (r .kind-right), and-iff _ _ .1 (eqb-iff _ _ .1 (r .byte3-right), eqb-iff _ _ .1 (r .check-right)))),
+)
+
+-- the numbers in a row
+pub row-in : (k p n : ℕ) → p ≤ n → n < p + k → In n (row k p)
+unfolding row heads
+row-in zero p n a b = absurd (omega arith)
+row-in (suc k) p n a b = go (eqb p n) refl (λ c. row-in k (p + 1) n (omega arith) (omega arith))
+  where
+    go : (c : Bool) → eqb p n ≡ c → ((p ≡ n → ⊥) → In n (row k (p + 1))) → In n (row (suc k) p)
+    go true c rest = subst (λ m. In m (row (suc k) p)) (eqb-true p n c) (here _)
+    go false c rest = later p _ (rest (eqb-false p n c))
+
+pub in-row : (k p : ℕ) {n : ℕ} → In n (row k p) → (p ≤ n) × (n < p + k)
+unfolding row heads
+in-row (suc k) p (here xs) = (omega arith, omega arith)
+in-row (suc k) p (later y xs i) = let r = in-row k (p + 1) i in (omega arith, omega arith)
+
+pub blocks-exactly : (kind : ℕ) (s : List ℕ) → (streamBlocks kind s ≡ none) ↔ ((n : ℕ) → n < length s / 512 → RightBlock kind s n)
+unfolding streamBlocks
+blocks-exactly kind s = (
+  λ e n l. block-exactly kind s n .0 (need-iff _ n .0 (every-in _ e (row-in _ 0 n (omega arith) (omega arith)))),
+  λ h. in-every _ _ λ n i. need-iff _ n .1 (block-exactly kind s n .1 (h n (let r = in-row _ 0 i in omega arith))),
+)

@@ -1,0 +1,121 @@
+-- The derivation rules texts out: what a derived text must be, whatever the rest of the grammar holds.
+use mathlib.Core.Path.{_≡_, refl, sym, _∙_, ap, subst}
+use mathlib.Core.Logic.{_↔_}
+use Prim.Native.Nat.{ℕ}
+use mathlib.Core.List.{List, [], _∷_, _++_, append-assoc, append-nil, flatten}
+use mathlib.Core.Bool.{true, false, true≢false}
+use mathlib.Core.Option.{some}
+use Rattle.rules.specs.Records.{fieldB}
+use Rattle.rules.specs.Lexeme.{isLexeme}
+use Rattle.rules.specs.Grammar.{productions, production, Element, keyword, lexeme, nonterminal, repetition, elements, nonterminalExists}
+use Rattle.rules.specs.Derivation.{Derives, produced, Pieces, no-element, one-piece, Piece, own-bytes, a-lexeme, derived, repeated, Row, no-text, one-text}
+use Rattle.theorems.specs.Laws.{In, here, later, nth-in}
+use Rattle.theorems.specs.LimitsExactly.{has-in}
+
+-- "for a keyword its own bytes", and nothing else
+keyword-piece : {g w x : List ℕ} → Piece g (keyword w) x → x ≡ w
+keyword-piece (own-bytes x) = refl
+
+-- "for a class a lexeme of it", and nothing else
+lexeme-piece : {g x : List ℕ} {c : ℕ} → Piece g (lexeme c) x → isLexeme g c x ≡ true
+lexeme-piece (a-lexeme c x e) = e
+
+-- "for a nonterminal a text that it derives", "for a repetition any number of texts in a row", and nothing else
+nonterminal-piece : {g x : List ℕ} {n : ℕ} → Piece g (nonterminal n) x → Derives g n x
+nonterminal-piece (derived n x d) = d
+
+repetition-piece : {g x : List ℕ} {n : ℕ} → Piece g (repetition n) x → Row g n x
+repetition-piece (repeated n x r) = r
+
+-- a text that is the first element's piece and then the pieces of the others
+abbrev pub PieceThenRest : List ℕ → Element → List Element → List ℕ → Type 0
+PieceThenRest g e es x = (y rest : List ℕ) × Piece g e y × Pieces g es rest × (x ≡ y ++ rest)
+
+first-piece : {g x : List ℕ} {e : Element} {es : List Element} → Pieces g (e ∷ es) x → PieceThenRest g e es x
+first-piece (one-piece e es x rest p ps) = (x, rest, p, ps, refl)
+
+no-pieces : {g x : List ℕ} → Pieces g [] x → x ≡ []
+no-pieces no-element = refl
+
+first-keyword : {g x w : List ℕ} {es : List Element} → Pieces g (keyword w ∷ es) x → (r : List ℕ) × (x ≡ w ++ r)
+first-keyword ps =
+    let (y, rest, p, qs, e) = first-piece ps in
+    (rest, e ∙ ap (λ (u : List ℕ). u ++ rest) (keyword-piece p))
+
+last-keyword : {g x w : List ℕ} (es : List Element) → Pieces g (es ++ keyword w ∷ []) x → (r : List ℕ) × (x ≡ r ++ w)
+last-keyword [] ps =
+    let (y, rest, p, qs, e) = first-piece ps in
+    ([], e ∙ ap (λ (u : List ℕ). y ++ u) (no-pieces qs) ∙ append-nil y ∙ keyword-piece p)
+last-keyword (f ∷ es) ps =
+    let (y, rest, p, qs, e) = first-piece ps in
+    let (r, d) = last-keyword es qs in
+    (y ++ r, e ∙ ap (λ (u : List ℕ). y ++ u) d ∙ sym (append-assoc y r _))
+
+-- every production of nonterminal n has elements of such a shape
+abbrev pub EachProduction : List ℕ → ℕ → (List Element → Type 0) → Type 0
+EachProduction g n Shape = (k p : ℕ) → production g k ≡ some p → fieldB g p ≡ n → Shape (elements g p)
+
+abbrev pub BeginsWith : List ℕ → List Element → Type 0
+BeginsWith w es = (rest : List Element) × (es ≡ keyword w ∷ rest)
+
+abbrev pub EndsWith : List ℕ → List Element → Type 0
+EndsWith w es = (front : List Element) × (es ≡ front ++ keyword w ∷ [])
+
+derived-begins : {g x : List ℕ} {n : ℕ} (w : List ℕ) → EachProduction g n (BeginsWith w) → Derives g n x → (r : List ℕ) × (x ≡ w ++ r)
+derived-begins {g} w h (produced n k p x e f ps) = let s = h k p e f in first-keyword (subst (λ es. Pieces g es x) (s .1) ps)
+
+derived-ends : {g x : List ℕ} {n : ℕ} (w : List ℕ) → EachProduction g n (EndsWith w) → Derives g n x → (r : List ℕ) × (x ≡ r ++ w)
+derived-ends {g} w h (produced n k p x e f ps) = let s = h k p e f in last-keyword (s .0) (subst (λ es. Pieces g es x) (s .1) ps)
+
+derived-exists : {g x : List ℕ} {n : ℕ} → Derives g n x → nonterminalExists g n ≡ true
+unfolding nonterminalExists production
+derived-exists {g} (produced n k p x e f ps) = has-in g n (nth-in (productions g) k p e) f
+
+-- "any number of texts in a row, none too, each derived by its nonterminal"
+abbrev pub InARow : List ℕ → ℕ → List ℕ → Type 0
+InARow g n x = (texts : List (List ℕ)) × (x ≡ flatten texts) × ((y : List ℕ) → In y texts → Derives g n y)
+
+in-cons : {A : Type 0} (P : A → Type 0) {x y : A} {xs : List A} → P x → ((z : A) → In z xs → P z) → In y (x ∷ xs) → P y
+in-cons P p h (here xs) = p
+in-cons P p h (later x xs i) = h _ i
+
+row-texts : {g x : List ℕ} {n : ℕ} → Row g n x → InARow g n x
+unfolding flatten
+row-texts (no-text n) = ([], refl, λ y i. elim i [ ])
+row-texts {g} (one-text n x rest d r) = let (ys, e, h) = row-texts r in (x ∷ ys, ap (λ (u : List ℕ). x ++ u) e, λ y i. in-cons (Derives g n) d h i)
+
+texts-row : {g : List ℕ} {n : ℕ} (texts : List (List ℕ)) → ((y : List ℕ) → In y texts → Derives g n y) → Row g n (flatten texts)
+unfolding flatten
+texts-row {n} [] h = no-text n
+texts-row {n} (y ∷ ys) h = one-text n y (flatten ys) (h y (here ys)) (texts-row ys (λ z i. h z (later y ys i)))
+
+pub record Teeth (g : List ℕ) : Type 0 where
+  -- where each production of a nonterminal begins with one keyword, every text that it derives begins with its bytes; so for the end
+  pub begins : (n : ℕ) (w x : List ℕ) → EachProduction g n (BeginsWith w) → Derives g n x → (r : List ℕ) × (x ≡ w ++ r)
+  pub ends : (n : ℕ) (w x : List ℕ) → EachProduction g n (EndsWith w) → Derives g n x → (r : List ℕ) × (x ≡ r ++ w)
+  -- a nonterminal without a production derives nothing
+  pub none-without : (n : ℕ) (x : List ℕ) → nonterminalExists g n ≡ false → Derives g n x → ⊥
+  -- "in element order and with nothing between, one piece for each element", and nothing else
+  pub no-element-only : (x : List ℕ) → Pieces g [] x ↔ (x ≡ [])
+  pub elements-only : (e : Element) (es : List Element) (x : List ℕ) → Pieces g (e ∷ es) x ↔ PieceThenRest g e es x
+  -- a piece is what its element says, and nothing else
+  pub keyword-only : (w x : List ℕ) → Piece g (keyword w) x ↔ (x ≡ w)
+  pub lexeme-only : (c : ℕ) (x : List ℕ) → Piece g (lexeme c) x ↔ (isLexeme g c x ≡ true)
+  pub nonterminal-only : (n : ℕ) (x : List ℕ) → Piece g (nonterminal n) x ↔ Derives g n x
+  pub repetition-only : (n : ℕ) (x : List ℕ) → Piece g (repetition n) x ↔ Row g n x
+  -- a row of texts is the texts, and nothing else
+  pub row-only : (n : ℕ) (x : List ℕ) → Row g n x ↔ InARow g n x
+
+pub derivation-has-teeth : (g : List ℕ) → Teeth g
+derivation-has-teeth g = record {
+  begins = λ n w x h d. derived-begins w h d;
+  ends = λ n w x h d. derived-ends w h d;
+  none-without = λ n x e d. true≢false (sym (derived-exists d) ∙ e);
+  no-element-only = λ x. (no-pieces, λ e. subst (Pieces g []) (sym e) no-element);
+  elements-only = λ e es x. (first-piece, λ (y, rest, p, ps, q). subst (Pieces g (e ∷ es)) (sym q) (one-piece e es y rest p ps));
+  keyword-only = λ w x. (keyword-piece, λ e. subst (Piece g (keyword w)) (sym e) (own-bytes w));
+  lexeme-only = λ c x. (lexeme-piece, a-lexeme c x);
+  nonterminal-only = λ n x. (nonterminal-piece, derived n x);
+  repetition-only = λ n x. (repetition-piece, repeated n x);
+  row-only = λ n x. (row-texts, λ s. subst (Row g n) (sym (s .1)) (texts-row (s .0) (s .2)));
+}
