@@ -5,18 +5,18 @@ use mathlib.Core.List.{List, [], _∷_, _++_, map}
 use mathlib.Core.Bool.{Bool, true, false}
 use mathlib.Core.Option.{Option, none, some}
 use lib.ListN.{length, take, replicate}
-use Rattle.rules.specs.Faults.{need, both, every, tree, onFound, at}
+use Rattle.rules.specs.Faults.{need, both, every, tree, onFound, exists, onlyIf, at}
 use Rattle.rules.specs.Records.{base, byteOf, word, kindOf, fieldA, fieldB, fieldC, fieldD, recordCount, recordsFrom, units, textOf, paddingOf, zeros, heads, after, row, things, ofKind, nth, numbered}
 use Rattle.rules.specs.Blocks.{fnvStart, multiplied, fnv1a, word32, sound, isKind, blockPayload, streamLength, block, blockRight, streamBlocks, bytes32, checked, filled, packedBlock, packedBlocks, packed, payloadLength, payloads, unpacked}
 use Rattle.rules.specs.Lexeme.{between, inside, broken, firstByte, laterByte, nextByte, decode, decoded, charactersOf, lowest, highest, ranges, inSome, allInSome, admits, isLexeme}
 use Rattle.rules.specs.Grammar.{elementSize, productionSize, grammarSize, grammarThings, classes, productions, class, production, elementNumbered, elementAt, elementHeads, elements, hasProduction, nonterminalExists}
 use Rattle.rules.specs.Templates.{templatesSize, templatesThings, types, templates, type, template, fieldHeads, typeNumbered, typeAt, typeOf, parameterHeads, parameters, body, formNumbered, formOf, nodes, paths, path, first, second, nodesOf, nodesBelow, variable, fieldNumbers}
-use Rattle.rules.specs.Value.{valueSize, children, valuesBelow, when, asText, asYesNo, asList, asRecord}
-use Rattle.rules.specs.Layout.{thenRead, inRow, whileKind, textEnd, rangeEnd, classEnd, elementEnd, productionEnd, grammarEnd, namingEnd, typeEnd, pathEnd, formEnd, sized, nodeEnd, templateEnd, templatesEnd, childrenEnd, kindEnd, valueEnd, ended, layoutFault, grammarLayout, templatesLayout, valueLayout}
+use Rattle.rules.specs.Value.{valueSize, children, valuesBelow, asText, asYesNo, asList, asRecord}
+use Rattle.rules.specs.Layout.{thenRead, inRow, whileKind, textEnd, rangeEnd, classEnd, elementEnd, productionEnd, grammarEnd, namingEnd, typeFormEnd, typeEnd, pathEnd, formEnd, sized, nodeEnd, templateEnd, templatesEnd, childrenEnd, kindEnd, valueEnd, tailRight, layoutFault, grammarLayout, templatesLayout, valueLayout}
 use Rattle.rules.specs.Limits.{deepest, looped, loopsBelow, loopedBelow, fewLoops, templateLimits, templatesLimits, valueLimits}
-use Rattle.rules.specs.Names.{exists, elementNamed, grammarNames, typeNamed, typeNames, formNamed, nodeNamed, templateNames, templatesNames}
+use Rattle.rules.specs.Names.{elementNamed, grammarNames, typeNamed, typeNames, formNamed, nodeNamed, templateNames, templatesNames}
 use Rattle.rules.specs.Classes.{rangeRight, classBounds, grammarClasses}
-use Rattle.rules.specs.Typing.{asksClass, asksNonterminal, asksRepetition, asksItem, positions, textClass, isYesNo, itemType, fieldTypes, typeAlong, pathType, argumentsFit, site, suitsForm, suits, sites, sitesOf, sitesBelow, misfit, bodySite, only, declared, templatesTyping, typed, hasForm, hasType, paired, typedOf, typedBelow, mistyped, valueTyping}
+use Rattle.rules.specs.Typing.{asksClass, asksNonterminal, asksRepetition, asksItem, positions, textClass, isYesNo, itemType, fieldTypes, typeAlong, pathType, argumentsFit, site, suitsForm, suits, sites, sitesOf, sitesBelow, misfit, bodySite, only, declaredType, templatesTyping, typed, hasForm, hasType, paired, typedOf, typedBelow, mistyped, valueTyping}
 use Rattle.rules.specs.Walk.{start, andThen, valueAlong, pathValue, pathValues, write, inOrder, withChild, pieces, visitForm, counted, reached, visit, walk}
 use Rattle.rules.specs.Answers.{answer, streamKind, bytesOf, layoutOf, limitsOf, placed, over, try, accept, setRefusal, checkRefusal, scratchNeeded, evaluateRefusal, limitNumber, check, left, kept, walked, unlessRefused, input, evaluate, packRefusal, unpackRefusal, written, pack, unpack}
 use Rattle.rules.specs.declared.Answer.{Answer}
@@ -74,27 +74,28 @@ pub record Case : Type 0 where
   pub expected : Answer
   pub text : List ℕ
 
-unfoldable pub on : List ℕ → List ℕ → ℕ → ℕ → Answer → List ℕ → Case
-on t v fuel room a x = record { templates = t; value = v; fuel = fuel; room = room; expected = a; text = x }
+unfoldable pub case : List ℕ → List ℕ → ℕ → ℕ → Answer → List ℕ → Case
+case t v fuel room a x = record { templates = t; value = v; fuel = fuel; room = room; expected = a; text = x }
 
--- "[<ab><αβγδ>]" whole, without its last bracket, and up to the second "<"
+-- "[<ab><αβγδ>]"
 unfoldable pub whole : List ℕ
 whole = 91 ∷ 60 ∷ 97 ∷ 98 ∷ 62 ∷ 60 ∷ 206 ∷ 177 ∷ 206 ∷ 178 ∷ 206 ∷ 179 ∷ 206 ∷ 180 ∷ 62 ∷ 93 ∷ []
 
+-- M1 to M12
 unfoldable pub cases : List Case
 cases =
-    on exampleTemplates twoTitles 1000000 65536 (answer 0 0 0 7 16) whole
-    ∷ on exampleTemplates twoTitles 7 65536 (answer 0 0 0 7 16) whole
-    ∷ on exampleTemplates twoTitles 6 65536 (answer 10 2 9 6 6) (take 6 whole)
-    ∷ on exampleTemplates twoTitles 0 65536 (answer 10 2 4 0 0) []
-    ∷ on exampleTemplates twoTitles 1000000 16 (answer 0 0 0 7 16) whole
-    ∷ on exampleTemplates twoTitles 1000000 15 (answer 12 2 4 7 15) (take 15 whole)
-    ∷ on exampleTemplates twoTitles 1000000 13 (answer 12 2 9 7 6) (take 6 whole)
-    ∷ on exampleTemplates noTitle 1000000 65536 (answer 0 0 0 3 2) (91 ∷ 93 ∷ [])
-    ∷ on exampleTemplates longTitle 1000000 65536 (answer 8 3 1 0 0) []
-    ∷ on exampleTemplates emptyTitle 1000000 65536 (answer 8 3 1 0 0) []
-    ∷ on endlessTemplates twoTitles 201 65536 (answer 11 2 4 201 0) []
-    ∷ on endlessTemplates twoTitles 200 65536 (answer 10 2 4 200 0) []
+    case exampleTemplates twoTitles 1000000 65536 (answer 0 0 0 7 16) whole
+    ∷ case exampleTemplates twoTitles 7 65536 (answer 0 0 0 7 16) whole
+    ∷ case exampleTemplates twoTitles 6 65536 (answer 10 2 9 6 6) (take 6 whole)
+    ∷ case exampleTemplates twoTitles 0 65536 (answer 10 2 4 0 0) []
+    ∷ case exampleTemplates twoTitles 1000000 16 (answer 0 0 0 7 16) whole
+    ∷ case exampleTemplates twoTitles 1000000 15 (answer 12 2 4 7 15) (take 15 whole)
+    ∷ case exampleTemplates twoTitles 1000000 13 (answer 12 2 9 7 6) (take 6 whole)
+    ∷ case exampleTemplates noTitle 1000000 65536 (answer 0 0 0 3 2) (91 ∷ 93 ∷ [])
+    ∷ case exampleTemplates longTitle 1000000 65536 (answer 8 3 1 0 0) []
+    ∷ case exampleTemplates emptyTitle 1000000 65536 (answer 8 3 1 0 0) []
+    ∷ case endlessTemplates twoTitles 201 65536 (answer 11 2 4 201 0) []
+    ∷ case endlessTemplates twoTitles 200 65536 (answer 10 2 4 200 0) []
     ∷ []
 
 -- the evaluate call on packed streams, an output of zeros and 4,800 numbers of scratch; what is left of the output is its first bytes
@@ -107,5 +108,5 @@ unfoldable pub stated : Case → Answer × List ℕ
 stated c = (c .expected, c .text)
 
 pub cases-hold : map evaluated cases ≡ map stated cases
-unfolding head range unit exampleGrammar exampleTypes exampleTemplates endlessTemplates twoTitles noTitle longTitle emptyTitle on whole cases evaluated stated need both every tree onFound at base byteOf word kindOf fieldA fieldB fieldC fieldD recordCount recordsFrom units textOf paddingOf zeros heads after row things ofKind nth numbered fnvStart multiplied fnv1a word32 sound isKind blockPayload streamLength block blockRight streamBlocks bytes32 checked filled packedBlock packedBlocks packed payloadLength payloads unpacked between inside broken firstByte laterByte nextByte decode decoded charactersOf lowest highest ranges inSome allInSome admits isLexeme elementSize productionSize grammarSize grammarThings classes productions class production elementNumbered elementAt elementHeads elements hasProduction nonterminalExists templatesSize templatesThings types templates type template fieldHeads typeNumbered typeAt typeOf parameterHeads parameters body formNumbered formOf nodes paths path first second nodesOf nodesBelow variable fieldNumbers valueSize children valuesBelow when asText asYesNo asList asRecord thenRead inRow whileKind textEnd rangeEnd classEnd elementEnd productionEnd grammarEnd namingEnd typeEnd pathEnd formEnd sized nodeEnd templateEnd templatesEnd childrenEnd kindEnd valueEnd ended layoutFault grammarLayout templatesLayout valueLayout deepest looped loopsBelow loopedBelow fewLoops templateLimits templatesLimits valueLimits exists elementNamed grammarNames typeNamed typeNames formNamed nodeNamed templateNames templatesNames rangeRight classBounds grammarClasses asksClass asksNonterminal asksRepetition asksItem positions textClass isYesNo itemType fieldTypes typeAlong pathType argumentsFit site suitsForm suits sites sitesOf sitesBelow misfit bodySite only declared templatesTyping typed hasForm hasType paired typedOf typedBelow mistyped valueTyping start andThen valueAlong pathValue pathValues write inOrder withChild pieces visitForm counted reached visit walk answer streamKind bytesOf layoutOf limitsOf placed over try accept setRefusal checkRefusal scratchNeeded evaluateRefusal limitNumber check left kept walked unlessRefused input evaluate packRefusal unpackRefusal written pack unpack
+unfolding head range unit exampleGrammar exampleTypes exampleTemplates endlessTemplates twoTitles noTitle longTitle emptyTitle case whole cases evaluated stated need both every tree onFound exists onlyIf at base byteOf word kindOf fieldA fieldB fieldC fieldD recordCount recordsFrom units textOf paddingOf zeros heads after row things ofKind nth numbered fnvStart multiplied fnv1a word32 sound isKind blockPayload streamLength block blockRight streamBlocks bytes32 checked filled packedBlock packedBlocks packed payloadLength payloads unpacked between inside broken firstByte laterByte nextByte decode decoded charactersOf lowest highest ranges inSome allInSome admits isLexeme elementSize productionSize grammarSize grammarThings classes productions class production elementNumbered elementAt elementHeads elements hasProduction nonterminalExists templatesSize templatesThings types templates type template fieldHeads typeNumbered typeAt typeOf parameterHeads parameters body formNumbered formOf nodes paths path first second nodesOf nodesBelow variable fieldNumbers valueSize children valuesBelow asText asYesNo asList asRecord thenRead inRow whileKind textEnd rangeEnd classEnd elementEnd productionEnd grammarEnd namingEnd typeFormEnd typeEnd pathEnd formEnd sized nodeEnd templateEnd templatesEnd childrenEnd kindEnd valueEnd tailRight layoutFault grammarLayout templatesLayout valueLayout deepest looped loopsBelow loopedBelow fewLoops templateLimits templatesLimits valueLimits elementNamed grammarNames typeNamed typeNames formNamed nodeNamed templateNames templatesNames rangeRight classBounds grammarClasses asksClass asksNonterminal asksRepetition asksItem positions textClass isYesNo itemType fieldTypes typeAlong pathType argumentsFit site suitsForm suits sites sitesOf sitesBelow misfit bodySite only declaredType templatesTyping typed hasForm hasType paired typedOf typedBelow mistyped valueTyping start andThen valueAlong pathValue pathValues write inOrder withChild pieces visitForm counted reached visit walk answer streamKind bytesOf layoutOf limitsOf placed over try accept setRefusal checkRefusal scratchNeeded evaluateRefusal limitNumber check left kept walked unlessRefused input evaluate packRefusal unpackRefusal written pack unpack
 cases-hold = refl

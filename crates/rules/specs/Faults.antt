@@ -29,6 +29,15 @@ unfoldable pub onFound : {A B : Type 0} → Option A → B → (A → B) → B
 onFound none b f = b
 onFound (some a) b f = f a
 
+unfoldable pub exists : {A : Type 0} → Option A → Bool
+exists none = false
+exists (some a) = true
+
+-- a, where the test holds
+unfoldable pub onlyIf : {A : Type 0} → Bool → A → Option A
+onlyIf true a = some a
+onlyIf false a = none
+
 -- the place of what offends
 unfoldable pub at : {A : Type 0} → (A → ℕ) → Option A → Option ℕ
 at place none = none

@@ -39,6 +39,7 @@ pub data Element : Type 0 where
   nonterminal : ℕ → Element
   repetition : ℕ → Element
 
+-- (layout admits no number above 3)
 unfoldable pub elementNumbered : List ℕ → ℕ → ℕ → Element
 elementNumbered g zero e = keyword (textOf g e)
 elementNumbered g (suc zero) e = lexeme (fieldB g e)

@@ -1,14 +1,13 @@
--- Layout, section "Records" and refusal 3. Each definition reads the records of one thing from p on and answers the place after it, if they lay one out.
+-- Layout, section "Records" and refusal 3; "Unused fields are zero." Each definition reads the records of one thing from p on and answers the place after it, if they lay one out.
 use Prim.Native.Nat.{ℕ, zero, suc, _+_, _-_}
 use mathlib.Core.List.{List, [], _∷_}
 use mathlib.Core.Bool.{Bool, true, false, cond, not, _&&_}
 use mathlib.Core.Option.{Option, none, some}
 use lib.ListN.{drop}
 use lib.Dec.{eqb, leb, ltb}
-use Rattle.rules.specs.Faults.{need, onFound}
+use Rattle.rules.specs.Faults.{need, onFound, onlyIf}
 use Rattle.rules.specs.Records.{recordCount, byteOf, kindOf, fieldA, fieldB, fieldC, fieldD, recordsFrom, units, paddingOf, zeros}
 use Rattle.rules.specs.Templates.{formOf}
-use Rattle.rules.specs.Value.{when}
 use Rattle.rules.specs.declared.Form.{Form}
 use Rattle.rules.specs.declared.Form.the-variants.{Build, Literal, Place, Expand, If, For, Sequence, Unknown}
 
@@ -27,26 +26,26 @@ whileKind s kind one (suc k) n p =
 
 -- "Text follows its head in units of 8 bytes, the last zero-padded": the place after the text of the head at p
 unfoldable pub textEnd : List ℕ → ℕ → Option ℕ
-textEnd s p = when (zeros (paddingOf s p)) (p + 1 + units (fieldB s p))
+textEnd s p = onlyIf (zeros (paddingOf s p)) (p + 1 + units (fieldB s p))
 
 -- Grammar. "2 range: bytes 1-3 lowest and 4-6 highest code point"; byte 7 is unused
 unfoldable pub rangeEnd : List ℕ → ℕ → Option ℕ
-rangeEnd g p = when (eqb (kindOf g p) 2 && eqb (byteOf g p 7) 0) (p + 1)
+rangeEnd g p = onlyIf (eqb (kindOf g p) 2 && eqb (byteOf g p 7) 0) (p + 1)
 
 -- "1 class: a number (from 0, consecutive), b least and c most characters, d count of ranges"
 unfoldable pub classEnd : List ℕ → ℕ → ℕ → Option ℕ
-classEnd g n p = thenRead (when (eqb (fieldA g p) n) (p + 1)) (inRow (rangeEnd g) (fieldD g p))
+classEnd g n p = thenRead (onlyIf (eqb (fieldA g p) n) (p + 1)) (inRow (rangeEnd g) (fieldD g p))
 
 -- "4 element: a = 0 keyword (b bytes of text follow), 1 class b, 2 nonterminal b, 3 repetition of nonterminal b"
 unfoldable pub elementEnd : List ℕ → ℕ → Option ℕ
 elementEnd g p =
-    thenRead (when (eqb (kindOf g p) 4 && (leb (fieldA g p) 3 && (eqb (fieldC g p) 0 && eqb (fieldD g p) 0))) p)
+    thenRead (onlyIf (eqb (kindOf g p) 4 && (leb (fieldA g p) 3 && (eqb (fieldC g p) 0 && eqb (fieldD g p) 0))) p)
     (λ p. cond (eqb (fieldA g p) 0) (textEnd g p) (some (p + 1)))
 
 -- "3 production: a number (from 0, consecutive, so at most 256 of them), b its nonterminal, d count of elements"
 unfoldable pub productionEnd : List ℕ → ℕ → ℕ → Option ℕ
 productionEnd g n p =
-    thenRead (when (eqb (fieldA g p) n && eqb (fieldC g p) 0) (p + 1)) (inRow (elementEnd g) (fieldD g p))
+    thenRead (onlyIf (eqb (fieldA g p) n && eqb (fieldC g p) 0) (p + 1)) (inRow (elementEnd g) (fieldD g p))
 
 -- "Grammar, classes first"
 unfoldable pub grammarEnd : List ℕ → Option ℕ
@@ -54,48 +53,52 @@ grammarEnd g =
     thenRead (whileKind g 1 (classEnd g) (recordCount g) 0 0)
     (whileKind g 3 (productionEnd g) (recordCount g) 0)
 
--- Templates. "2 field: type b"; "4 parameter: type b"
+-- Templates. "2 field: type b .."; "4 parameter: type b"
 unfoldable pub namingEnd : List ℕ → ℕ → ℕ → Option ℕ
 namingEnd t kind p =
-    when (eqb (kindOf t p) kind && (eqb (fieldA t p) 0 && (eqb (fieldC t p) 0 && eqb (fieldD t p) 0))) (p + 1)
+    onlyIf (eqb (kindOf t p) kind && (eqb (fieldA t p) 0 && (eqb (fieldC t p) 0 && eqb (fieldD t p) 0))) (p + 1)
 
--- "1 type: a = 0 text of class b, 1 yes/no, 2 list of type b, 3 record of d fields"
+-- "1 type ..: a = 0 text of class b, 1 yes/no, 2 list of type b, 3 record of d fields"
+unfoldable pub typeFormEnd : List ℕ → ℕ → ℕ → Option ℕ
+typeFormEnd t zero p = onlyIf (eqb (fieldC t p) 0 && eqb (fieldD t p) 0) (p + 1)
+typeFormEnd t (suc zero) p = onlyIf (eqb (fieldB t p) 0 && (eqb (fieldC t p) 0 && eqb (fieldD t p) 0)) (p + 1)
+typeFormEnd t (suc (suc zero)) p = onlyIf (eqb (fieldC t p) 0 && eqb (fieldD t p) 0) (p + 1)
+typeFormEnd t (suc (suc (suc zero))) p = thenRead (onlyIf (eqb (fieldB t p) 0 && eqb (fieldC t p) 0) (p + 1)) (inRow (namingEnd t 2) (fieldD t p))
+typeFormEnd t (suc (suc (suc (suc a)))) p = none
+
 unfoldable pub typeEnd : List ℕ → ℕ → Option ℕ
-typeEnd t p =
-    cond (eqb (fieldA t p) 0 && (eqb (fieldC t p) 0 && eqb (fieldD t p) 0)) (some (p + 1))
-    (cond (eqb (fieldA t p) 1 && (eqb (fieldB t p) 0 && (eqb (fieldC t p) 0 && eqb (fieldD t p) 0))) (some (p + 1))
-    (cond (eqb (fieldA t p) 2 && (eqb (fieldC t p) 0 && eqb (fieldD t p) 0)) (some (p + 1))
-    (thenRead (when (eqb (fieldA t p) 3 && (eqb (fieldB t p) 0 && eqb (fieldC t p) 0)) (p + 1)) (inRow (namingEnd t 2) (fieldD t p)))))
+typeEnd t p = typeFormEnd t (fieldA t p) p
 
 -- "6 path: byte 1 variable, byte 2 number of steps (0 to 5), bytes 3-7 field numbers"; those past the steps are unused
 unfoldable pub pathEnd : List ℕ → ℕ → Option ℕ
 pathEnd t p =
-    when (eqb (kindOf t p) 6 && (leb (byteOf t p 2) 5 && zeros (drop (3 + byteOf t p 2) (recordsFrom t 1 p)))) (p + 1)
+    onlyIf (eqb (kindOf t p) 6 && (leb (byteOf t p 2) 5 && zeros (drop (3 + byteOf t p 2) (recordsFrom t 1 p)))) (p + 1)
 
--- what stands below a node's head, by its form; `node` reads a node
+-- "0 build (b production, d children ..); 1 literal (b text bytes); 2 place (a path); 3 expand (b template, d paths); 4 if (path, two nodes);
+-- 5 for (path, one node); 6 sequence (d nodes)": what stands below a node's head; `node` reads a node
 unfoldable pub formEnd : List ℕ → Form → (ℕ → Option ℕ) → ℕ → Option ℕ
 formEnd t Build node p = inRow node (fieldD t p) (p + 1)
-formEnd t Literal node p = thenRead (when (eqb (fieldD t p) 0) p) (textEnd t)
-formEnd t Place node p = thenRead (when (eqb (fieldB t p) 0 && eqb (fieldD t p) 0) (p + 1)) (pathEnd t)
+formEnd t Literal node p = thenRead (onlyIf (eqb (fieldD t p) 0) p) (textEnd t)
+formEnd t Place node p = thenRead (onlyIf (eqb (fieldB t p) 0 && eqb (fieldD t p) 0) (p + 1)) (pathEnd t)
 formEnd t Expand node p = inRow (pathEnd t) (fieldD t p) (p + 1)
-formEnd t If node p = thenRead (when (eqb (fieldB t p) 0 && eqb (fieldD t p) 0) (p + 1)) (λ q. thenRead (pathEnd t q) (inRow node 2))
-formEnd t For node p = thenRead (when (eqb (fieldB t p) 0 && eqb (fieldD t p) 0) (p + 1)) (λ q. thenRead (pathEnd t q) (inRow node 1))
-formEnd t Sequence node p = thenRead (when (eqb (fieldB t p) 0) (p + 1)) (inRow node (fieldD t p))
+formEnd t If node p = thenRead (onlyIf (eqb (fieldB t p) 0 && eqb (fieldD t p) 0) (p + 1)) (λ q. thenRead (pathEnd t q) (inRow node 2))
+formEnd t For node p = thenRead (onlyIf (eqb (fieldB t p) 0 && eqb (fieldD t p) 0) (p + 1)) (λ q. thenRead (pathEnd t q) (inRow node 1))
+formEnd t Sequence node p = thenRead (onlyIf (eqb (fieldB t p) 0) (p + 1)) (inRow node (fieldD t p))
 formEnd t Unknown node p = none
 
 -- "c size": it is the number of records of the thing, head and all below it
 unfoldable pub sized : List ℕ → ℕ → Option ℕ → Option ℕ
-sized s p end = thenRead end (λ q. when (eqb (p + fieldC s p) q) q)
+sized s p end = thenRead end (λ q. onlyIf (eqb (p + fieldC s p) q) q)
 
 -- "5 node: a form, c size; children follow in order", at most k levels of them
 unfoldable pub nodeEnd : List ℕ → ℕ → ℕ → Option ℕ
 nodeEnd t zero p = none
-nodeEnd t (suc k) p = thenRead (when (eqb (kindOf t p) 5) p) (λ p. sized t p (formEnd t (formOf t p) (nodeEnd t k) p))
+nodeEnd t (suc k) p = thenRead (onlyIf (eqb (kindOf t p) 5) p) (λ p. sized t p (formEnd t (formOf t p) (nodeEnd t k) p))
 
 -- "3 template: a parameters, b nonterminal, c size; then 4 parameter: type b; then one body node"
 unfoldable pub templateEnd : List ℕ → ℕ → Option ℕ
 templateEnd t p =
-    thenRead (when (eqb (fieldD t p) 0) p)
+    thenRead (onlyIf (eqb (fieldD t p) 0) p)
     (λ p. sized t p (thenRead (inRow (namingEnd t 4) (fieldA t p) (p + 1)) (nodeEnd t (recordCount t))))
 
 -- "Templates, types first"
@@ -107,13 +110,13 @@ templatesEnd t =
 -- Value. "1 text: b bytes, c size. 2 yes/no: a 0 or 1. 3 list and 4 record: c size, d children."
 -- By its kind; `value` reads a value below.
 unfoldable pub childrenEnd : List ℕ → (ℕ → Option ℕ) → ℕ → Option ℕ
-childrenEnd v value p = thenRead (when (eqb (fieldA v p) 0 && eqb (fieldB v p) 0) p) (λ p. sized v p (inRow value (fieldD v p) (p + 1)))
+childrenEnd v value p = thenRead (onlyIf (eqb (fieldA v p) 0 && eqb (fieldB v p) 0) p) (λ p. sized v p (inRow value (fieldD v p) (p + 1)))
 
 unfoldable pub kindEnd : List ℕ → ℕ → (ℕ → Option ℕ) → ℕ → Option ℕ
 kindEnd v zero value p = none
-kindEnd v (suc zero) value p = thenRead (when (eqb (fieldA v p) 0 && eqb (fieldD v p) 0) p) (λ p. sized v p (textEnd v p))
+kindEnd v (suc zero) value p = thenRead (onlyIf (eqb (fieldA v p) 0 && eqb (fieldD v p) 0) p) (λ p. sized v p (textEnd v p))
 kindEnd v (suc (suc zero)) value p =
-    when (leb (fieldA v p) 1 && (eqb (fieldB v p) 0 && (eqb (fieldC v p) 0 && eqb (fieldD v p) 0))) (p + 1)
+    onlyIf (leb (fieldA v p) 1 && (eqb (fieldB v p) 0 && (eqb (fieldC v p) 0 && eqb (fieldD v p) 0))) (p + 1)
 kindEnd v (suc (suc (suc zero))) value p = childrenEnd v value p
 kindEnd v (suc (suc (suc (suc zero)))) value p = childrenEnd v value p
 kindEnd v (suc (suc (suc (suc (suc kind))))) value p = none
@@ -123,13 +126,13 @@ valueEnd v zero p = none
 valueEnd v (suc k) p = kindEnd v (kindOf v p) (valueEnd v k) p
 
 -- "After the last thing come zero records only, fewer than 63"; there is a thing
-unfoldable pub ended : List ℕ → ℕ → Bool
-ended s p =
+unfoldable pub tailRight : List ℕ → ℕ → Bool
+tailRight s p =
     leb 1 p && (leb p (recordCount s) && (ltb (recordCount s - p) 63 && zeros (recordsFrom s (recordCount s - p) p)))
 
 -- refusal 3: "The records break a layout above (place 0)"
 unfoldable pub layoutFault : List ℕ → Option ℕ → Option ℕ
-layoutFault s end = need (onFound end false (ended s)) 0
+layoutFault s end = need (onFound end false (tailRight s)) 0
 
 unfoldable pub grammarLayout : List ℕ → Option ℕ
 grammarLayout g = layoutFault g (grammarEnd g)

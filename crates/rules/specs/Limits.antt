@@ -11,6 +11,7 @@ use Rattle.rules.specs.Value.{valuesBelow}
 use Rattle.rules.specs.declared.Form.{Form}
 use Rattle.rules.specs.declared.Form.the-variants.{Build, Literal, Place, Expand, If, For, Sequence, Unknown}
 
+-- the machine nests 200 levels deep
 unfoldable pub deepest : ℕ
 deepest = 200
 

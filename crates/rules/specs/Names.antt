@@ -1,20 +1,16 @@
 -- Refusal 5: "A class, nonterminal, production, template or type named doesn't exist, or a field names no earlier type."
-use Prim.Native.Nat.{ℕ, zero, suc}
+use Prim.Native.Nat.{ℕ}
 use mathlib.Core.List.{List}
-use mathlib.Core.Bool.{Bool, true, false}
-use mathlib.Core.Option.{Option, none, some}
+use mathlib.Core.Bool.{Bool, true}
+use mathlib.Core.Option.{Option}
 use lib.Dec.{ltb}
-use Rattle.rules.specs.Faults.{need, both, every, tree}
+use Rattle.rules.specs.Faults.{need, both, every, tree, exists}
 use Rattle.rules.specs.Records.{fieldA, fieldB, numbered}
 use Rattle.rules.specs.Grammar.{class, production, productions, Element, keyword, lexeme, nonterminal, repetition, elementAt, elementHeads, nonterminalExists}
 use Rattle.rules.specs.Templates.{TypeForm, text, yes-no, list, fields, no-type, type, types, typeAt, fieldHeads, template, templates, parameterHeads, body, formOf, nodesBelow}
 use Rattle.rules.specs.Limits.{deepest}
 use Rattle.rules.specs.declared.Form.{Form}
 use Rattle.rules.specs.declared.Form.the-variants.{Build, Literal, Place, Expand, If, For, Sequence, Unknown}
-
-unfoldable pub exists : Option ℕ → Bool
-exists none = false
-exists (some p) = true
 
 -- an element names a class or a nonterminal
 unfoldable pub elementNamed : List ℕ → Element → Bool

@@ -30,7 +30,7 @@ type t n = nth (types t) n
 unfoldable pub template : List ℕ → ℕ → Option ℕ
 template t n = nth (templates t) n
 
--- "1 type: a = 0 text of class b, 1 yes/no, 2 list of type b, 3 record of d fields. 2 field: type b"
+-- "1 type (numbered by order from 0): a = 0 text of class b, 1 yes/no, 2 list of type b, 3 record of d fields. 2 field: type b .."
 pub data TypeForm : Type 0 where
   text : ℕ → TypeForm
   yes-no : TypeForm
@@ -55,7 +55,7 @@ typeAt t p = typeNumbered t (fieldA t p) p
 unfoldable pub typeOf : List ℕ → ℕ → TypeForm
 typeOf t n = onFound (type t n) no-type (typeAt t)
 
--- "3 template: a parameters, b nonterminal, c size; then 4 parameter: type b; then one body node"
+-- "3 template (numbered by order): a parameters, b nonterminal, c size; then 4 parameter: type b; then one body node"
 unfoldable pub parameterHeads : List ℕ → ℕ → List ℕ
 parameterHeads t p = row (fieldA t p) (p + 1)
 
@@ -65,7 +65,7 @@ parameters t p = map (fieldB t) (parameterHeads t p)
 unfoldable pub body : List ℕ → ℕ → ℕ
 body t p = p + 1 + fieldA t p
 
--- "Node forms: 0 build, 1 literal, 2 place, 3 expand, 4 if, 5 for, 6 sequence"
+-- "Node forms: 0 build ..; 1 literal ..; 2 place ..; 3 expand ..; 4 if ..; 5 for ..; 6 sequence .."
 unfoldable pub formNumbered : ℕ → Form
 formNumbered zero = Build
 formNumbered (suc zero) = Literal

@@ -5,7 +5,7 @@ use mathlib.Core.Bool.{Bool, true, false, _&&_}
 use mathlib.Core.Option.{Option, none, some}
 use lib.ListN.{length}
 use lib.Dec.{eqb}
-use Rattle.rules.specs.Faults.{need, both, every, tree, onFound, at}
+use Rattle.rules.specs.Faults.{need, both, every, tree, onFound, exists, at}
 use Rattle.rules.specs.Records.{fieldA, fieldB, fieldD, textOf, nth}
 use Rattle.rules.specs.Lexeme.{isLexeme}
 use Rattle.rules.specs.Grammar.{production, Element, keyword, lexeme, nonterminal, repetition, elements}
@@ -103,7 +103,11 @@ pub record Site : Type 0 where
 unfoldable pub site : List ℕ → Position → ℕ → Site
 site vars position p = record { node = p; position = position; vars = vars }
 
--- the node's own rule, by its form
+-- The node's own rule, by its form.
+-- Nonterminal: "a build of one of its productions"; "A build with another number of children .. breaks the typing."
+-- Class: "a literal that is a lexeme, or a place whose path has type text of that very class".
+-- Nonterminal: "an expand of a template with that nonterminal and argument types equal by number, or an if on yes/no ..".
+-- Repetition: "a sequence, whose items are nodes in the position of its nonterminal or a for over a list ..".
 unfoldable pub suitsForm : List ℕ → List ℕ → Form → Site → Bool
 suitsForm g t Build x =
     onFound (asksNonterminal (x .position)) false λ n.
@@ -125,8 +129,8 @@ suitsForm g t If x =
 suitsForm g t For x =
     onFound (asksItem (x .position)) false λ n.
     onFound (pathType t (x .vars) (path (x .node))) false λ ty.
-    onFound (itemType (typeOf t ty)) false (λ item. true)
-suitsForm g t Sequence x = onFound (asksRepetition (x .position)) false (λ n. true)
+    exists (itemType (typeOf t ty))
+suitsForm g t Sequence x = exists (asksRepetition (x .position))
 suitsForm g t Unknown x = false
 
 unfoldable pub suits : List ℕ → List ℕ → Site → Bool
@@ -138,7 +142,8 @@ sites vars [] ps = []
 sites vars (a ∷ as′) [] = []
 sites vars (a ∷ as′) (p ∷ ps) = site vars a p ∷ sites vars as′ ps
 
--- what stands below a node, by its form
+-- What stands below a node, by its form: a child in the position of its element; an if's "both branches in the same position"; a for's body,
+-- "one such node", with "the loops from outside in"; a sequence's items
 unfoldable pub sitesOf : List ℕ → List ℕ → Form → Site → List Site
 sitesOf g t Build x = onFound (production g (fieldB t (x .node))) [] λ q. sites (x .vars) (positions (elements g q)) (nodes t (x .node))
 sitesOf g t Literal x = []
@@ -172,13 +177,13 @@ only [] = none
 only (x ∷ []) = some x
 only (x ∷ y ∷ ys) = none
 
-unfoldable pub declared : List ℕ → Option ℕ
-declared t = onFound (template t 0) none λ p. only (parameters t p)
+unfoldable pub declaredType : List ℕ → Option ℕ
+declaredType t = onFound (template t 0) none λ p. only (parameters t p)
 
 -- refusal 7: place "0, and tried first, if template 0 is missing or has not one parameter"
 unfoldable pub templatesTyping : List ℕ → List ℕ → Option ℕ
 templatesTyping g t =
-    both (need (onFound (declared t) false (λ ty. true)) 0)
+    both (need (exists (declaredType t)) 0)
     (every (λ p. at (λ x. x .node) (misfit g t deepest (bodySite t p))) (templates t))
 
 -- Of values: a value, and the type that it should have
@@ -192,8 +197,8 @@ typed ty w = record { value = w; type = ty }
 -- "of type text if it is a 1 whose text is a lexeme of the class; of yes/no if a 2; of a list if a 3 ..; of a record if a 4 with one child for each field"
 unfoldable pub hasForm : List ℕ → List ℕ → TypeForm → ℕ → Bool
 hasForm g v (text c) w = onFound (asText v w) false (isLexeme g c)
-hasForm g v yes-no w = onFound (asYesNo v w) false (λ b. true)
-hasForm g v (list ty) w = onFound (asList v w) false (λ ws. true)
+hasForm g v yes-no w = exists (asYesNo v w)
+hasForm g v (list ty) w = exists (asList v w)
 hasForm g v (fields tys) w = onFound (asRecord v w) false (λ ws. eqb (length ws) (length tys))
 hasForm g v no-type w = false
 
@@ -221,4 +226,4 @@ unfoldable pub mistyped : List ℕ → List ℕ → List ℕ → ℕ → Typed �
 mistyped g t v k x = tree (hasType g t v) (typedBelow t v) k x
 
 unfoldable pub valueTyping : List ℕ → List ℕ → List ℕ → Option ℕ
-valueTyping g t v = onFound (declared t) (some 0) λ ty. at (λ x. x .value) (mistyped g t v deepest (typed ty 0))
+valueTyping g t v = onFound (declaredType t) (some 0) λ ty. at (λ x. x .value) (mistyped g t v deepest (typed ty 0))

@@ -4,6 +4,7 @@ use mathlib.Core.List.{List, [], _∷_}
 use mathlib.Core.Bool.{Bool, true, false, cond, _||_}
 use mathlib.Core.Option.{Option, none, some}
 use lib.Dec.{eqb, leb}
+use Rattle.rules.specs.Faults.{onlyIf}
 use Rattle.rules.specs.Records.{kindOf, fieldA, fieldC, fieldD, textOf, heads}
 
 -- a yes/no has no size field
@@ -18,18 +19,14 @@ unfoldable pub valuesBelow : List ℕ → ℕ → List ℕ
 valuesBelow v w = cond (leb 3 (kindOf v w)) (children v w) []
 
 -- the value at w, if it is one of these: a text's bytes, whether a yes/no is yes, the items of a list, the fields of a record
-unfoldable pub when : {A : Type 0} → Bool → A → Option A
-when true a = some a
-when false a = none
-
 unfoldable pub asText : List ℕ → ℕ → Option (List ℕ)
-asText v w = when (eqb (kindOf v w) 1) (textOf v w)
+asText v w = onlyIf (eqb (kindOf v w) 1) (textOf v w)
 
 unfoldable pub asYesNo : List ℕ → ℕ → Option Bool
-asYesNo v w = when (eqb (kindOf v w) 2) (eqb (fieldA v w) 1)
+asYesNo v w = onlyIf (eqb (kindOf v w) 2) (eqb (fieldA v w) 1)
 
 unfoldable pub asList : List ℕ → ℕ → Option (List ℕ)
-asList v w = when (eqb (kindOf v w) 3) (children v w)
+asList v w = onlyIf (eqb (kindOf v w) 3) (children v w)
 
 unfoldable pub asRecord : List ℕ → ℕ → Option (List ℕ)
-asRecord v w = when (eqb (kindOf v w) 4) (children v w)
+asRecord v w = onlyIf (eqb (kindOf v w) 4) (children v w)

@@ -80,7 +80,11 @@ pieces put visit (lexeme c ∷ es) cs s = withChild visit cs (pieces put visit e
 pieces put visit (nonterminal n ∷ es) cs s = withChild visit cs (pieces put visit es) s
 pieces put visit (repetition n ∷ es) cs s = withChild visit cs (pieces put visit es) s
 
--- "the form decides"; `visit` visits a node one deeper, with its variables
+-- "the form decides"; `visit` visits a node one deeper, with its variables.
+-- "A build takes its elements in order". "A literal writes its text, a place the text that its path finds".
+-- "An expand enters the body with a fresh set of variables, those that its paths find."
+-- "An if visits only the branch taken, the first on yes (1)." "A for visits its body once for each item, in order, the item being one variable more."
+-- "A sequence visits its items in order."
 unfoldable pub visitForm : Input → Form → (ℕ → List ℕ → State → End) → ℕ → List ℕ → State → End
 visitForm i Build visit p env s =
     onFound (production (i .grammar) (fieldB (i .templates) p)) stuck λ q.
@@ -105,7 +109,7 @@ visitForm i For visit p env s =
 visitForm i Sequence visit p env s = inOrder (λ c. visit c env) (nodes (i .templates) p) s
 visitForm i Unknown visit p env s = stuck
 
--- "A node reached is tried for 10. A visit counts one step."
+-- "A node reached is tried for 10", and then "it isn't counted as a step"; else "A visit counts one step."
 unfoldable pub counted : State → State
 counted s = record { steps = suc (s .steps); text = s .text }
 
@@ -113,7 +117,7 @@ unfoldable pub reached : Bool → ℕ → (State → End) → State → End
 reached true p next s = next (counted s)
 reached false p next s = ended fuel-spent p s
 
--- "Then 11 is tried": a node that may go k deep, of which the last is at depth 200
+-- "Then 11 is tried": k levels are left, this node's own among them; with none left it stands at depth 201, and "it is counted as a step"
 unfoldable pub visit : Input → ℕ → ℕ → List ℕ → State → End
 visit i zero p env s = reached (ltb (s .steps) (i .fuel)) p (ended too-deep p) s
 visit i (suc k) p env s = reached (ltb (s .steps) (i .fuel)) p (visitForm i (formOf (i .templates) p) (visit i k) p env) s

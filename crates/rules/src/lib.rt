@@ -18,7 +18,7 @@ pub enum Position {
     Item(u16),
 }
 
-// The forms of a template node, in the order of their numbers from 0.
+// The forms of a template node, in the order of their numbers from 0; a number above 6 is no form.
 pub enum Form {
     Build,
     Literal,

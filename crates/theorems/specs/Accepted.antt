@@ -88,7 +88,7 @@ pub record NoRefusal (g t : List ℕ) (more : List Stream) : Type 0 where
   pub class-tables : grammarClasses g ≡ none
   pub typing : templatesTyping g t ≡ none
 
-set-none : (g t : List ℕ) (more : List Stream) (next : Unit {0} → Option Answer) → (setRefusal g t more next ≡ none) ↔ (NoRefusal g t more × (next tt ≡ none))
+pub set-none : (g t : List ℕ) (more : List Stream) (next : Unit {0} → Option Answer) → (setRefusal g t more next ≡ none) ↔ (NoRefusal g t more × (next tt ≡ none))
 unfolding setRefusal
 set-none g t more next = (
   λ e. let a = try-iff 1 _ _ .0 e in let b = try-iff 2 _ _ .0 (a .1) in let c = try-iff 3 _ _ .0 (b .1) in let d = try-iff 4 _ _ .0 (c .1) in

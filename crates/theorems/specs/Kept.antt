@@ -9,7 +9,10 @@ use lib.Seq.{take-append-seam, drop-append-seam}
 use Rattle.rules.specs.Walk.{State, Limit, End, done, ended, stuck, walk}
 use Rattle.rules.specs.Answers.{answer, evaluateRefusal, limitNumber, Outcome, left, kept, walked, unlessRefused, input, evaluate}
 use Rattle.rules.specs.declared.Answer.{Answer}
+use Rattle.theorems.specs.Laws.{placed-iff, try-iff}
 use Rattle.theorems.specs.Refusals.{Refusal, evaluate-refuses}
+use Rattle.theorems.specs.Accepted.{NoRefusal, set-none}
+use Rattle.theorems.specs.Sound.{WellTyped, never-stuck}
 use Rattle.theorems.specs.Bounds.{when-done, when-ended, written-fits}
 
 -- "output and scratch keep their bytes"
@@ -57,9 +60,16 @@ module _ (g t v : List ℕ) (fuel : ℕ) (out scratch : List ℕ) where
   unless-keeps none r n = walked-keeps (walk (input g t v fuel out)) r refl (n refl)
   unless-keeps (some a) r n = refused a r refl (evaluate-refuses g t v scratch a r) (record { output-kept = refl; scratch-kept = refl })
 
--- An evaluate call on any bytes leaves what the paper says it leaves. What it asks for, that the walk of an accepted set is not stuck, is a theorem of its own.
-pub refusals-keep : (g t v : List ℕ) (fuel : ℕ) (out scratch : List ℕ)
-    → (evaluateRefusal g t v scratch ≡ none → walk (input g t v fuel out) ≡ stuck → ⊥)
-    → Kept g t v fuel out scratch (evaluate g t v fuel out scratch)
+-- what no refusal of 1 to 9 meets is typed, so its walk is not stuck
+pub admitted-typed : (g t v : List ℕ) (fuel : ℕ) (out scratch : List ℕ) → evaluateRefusal g t v scratch ≡ none → WellTyped (input g t v fuel out)
+unfolding evaluateRefusal input
+admitted-typed g t v fuel out scratch e =
+    let a = set-none g t _ _ .0 e in
+    record { set-typed = a .0 .typing; value-typed = placed-iff _ _ .0 (try-iff 8 _ _ .0 (a .1) .0) }
+
+-- An evaluate call on any bytes leaves what the paper says it leaves.
+pub refusals-keep : (g t v : List ℕ) (fuel : ℕ) (out scratch : List ℕ) → Kept g t v fuel out scratch (evaluate g t v fuel out scratch)
 unfolding evaluate
-refusals-keep g t v fuel out scratch n = unless-keeps g t v fuel out scratch (evaluateRefusal g t v scratch) refl n
+refusals-keep g t v fuel out scratch =
+    unless-keeps g t v fuel out scratch (evaluateRefusal g t v scratch) refl
+    (λ e s. never-stuck (input g t v fuel out) (admitted-typed g t v fuel out scratch e) s)

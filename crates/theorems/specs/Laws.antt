@@ -11,7 +11,7 @@ use borrow.Author.Tests.{eqb-true, eq-eqb, leb-true, le-leb, ltb-true, lt-ltb}
 use Rattle.rules.specs.Records.{nth}
 use Rattle.rules.specs.Answers.{placed, try}
 use Rattle.rules.specs.declared.Answer.{Answer}
-use Rattle.rules.specs.Faults.{need, both, every, tree, onFound, at}
+use Rattle.rules.specs.Faults.{need, both, every, tree, onFound, exists, onlyIf, at}
 
 pub need-none : {A : Type 0} (b : Bool) (x : A) → need b x ≡ none → b ≡ true
 unfolding need
@@ -78,6 +78,17 @@ pub onFound-true : {A : Type 0} (o : Option A) (f : A → Bool) → (onFound o f
 unfolding onFound
 onFound-true none f = (λ e. absurd (false≢true e), λ e. absurd (Option·none-ne-some (e .0) (e .1)))
 onFound-true (some a) f = (λ e. (a, refl, e), λ e. subst (λ x. f x ≡ true) (sym (Option·some-injective a (e .0) (e .1))) (e .2))
+
+pub exists-iff : {A : Type 0} (o : Option A) → (exists o ≡ true) ↔ ((a : A) × (o ≡ some a))
+unfolding exists
+exists-iff none = (λ e. absurd (false≢true e), λ h. absurd (Option·none-ne-some (h .0) (h .1)))
+exists-iff (some a) = (λ e. (a, refl), λ h. refl)
+
+-- what is there only if a test holds
+pub only-if-iff : {A : Type 0} (b : Bool) (x y : A) → (onlyIf b x ≡ some y) ↔ ((b ≡ true) × (x ≡ y))
+unfolding onlyIf
+only-if-iff true x y = (λ e. (refl, Option·some-injective x y e), λ h. ap some (h .1))
+only-if-iff false x y = (λ e. absurd (Option·none-ne-some y e), λ h. absurd (false≢true (h .0)))
 
 pub onFound-some : {A B : Type 0} (o : Option A) (f : A → Option B) (b : B) → onFound o none f ≡ some b → (a : A) × (o ≡ some a) × (f a ≡ some b)
 unfolding onFound

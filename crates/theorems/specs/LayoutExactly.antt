@@ -11,12 +11,11 @@ use lib.ListN.{getD, take, drop, length-take, List·getD-eq-default}
 use lib.Seq.{getD-take, getD-drop}
 use lib.Dec.{eqb}
 use borrow.Author.Tests.{eqb-true, eqb-false, eq-eqb, ne-eqb}
-use Rattle.rules.specs.Faults.{onFound}
+use Rattle.rules.specs.Faults.{onFound, onlyIf}
 use Rattle.rules.specs.Records.{base, recordCount, byteOf, kindOf, fieldA, fieldB, fieldC, fieldD, recordsFrom, units, zeros}
 use Rattle.rules.specs.Templates.{formNumbered, formOf}
-use Rattle.rules.specs.Value.{when}
-use Rattle.rules.specs.Layout.{thenRead, inRow, whileKind, textEnd, rangeEnd, classEnd, elementEnd, productionEnd, grammarEnd, namingEnd, typeEnd, pathEnd, formEnd, sized, nodeEnd, templateEnd, templatesEnd, childrenEnd, kindEnd, valueEnd, ended, layoutFault, grammarLayout, templatesLayout, valueLayout}
-use Rattle.theorems.specs.Laws.{need-iff, onFound-true, and-iff, eqb-iff, leb-iff}
+use Rattle.rules.specs.Layout.{thenRead, inRow, whileKind, textEnd, rangeEnd, classEnd, elementEnd, productionEnd, grammarEnd, namingEnd, typeFormEnd, typeEnd, pathEnd, formEnd, sized, nodeEnd, templateEnd, templatesEnd, childrenEnd, kindEnd, valueEnd, tailRight, layoutFault, grammarLayout, templatesLayout, valueLayout}
+use Rattle.theorems.specs.Laws.{need-iff, onFound-true, only-if-iff, and-iff, eqb-iff, leb-iff}
 use Rattle.theorems.specs.Streams.{WellSized}
 use Rattle.theorems.specs.LaidOut.{InRow, no-thing, one-thing, Numbered, no-more, one-more, Padded, Tail, RangeAt, ClassAt, ElementHead, ElementAt, ProductionAt, GrammarLaid, NamingAt, TypeAt, PathAt, NodeHead, NodeAt, NodesAt, TemplateAt, TemplatesLaid, ValueAt, ValuesAt, ValueLaid}
 use Rattle.theorems.specs.LaidOut.ElementAt.{a-keyword, a-name}
@@ -24,20 +23,15 @@ use Rattle.theorems.specs.Heads.{by-equal, by-less, Spans, each-numbered
 
 -- What a reader says when it finds an end
 
-when-iff : {A : Type 0} (b : Bool) (x y : A) → (when b x ≡ some y) ↔ ((b ≡ true) × (x ≡ y))
-unfolding when
-when-iff true x y = (λ e. (refl, Option·some-injective x y e), λ h. ap some (h .1))
-when-iff false x y = (λ e. absurd (Option·none-ne-some y e), λ h. absurd (false≢true (h .0)))
-
 then-iff : (o : Option ℕ) (next : ℕ → Option ℕ) (q : ℕ) → (thenRead o next ≡ some q) ↔ ((r : ℕ) × (o ≡ some r) × (next r ≡ some q))
 unfolding thenRead onFound
 then-iff none next q = (λ e. absurd (Option·none-ne-some q e), λ h. absurd (Option·none-ne-some (h .0) (h .1)))
 then-iff (some r) next q = (λ e. (r, refl, e), λ h. rw (Option·some-injective r (h .0) (h .1)) (h .2))
 
-when-then-iff : (b : Bool) (p : ℕ) (next : ℕ → Option ℕ) (q : ℕ) → (thenRead (when b p) next ≡ some q) ↔ ((b ≡ true) × (next p ≡ some q))
-unfolding when thenRead onFound
-when-then-iff true p next q = (λ e. (refl, e), λ h. h .1)
-when-then-iff false p next q = (λ e. absurd (Option·none-ne-some q e), λ h. absurd (false≢true (h .0)))
+only-if-then : (b : Bool) (p : ℕ) (next : ℕ → Option ℕ) (q : ℕ) → (thenRead (onlyIf b p) next ≡ some q) ↔ ((b ≡ true) × (next p ≡ some q))
+unfolding onlyIf thenRead onFound
+only-if-then true p next q = (λ e. (refl, e), λ h. h .1)
+only-if-then false p next q = (λ e. absurd (Option·none-ne-some q e), λ h. absurd (false≢true (h .0)))
 
 by-cond : {A P : Type 0} (b : Bool) (x y z : A) → cond b x y ≡ z → (b ≡ true → x ≡ z → P) → (b ≡ false → y ≡ z → P) → P
 by-cond true x y z e f g = f refl e
@@ -159,8 +153,8 @@ zero-records-iff s (suc n) p = (
 )
 
 -- "After the last thing come zero records only, fewer than 63."
-tail-exactly : (s : List ℕ) (p : ℕ) → (ended s p ≡ true) ↔ Tail s p
-unfolding ended
+tail-exactly : (s : List ℕ) (p : ℕ) → (tailRight s p ≡ true) ↔ Tail s p
+unfolding tailRight
 tail-exactly s p = (
   λ e. let h = simp (and-iff, leb-iff, zero-records-iff) at e in
       record { a-thing = h .0; inside = h .1 .0; few = h .1 .1 .0; zero-records = λ i j l m o. h .1 .1 .1 i j l (let z = h .1 .0 in omega arith) o },
@@ -173,8 +167,8 @@ tail-exactly s p = (
 range-exactly : (g : List ℕ) (p q : ℕ) → (rangeEnd g p ≡ some q) ↔ RangeAt g p q
 unfolding rangeEnd
 range-exactly g p q = (
-  λ e. let h = simp (when-iff, and-iff, eqb-iff) at e in record { kind = h .0 .0; unused = h .0 .1; end = sym (h .1) },
-  λ r. simp (when-iff, and-iff, eqb-iff) ((r .kind, r .unused), sym (r .end)),
+  λ e. let h = simp (only-if-iff, and-iff, eqb-iff) at e in record { kind = h .0 .0; unused = h .0 .1; end = sym (h .1) },
+  λ r. simp (only-if-iff, and-iff, eqb-iff) ((r .kind, r .unused), sym (r .end)),
 )
 
 ranges-exactly : (g : List ℕ) (n p q : ℕ) → (inRow (rangeEnd g) n p ≡ some q) ↔ InRow (RangeAt g) n p q
@@ -183,19 +177,19 @@ ranges-exactly g = row-exactly (rangeEnd g) (range-exactly g)
 class-exactly : (g : List ℕ) (n p q : ℕ) → ((kindOf g p ≡ 1) × (classEnd g n p ≡ some q)) ↔ ClassAt g n p q
 unfolding classEnd
 class-exactly g n p q = (
-  λ e. let h = simp (when-then-iff, eqb-iff, ranges-exactly) at (e .1) in record { kind = e .0; number = h .0; ranges = h .1 },
-  λ r. (r .kind, simp (when-then-iff, eqb-iff, ranges-exactly) (r .number, r .ranges)),
+  λ e. let h = simp (only-if-then, eqb-iff, ranges-exactly) at (e .1) in record { kind = e .0; number = h .0; ranges = h .1 },
+  λ r. (r .kind, simp (only-if-then, eqb-iff, ranges-exactly) (r .number, r .ranges)),
 )
 
 -- a text's end
 text-exactly : (s : List ℕ) (p q : ℕ) → (textEnd s p ≡ some q) ↔ (Padded s p × (p + 1 + units (fieldB s p) ≡ q))
 unfolding textEnd
-text-exactly s p q = when-iff _ _ _
+text-exactly s p q = only-if-iff _ _ _
 
 element-from : (g : List ℕ) (p q : ℕ) → elementEnd g p ≡ some q → ElementAt g p q
 unfolding elementEnd
 element-from g p q e =
-    let h = simp (when-then-iff, and-iff, eqb-iff, leb-iff) at e in
+    let h = simp (only-if-then, and-iff, eqb-iff, leb-iff) at e in
     let head : ElementHead g p = record { kind = h .0 .0; unused-c = h .0 .1 .1 .0; unused-d = h .0 .1 .1 .1 } in
     by-cond (eqb (fieldA g p) 0) (textEnd g p) (some (p + 1)) (some q) (h .1)
     (λ a e. let r = text-exactly g p q .0 e in subst (λ x. ElementAt g p x) (r .1) (a-keyword p head (eqb-true _ _ a) (r .0)))
@@ -204,10 +198,10 @@ element-from g p q e =
 element-to : {g : List ℕ} {p q : ℕ} → ElementAt g p q → elementEnd g p ≡ some q
 unfolding elementEnd
 element-to {g} (a-keyword p h a z) =
-    simp (when-then-iff, and-iff, eqb-iff, leb-iff)
+    simp (only-if-then, and-iff, eqb-iff, leb-iff)
     ((h .kind, (omega arith, (h .unused-c, h .unused-d))), rw (eq-eqb _ 0 a) (text-exactly g p _ .1 (z, refl)))
 element-to {g} (a-name p h l m) =
-    simp (when-then-iff, and-iff, eqb-iff, leb-iff)
+    simp (only-if-then, and-iff, eqb-iff, leb-iff)
     ((h .kind, (m, (h .unused-c, h .unused-d))), rw (ne-eqb (fieldA g p) 0 (λ z. omega arith)))
 
 element-exactly : (g : List ℕ) (p q : ℕ) → (elementEnd g p ≡ some q) ↔ ElementAt g p q
@@ -219,9 +213,9 @@ elements-exactly g = row-exactly (elementEnd g) (element-exactly g)
 production-exactly : (g : List ℕ) (n p q : ℕ) → ((kindOf g p ≡ 3) × (productionEnd g n p ≡ some q)) ↔ ProductionAt g n p q
 unfolding productionEnd
 production-exactly g n p q = (
-  λ e. let h = simp (when-then-iff, and-iff, eqb-iff, elements-exactly) at (e .1) in
+  λ e. let h = simp (only-if-then, and-iff, eqb-iff, elements-exactly) at (e .1) in
       record { kind = e .0; number = h .0 .0; unused-c = h .0 .1; elements = h .1 },
-  λ r. (r .kind, simp (when-then-iff, and-iff, eqb-iff, elements-exactly) ((r .number, r .unused-c), r .elements)),
+  λ r. (r .kind, simp (only-if-then, and-iff, eqb-iff, elements-exactly) ((r .number, r .unused-c), r .elements)),
 )
 
 -- Templates
@@ -229,9 +223,9 @@ production-exactly g n p q = (
 naming-exactly : (t : List ℕ) (kind p q : ℕ) → (namingEnd t kind p ≡ some q) ↔ NamingAt t kind p q
 unfolding namingEnd
 naming-exactly t kind p q = (
-  λ e. let h = simp (when-iff, and-iff, eqb-iff) at e in
+  λ e. let h = simp (only-if-iff, and-iff, eqb-iff) at e in
       record { kind-is = h .0 .0; unused-a = h .0 .1 .0; unused-c = h .0 .1 .1 .0; unused-d = h .0 .1 .1 .1; end = sym (h .1) },
-  λ r. simp (when-iff, and-iff, eqb-iff) ((r .kind-is, (r .unused-a, (r .unused-c, r .unused-d))), sym (r .end)),
+  λ r. simp (only-if-iff, and-iff, eqb-iff) ((r .kind-is, (r .unused-a, (r .unused-c, r .unused-d))), sym (r .end)),
 )
 
 namings-exactly : (t : List ℕ) (kind n p q : ℕ) → (inRow (namingEnd t kind) n p ≡ some q) ↔ InRow (NamingAt t kind) n p q
@@ -240,51 +234,56 @@ namings-exactly t kind = row-exactly (namingEnd t kind) (naming-exactly t kind)
 path-exactly : (t : List ℕ) (p q : ℕ) → (pathEnd t p ≡ some q) ↔ PathAt t p q
 unfolding pathEnd recordsFrom
 path-exactly t p q = (
-  λ e. let h = simp (when-iff, and-iff, eqb-iff, leb-iff, append-nil, zero-bytes-iff) at e in
+  λ e. let h = simp (only-if-iff, and-iff, eqb-iff, leb-iff, append-nil, zero-bytes-iff) at e in
       record { kind = h .0 .0; steps = h .0 .1 .0; unused = h .0 .1 .1; end = sym (h .1) },
-  λ r. simp (when-iff, and-iff, eqb-iff, leb-iff, append-nil, zero-bytes-iff) ((r .kind, (r .steps, r .unused)), sym (r .end)),
+  λ r. simp (only-if-iff, and-iff, eqb-iff, leb-iff, append-nil, zero-bytes-iff) ((r .kind, (r .steps, r .unused)), sym (r .end)),
 )
 
 paths-exactly : (t : List ℕ) (n p q : ℕ) → (inRow (pathEnd t) n p ≡ some q) ↔ InRow (PathAt t) n p q
 paths-exactly t = row-exactly (pathEnd t) (path-exactly t)
 
--- the kind is known where a type is read
+-- a type by its form; the kind is known where a type is read
+type-form : (t : List ℕ) (form p q : ℕ) → kindOf t p ≡ 1 → fieldA t p ≡ form → typeFormEnd t form p ≡ some q → TypeAt t p q
+unfolding typeFormEnd
+type-form t zero p q k a e =
+    let h = simp (only-if-iff, and-iff, eqb-iff) at e in
+    subst (TypeAt t p) (h .1) (TypeAt.a-text p k a (h .0 .0) (h .0 .1))
+type-form t (suc zero) p q k a e =
+    let h = simp (only-if-iff, and-iff, eqb-iff) at e in
+    subst (TypeAt t p) (h .1) (TypeAt.a-yes-no p k a (h .0 .0) (h .0 .1 .0) (h .0 .1 .1))
+type-form t (suc (suc zero)) p q k a e =
+    let h = simp (only-if-iff, and-iff, eqb-iff) at e in
+    subst (TypeAt t p) (h .1) (TypeAt.a-list p k a (h .0 .0) (h .0 .1))
+type-form t (suc (suc (suc zero))) p q k a e =
+    let h = simp (only-if-then, and-iff, eqb-iff, namings-exactly) at e in
+    TypeAt.a-record p q k a (h .0 .0) (h .0 .1) (h .1)
+type-form t (suc (suc (suc (suc form)))) p q k a e = absurd (Option·none-ne-some q e)
+
 type-from : (t : List ℕ) (p q : ℕ) → kindOf t p ≡ 1 → typeEnd t p ≡ some q → TypeAt t p q
 unfolding typeEnd
-type-from t p q k e =
-    by-cond (eqb (fieldA t p) 0 && (eqb (fieldC t p) 0 && eqb (fieldD t p) 0)) _ _ (some q) e
-    (λ b e. let h = simp (and-iff, eqb-iff) at b in ends e (TypeAt.a-text p k (h .0) (h .1 .0) (h .1 .1)))
-    λ _ e. by-cond (eqb (fieldA t p) 1 && (eqb (fieldB t p) 0 && (eqb (fieldC t p) 0 && eqb (fieldD t p) 0))) _ _ (some q) e
-    (λ b e. let h = simp (and-iff, eqb-iff) at b in ends e (TypeAt.a-yes-no p k (h .0) (h .1 .0) (h .1 .1 .0) (h .1 .1 .1)))
-    λ _ e. by-cond (eqb (fieldA t p) 2 && (eqb (fieldC t p) 0 && eqb (fieldD t p) 0)) _ _ (some q) e
-    (λ b e. let h = simp (and-iff, eqb-iff) at b in ends e (TypeAt.a-list p k (h .0) (h .1 .0) (h .1 .1)))
-    λ _ e. let h = simp (when-then-iff, and-iff, eqb-iff, namings-exactly) at e in TypeAt.a-record p q k (h .0 .0) (h .0 .1 .0) (h .0 .1 .1) (h .1)
-  where
-    ends : {r : ℕ} → _≡_ {A = Option ℕ} (some r) (some q) → TypeAt t p r → TypeAt t p q
-    ends {r} e h = subst (λ x. TypeAt t p x) (Option·some-injective r q e) h
+type-from t p q k e = type-form t (fieldA t p) p q k refl e
 
 type-to : {t : List ℕ} {p q : ℕ} → TypeAt t p q → typeEnd t p ≡ some q
-unfolding typeEnd
-type-to (TypeAt.a-text p k a c d) = rw (a, c, d)
-type-to (TypeAt.a-yes-no p k a b c d) = rw (a, b, c, d)
-type-to (TypeAt.a-list p k a c d) = rw (a, c, d)
-type-to {t} (TypeAt.a-record p q k a b c fs) =
-    rw (a, b, c) (when-then-iff true (p + 1) (inRow (namingEnd t 2) (fieldD t p)) q .1 (refl, namings-exactly t 2 (fieldD t p) (p + 1) q .1 fs))
+unfolding typeEnd typeFormEnd
+type-to (TypeAt.a-text p k a c d) = rw a (simp (only-if-iff, and-iff, eqb-iff) ((c, d), refl))
+type-to (TypeAt.a-yes-no p k a b c d) = rw a (simp (only-if-iff, and-iff, eqb-iff) ((b, (c, d)), refl))
+type-to (TypeAt.a-list p k a c d) = rw a (simp (only-if-iff, and-iff, eqb-iff) ((c, d), refl))
+type-to {t} (TypeAt.a-record p q k a b c fs) = rw a (simp (only-if-then, and-iff, eqb-iff, namings-exactly) ((b, c), fs))
 
 -- "c size"
 sized-iff : (s : List ℕ) (p : ℕ) (o : Option ℕ) (q : ℕ) → (sized s p o ≡ some q) ↔ ((o ≡ some q) × (p + fieldC s p ≡ q))
 unfolding sized thenRead onFound
 sized-iff s p none q = (λ e. absurd (Option·none-ne-some q e), λ h. absurd (Option·none-ne-some q (h .0)))
 sized-iff s p (some r) q = (
-  λ e. let h = simp (when-iff, eqb-iff) at e in (ap some (h .1), h .0 ∙ h .1),
-  λ h. let z : r ≡ q = Option·some-injective r q (h .0) in simp (when-iff, eqb-iff) (h .1 ∙ sym z, z),
+  λ e. let h = simp (only-if-iff, eqb-iff) at e in (ap some (h .1), h .0 ∙ h .1),
+  λ h. let z : r ≡ q = Option·some-injective r q (h .0) in simp (only-if-iff, eqb-iff) (h .1 ∙ sym z, z),
 )
 
 -- Nodes, one level
 node-step : (t : List ℕ) (k p q : ℕ)
     → (nodeEnd t (suc k) p ≡ some q) ↔ ((kindOf t p ≡ 5) × ((formEnd t (formOf t p) (nodeEnd t k) p ≡ some q) × (p + fieldC t p ≡ q)))
 unfolding nodeEnd
-node-step t k p q = simp (when-then-iff, eqb-iff, sized-iff) Iff·rfl
+node-step t k p q = simp (only-if-then, eqb-iff, sized-iff) Iff·rfl
 
 as-nodes : {t : List ℕ} {n p q : ℕ} → InRow (NodeAt t) n p q → NodesAt t n p q
 as-nodes (no-thing p) = NodesAt.no-node p
@@ -299,18 +298,18 @@ module _ (t : List ℕ) (node : ℕ → Option ℕ) (right : (p q : ℕ) → nod
   unfolding formEnd formNumbered
   form-from zero p q h e = NodeAt.a-build p q h (nodes-from _ _ q e)
   form-from (suc zero) p q h e =
-      let r = simp (when-then-iff, eqb-iff, text-exactly) at e in NodeAt.a-literal p q h (r .0) (r .1 .0) (sym (r .1 .1))
+      let r = simp (only-if-then, eqb-iff, text-exactly) at e in NodeAt.a-literal p q h (r .0) (r .1 .0) (sym (r .1 .1))
   form-from (suc (suc zero)) p q h e =
-      let r = simp (when-then-iff, and-iff, eqb-iff, path-exactly) at e in NodeAt.a-place p q h (r .0 .0) (r .0 .1) (r .1)
+      let r = simp (only-if-then, and-iff, eqb-iff, path-exactly) at e in NodeAt.a-place p q h (r .0 .0) (r .0 .1) (r .1)
   form-from (suc (suc (suc zero))) p q h e = NodeAt.an-expand p q h (paths-exactly t _ _ q .0 e)
   form-from (suc (suc (suc (suc zero)))) p q h e =
-      let r = simp (when-then-iff, and-iff, eqb-iff, then-iff) at e in
+      let r = simp (only-if-then, and-iff, eqb-iff, then-iff) at e in
       NodeAt.an-if p q (r .1 .0) h (r .0 .0) (r .0 .1) (path-exactly t _ _ .0 (r .1 .1)) (nodes-from 2 _ q (r .1 .2))
   form-from (suc (suc (suc (suc (suc zero))))) p q h e =
-      let r = simp (when-then-iff, and-iff, eqb-iff, then-iff) at e in
+      let r = simp (only-if-then, and-iff, eqb-iff, then-iff) at e in
       NodeAt.a-for p q (r .1 .0) h (r .0 .0) (r .0 .1) (path-exactly t _ _ .0 (r .1 .1)) (nodes-from 1 _ q (r .1 .2))
   form-from (suc (suc (suc (suc (suc (suc zero)))))) p q h e =
-      let r = simp (when-then-iff, eqb-iff) at e in NodeAt.a-sequence p q h (r .0) (nodes-from _ _ q (r .1))
+      let r = simp (only-if-then, eqb-iff) at e in NodeAt.a-sequence p q h (r .0) (nodes-from _ _ q (r .1))
   form-from (suc (suc (suc (suc (suc (suc (suc a))))))) p q h e = absurd (Option·none-ne-some q e)
 
 node-from : (t : List ℕ) (k p q : ℕ) → nodeEnd t k p ≡ some q → NodeAt t p q
@@ -329,14 +328,14 @@ mutual
 
   node-to : {t : List ℕ} {p q : ℕ} → NodeAt t p q → (k : ℕ) → q ≤ p + suc k → nodeEnd t (suc k) p ≡ some q
   node-to (NodeAt.a-build p q h ns) k l = head-to k h (nodes-to ns k (omega arith))
-  node-to (NodeAt.a-literal p q h d z e) k l = head-to k h (simp (when-then-iff, eqb-iff, text-exactly) (d, (z, sym e)))
-  node-to (NodeAt.a-place p q h b d s) k l = head-to k h (simp (when-then-iff, and-iff, eqb-iff, path-exactly) ((b, d), s))
+  node-to (NodeAt.a-literal p q h d z e) k l = head-to k h (simp (only-if-then, eqb-iff, text-exactly) (d, (z, sym e)))
+  node-to (NodeAt.a-place p q h b d s) k l = head-to k h (simp (only-if-then, and-iff, eqb-iff, path-exactly) ((b, d), s))
   node-to (NodeAt.an-expand p q h ps) k l = head-to k h (simp paths-exactly ps)
   node-to {t} (NodeAt.an-if p q r h b d s ns) k l =
-      head-to k h (simp (when-then-iff, and-iff, eqb-iff, then-iff) ((b, d), (r, path-exactly t _ _ .1 s, nodes-to ns k (let e = s .end in omega arith))))
+      head-to k h (simp (only-if-then, and-iff, eqb-iff, then-iff) ((b, d), (r, path-exactly t _ _ .1 s, nodes-to ns k (let e = s .end in omega arith))))
   node-to {t} (NodeAt.a-for p q r h b d s ns) k l =
-      head-to k h (simp (when-then-iff, and-iff, eqb-iff, then-iff) ((b, d), (r, path-exactly t _ _ .1 s, nodes-to ns k (let e = s .end in omega arith))))
-  node-to (NodeAt.a-sequence p q h b ns) k l = head-to k h (simp (when-then-iff, eqb-iff) (b, nodes-to ns k (omega arith)))
+      head-to k h (simp (only-if-then, and-iff, eqb-iff, then-iff) ((b, d), (r, path-exactly t _ _ .1 s, nodes-to ns k (let e = s .end in omega arith))))
+  node-to (NodeAt.a-sequence p q h b ns) k l = head-to k h (simp (only-if-then, eqb-iff) (b, nodes-to ns k (omega arith)))
 
   nodes-to : {t : List ℕ} {n p q : ℕ} → NodesAt t n p q → (k : ℕ) → q ≤ p + k → inRow (nodeEnd t k) n p ≡ some q
   nodes-to {t} (NodesAt.no-node p) k l = row-none (nodeEnd t k) p
@@ -349,7 +348,7 @@ mutual
 template-from : (t : List ℕ) (p q : ℕ) → kindOf t p ≡ 3 → templateEnd t p ≡ some q → TemplateAt t p q
 unfolding templateEnd
 template-from t p q k e =
-    let h = simp (when-then-iff, eqb-iff, sized-iff, then-iff) at e in
+    let h = simp (only-if-then, eqb-iff, sized-iff, then-iff) at e in
     let r = namings-exactly t 4 _ _ (h .1 .0 .0) .0 (h .1 .0 .1) in
     let z : h .1 .0 .0 ≡ p + 1 + fieldA t p = row-of-ones (λ p q. naming-size) r in
     record {
@@ -367,7 +366,7 @@ node-read h (suc k) l = node-to h k (omega arith)
 template-to : {t : List ℕ} {p q : ℕ} → TemplateAt t p q → q ≤ recordCount t → templateEnd t p ≡ some q
 unfolding templateEnd
 template-to {t} {p} {q} h l =
-    simp (when-then-iff, eqb-iff, sized-iff, then-iff)
+    simp (only-if-then, eqb-iff, sized-iff, then-iff)
     (h .unused-d, ((p + 1 + fieldA t p, namings-exactly t 4 _ _ _ .1 (h .parameters), node-read (h .body) (recordCount t) l), h .size))
 
 -- Values
@@ -380,7 +379,7 @@ as-values (one-thing n p q r x xs) = ValuesAt.one-value n p q r x (as-values xs)
 children-iff : (v : List ℕ) (value : ℕ → Option ℕ) (p q : ℕ)
     → (childrenEnd v value p ≡ some q) ↔ (((fieldA v p ≡ 0) × (fieldB v p ≡ 0)) × ((inRow value (fieldD v p) (p + 1) ≡ some q) × (p + fieldC v p ≡ q)))
 unfolding childrenEnd
-children-iff v value p q = simp (when-then-iff, and-iff, eqb-iff, sized-iff) Iff·rfl
+children-iff v value p q = simp (only-if-then, and-iff, eqb-iff, sized-iff) Iff·rfl
 
 -- from a reader of values that is right, to a value by its kind
 module _ (v : List ℕ) (value : ℕ → Option ℕ) (right : (p q : ℕ) → value p ≡ some q → ValueAt v p q) where
@@ -391,10 +390,10 @@ module _ (v : List ℕ) (value : ℕ → Option ℕ) (right : (p q : ℕ) → va
   unfolding kindEnd
   kind-from zero p q k e = absurd (Option·none-ne-some q e)
   kind-from (suc zero) p q k e =
-      let h = simp (when-then-iff, and-iff, eqb-iff, sized-iff, text-exactly) at e in
+      let h = simp (only-if-then, and-iff, eqb-iff, sized-iff, text-exactly) at e in
       ValueAt.a-text p q k (h .0 .0) (h .0 .1) (h .1 .1) (h .1 .0 .0) (sym (h .1 .0 .1))
   kind-from (suc (suc zero)) p q k e =
-      let h = simp (when-iff, and-iff, eqb-iff, leb-iff) at e in
+      let h = simp (only-if-iff, and-iff, eqb-iff, leb-iff) at e in
       ValueAt.a-yes-no p q k (h .0 .0) (h .0 .1 .0) (h .0 .1 .1 .0) (h .0 .1 .1 .1) (sym (h .1))
   kind-from (suc (suc (suc zero))) p q k e =
       let h = children-iff v value p q .0 e in
@@ -419,9 +418,9 @@ mutual
 
   value-to : {v : List ℕ} {p q : ℕ} → ValueAt v p q → (k : ℕ) → q ≤ p + suc k → valueEnd v (suc k) p ≡ some q
   value-to {v} (ValueAt.a-text p q i a d s z e) k l =
-      kind-to v 1 k p q i (simp (when-then-iff, and-iff, eqb-iff, sized-iff, text-exactly) ((a, d), ((z, sym e), s)))
+      kind-to v 1 k p q i (simp (only-if-then, and-iff, eqb-iff, sized-iff, text-exactly) ((a, d), ((z, sym e), s)))
   value-to {v} (ValueAt.a-yes-no p q i a b c d e) k l =
-      kind-to v 2 k p q i (simp (when-iff, and-iff, eqb-iff, leb-iff) ((a, (b, (c, d))), sym e))
+      kind-to v 2 k p q i (simp (only-if-iff, and-iff, eqb-iff, leb-iff) ((a, (b, (c, d))), sym e))
   value-to {v} (ValueAt.a-list p q i a b s vs) k l =
       kind-to v 3 k p q i (children-iff v (valueEnd v k) p q .1 ((a, b), (values-to vs k (omega arith), s)))
   value-to {v} (ValueAt.a-record p q i a b s vs) k l =

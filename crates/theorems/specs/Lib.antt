@@ -16,7 +16,10 @@ pub mod Ends
 pub mod Evaluation
 pub mod EvaluatesExactly
 pub mod EvaluatesOne
+pub mod Sound
 pub mod Kept
+pub mod AsWalked
+pub mod Demands
 pub mod Packing
 pub mod Published
 pub mod Teeth

@@ -7,18 +7,18 @@ use mathlib.Core.Bool.{Bool, true, false, _&&_, _||_, false≢true}
 use mathlib.Core.Option.{Option, none, some, Option·some-ne-none, Option·none-ne-some, Option·some-injective}
 use native.Mathlib.Omega.{arith}
 use lib.Dec.{eqb, leb, ltb}
-use Rattle.rules.specs.Faults.{need, both, every, tree, at}
+use Rattle.rules.specs.Faults.{need, both, every, tree, at, exists}
 use Rattle.rules.specs.Records.{fieldA, fieldB, fieldC, nth, numbered}
 use Rattle.rules.specs.Lexeme.{lowest, highest, ranges}
 use Rattle.rules.specs.Grammar.{class, classes, production, productions, Element, keyword, lexeme, nonterminal, repetition, elementAt, elementHeads, hasProduction, nonterminalExists}
 use Rattle.rules.specs.Templates.{TypeForm, text, yes-no, list, fields, no-type, type, types, typeAt, fieldHeads, template, templates, parameterHeads, body, formOf, nodesBelow}
 use Rattle.rules.specs.Value.{valuesBelow}
 use Rattle.rules.specs.Limits.{deepest, Looped, looped, loopsBelow, loopedBelow, fewLoops, templateLimits, templatesLimits, valueLimits}
-use Rattle.rules.specs.Names.{exists, elementNamed, grammarNames, typeNamed, typeNames, formNamed, nodeNamed, templateNames, templatesNames}
+use Rattle.rules.specs.Names.{elementNamed, grammarNames, typeNamed, typeNames, formNamed, nodeNamed, templateNames, templatesNames}
 use Rattle.rules.specs.Classes.{rangeRight, classBounds, grammarClasses}
 use Rattle.rules.specs.declared.Form.{Form}
 use Rattle.rules.specs.declared.Form.the-variants.{Build, Literal, Place, Expand, If, For, Sequence, Unknown}
-use Rattle.theorems.specs.Laws.{need-none, need-iff, both-none, both-iff, In, here, later, in-nth, nth-in, in-map, every-in, in-every, every-nil, every-cons, and-iff, eqb-iff, leb-iff, ltb-iff, at-none, Below, itself, under, tree-in, in-tree}
+use Rattle.theorems.specs.Laws.{need-none, need-iff, both-none, both-iff, In, here, later, in-nth, nth-in, in-map, every-in, in-every, every-nil, every-cons, exists-iff, and-iff, eqb-iff, leb-iff, ltb-iff, at-none, Below, itself, under, tree-in, in-tree}
 
 -- 4, of a template: the body counts 1, what stands d levels below it d + 1
 pub record TemplateWithin (t : List ℕ) (p : ℕ) : Type 0 where
@@ -68,11 +68,6 @@ not-deep t p w d q b = let r = looped-below t 0 b in let l = w .at-most-200-deep
 -- 5: what is named exists
 abbrev pub Exists : Option ℕ → Type 0
 Exists o = (p : ℕ) × (o ≡ some p)
-
-exists-iff : (o : Option ℕ) → (exists o ≡ true) ↔ Exists o
-unfolding exists
-exists-iff none = (λ e. absurd (false≢true e), λ h. absurd (Option·none-ne-some (h .0) (h .1)))
-exists-iff (some p) = (λ e. (p, refl), λ h. refl)
 
 or-true : (a : Bool) {b : Bool} → b ≡ true → (a || b) ≡ true
 or-true true e = refl

@@ -8,18 +8,17 @@ use mathlib.Core.Option.{Option, none, some, Option·some-ne-none, Option·none-
 use native.Mathlib.Omega.{arith}
 use lib.ListN.{length}
 use lib.Dec.{eqb}
-use Rattle.rules.specs.Faults.{need, both, every, tree, onFound, at}
+use Rattle.rules.specs.Faults.{need, both, every, tree, onFound, at, exists}
 use Rattle.rules.specs.Records.{kindOf, fieldB, fieldC, fieldD, textOf, nth, heads}
 use Rattle.rules.specs.Lexeme.{isLexeme}
 use Rattle.rules.specs.Grammar.{production, Element, keyword, lexeme, nonterminal, repetition, elements}
 use Rattle.rules.specs.Templates.{TypeForm, text, yes-no, list, fields, no-type, typeOf, template, templates, parameters, body, formOf, nodes, nodesOf, nodesBelow, paths, path, first, second, variable, fieldNumbers}
-use Rattle.rules.specs.Value.{children, asText, asYesNo, asList, asRecord, when, valuesBelow}
-use Rattle.rules.specs.Typing.{asksClass, asksNonterminal, asksRepetition, asksItem, positions, textClass, isYesNo, itemType, fieldTypes, typeAlong, pathType, argumentsFit, Site, site, suitsForm, suits, sites, sitesOf, sitesBelow, misfit, bodySite, only, declared, templatesTyping}
+use Rattle.rules.specs.Typing.{asksClass, asksNonterminal, asksRepetition, asksItem, positions, textClass, isYesNo, itemType, fieldTypes, typeAlong, pathType, argumentsFit, Site, site, suitsForm, suits, sites, sitesOf, sitesBelow, misfit, bodySite, only, declaredType, templatesTyping}
 use Rattle.rules.specs.declared.Form.{Form}
 use Rattle.rules.specs.declared.Form.the-variants.{Build, Literal, Place, Expand, If, For, Sequence, Unknown}
 use Rattle.rules.specs.declared.Position.{Position}
 use Rattle.rules.specs.declared.Position.the-variants.{Class, Nonterminal, Repetition, Item}
-use Rattle.theorems.specs.Laws.{need-none, need-iff, both-none, both-iff, In, here, later, every-in, in-every, every-nil, every-cons, onFound-true, onFound-some, found, and-iff, eqb-iff, at-none, Below, itself, under, tree-in, in-tree}
+use Rattle.theorems.specs.Laws.{need-none, need-iff, both-none, both-iff, In, here, later, every-in, in-every, every-nil, every-cons, exists-iff, onFound-true, onFound-some, found, and-iff, eqb-iff, at-none, Below, itself, under, tree-in, in-tree}
 use Rattle.rules.specs.Limits.{deepest}
 use Rattle.theorems.specs.LimitsExactly.{TemplateWithin, not-deep}
 use Rattle.theorems.specs.Judgement.{Along, arrived, a-field, PathTyped, Arguments, no-argument, an-argument, Suits, by-build, by-literal, by-place, by-expand, by-if, by-for, by-sequence, as-item, Fills, all-filled, no-child, a-lexeme, a-text, a-row, Items, no-item, an-item}
@@ -190,18 +189,18 @@ module _ (g t : List ℕ) (check : Site → Option Site) (below : (x : Site) →
   suits-form For x f e s =
       let a = onFound-true (asksItem (x .position)) _ .0 e in
       let b = onFound-true (pathType t (x .vars) (path (x .node))) _ .0 (a .2) in
-      let c = onFound-true (itemType (typeOf t (b .0))) _ .0 (b .2) in
+      let c = exists-iff (itemType (typeOf t (b .0))) .0 (b .2) in
       let r : every check (site (x .vars ++ c .0 ∷ []) (Nonterminal (a .0)) (first (x .node)) ∷ []) ≡ none =
       subst (λ (l : List Site). every check l ≡ none) (found [] _ (a .1) ∙ found [] _ (b .1) ∙ found [] _ (c .1)) s in
       rw (asked-item (x .position) (a .0) (a .1))
       (by-for (x .vars) (x .node) (a .0) (b .0) (c .0) f (path-exactly t _ _ (b .0) .0 (b .1)) (item-type _ (c .0) (c .1)) (below _ (every-in check r (here _))))
   suits-form Sequence x f e s =
-      let a = onFound-true (asksRepetition (x .position)) _ .0 e in
+      let a = exists-iff (asksRepetition (x .position)) .0 e in
       rw (asked-repetition (x .position) (a .0) (a .1))
       (by-sequence (x .vars) (x .node) (a .0) f (items (x .vars) (a .0) (nodes t (x .node)) (subst (λ (l : List Site). every check l ≡ none) (found [] _ (a .1)) s)))
   suits-form Unknown x f e s = absurd (false≢true e)
 
-misfit-suits : (g t : List ℕ) (k : ℕ) (x : Site) → misfit g t k x ≡ none → SuitsAt g t x
+pub misfit-suits : (g t : List ℕ) (k : ℕ) (x : Site) → misfit g t k x ≡ none → SuitsAt g t x
 unfolding misfit tree suits sitesBelow
 misfit-suits g t zero x e = absurd (Option·some-ne-none x e)
 misfit-suits g t (suc k) x e =
@@ -225,7 +224,7 @@ misfit-none g t (suc k) x h e r = rw e (r k h)
 -- what suits as a text of the nonterminal suits as an item
 item-form : (g t vars : List ℕ) (n p : ℕ) (f : Form) → suitsForm g t f (site vars (Nonterminal n) p) ≡ true
     → (suitsForm g t f (site vars (Item n) p) ≡ true) × (sitesOf g t f (site vars (Item n) p) ≡ sitesOf g t f (site vars (Nonterminal n) p))
-unfolding suitsForm sitesOf site asksNonterminal asksClass asksItem asksRepetition onFound
+unfolding suitsForm sitesOf site asksNonterminal asksClass asksItem asksRepetition onFound exists
 item-form g t vars n p Build e = (e, refl)
 item-form g t vars n p Literal e = absurd (false≢true e)
 item-form g t vars n p Place e = absurd (false≢true e)
@@ -288,11 +287,11 @@ module _ (g t vars : List ℕ) (p : ℕ) where
 
   own-for : (n ty item : ℕ) → formOf t p ≡ For → PathTyped t vars (path p) ty → typeOf t ty ≡ list item
       → Own (Item n) (site (vars ++ item ∷ []) (Nonterminal n) (first p) ∷ [])
-  unfolding suits sitesBelow suitsForm sitesOf site asksItem itemType onFound
+  unfolding suits sitesBelow suitsForm sitesOf site asksItem itemType onFound exists
   own-for n ty item f e b = (rw (f, path-exactly t vars (path p) ty .1 e, b), rw (f, path-exactly t vars (path p) ty .1 e, b))
 
   own-sequence : (n : ℕ) → formOf t p ≡ Sequence → Own (Repetition n) (map (site vars (Item n)) (nodes t p))
-  unfolding suits sitesBelow suitsForm sitesOf site asksRepetition onFound
+  unfolding suits sitesBelow suitsForm sitesOf site asksRepetition onFound exists
   own-sequence n f = (rw f, rw f)
 
   -- a node whose own test holds has no misfit below it but in what stands there
@@ -352,8 +351,8 @@ only-iff [] x = (λ e. absurd (Option·none-ne-some x e), λ e. absurd (let z : 
 only-iff (y ∷ []) x = (λ e. ap (λ (z : ℕ). z ∷ []) (Option·some-injective y x e), λ e. let z : y ≡ x = cc in ap {B = Option ℕ} some z)
 only-iff (y ∷ z ∷ zs) x = (λ e. absurd (Option·none-ne-some x e), λ e. absurd (let z : _≡_ {A = ℕ} 0 1 = cc in omega arith))
 
-pub declared-exactly : (t : List ℕ) (ty : ℕ) → (declared t ≡ some ty) ↔ Declared t ty
-unfolding declared onFound
+pub declared-exactly : (t : List ℕ) (ty : ℕ) → (declaredType t ≡ some ty) ↔ Declared t ty
+unfolding declaredType onFound
 declared-exactly t ty = (
   λ e. let a = onFound-some (template t 0) (λ p. only (parameters t p)) ty e in
       record { root = a .0; root-there = a .1; one-parameter = only-iff _ ty .0 (a .2) },
@@ -370,10 +369,10 @@ pub typing-exactly : (g t : List ℕ) → ((p : ℕ) → In p (templates t) → 
 unfolding templatesTyping bodySite site
 typing-exactly g t within = (
   λ e. let a = both-none _ _ e in
-      let d = onFound-true (declared t) _ .0 (need-none {A = ℕ} _ 0 (a .0)) in
+      let d = exists-iff (declaredType t) .0 (need-none {A = ℕ} _ 0 (a .0)) in
       record { type = d .0; declares = declared-exactly t (d .0) .0 (d .1); bodies = λ p i. misfit-suits g t deepest (bodySite t p) (at-none _ _ .0 (every-in _ (a .1) i)) },
   λ h. both-iff _ _ .1 (
-    need-iff {A = ℕ} _ 0 .1 (onFound-true (declared t) _ .1 (h .type, declared-exactly t (h .type) .1 (h .declares), refl)),
+    need-iff {A = ℕ} _ 0 .1 (exists-iff (declaredType t) .1 (h .type, declared-exactly t (h .type) .1 (h .declares))),
     in-every _ _ λ p i. at-none _ _ .1 (suits-none (h .bodies p i) deepest (not-deep t p (within p i))),
   ),
 )

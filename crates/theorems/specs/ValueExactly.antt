@@ -8,28 +8,23 @@ use mathlib.Core.Option.{Option, none, some, Option·some-ne-none, Option·none-
 use native.Mathlib.Omega.{arith}
 use lib.ListN.{length}
 use lib.Dec.{eqb, leb}
-use Rattle.rules.specs.Faults.{need, both, every, tree, onFound, at}
+use Rattle.rules.specs.Faults.{need, both, every, tree, onFound, at, onlyIf, exists}
 use Rattle.rules.specs.Records.{kindOf, fieldD, textOf}
 use Rattle.rules.specs.Lexeme.{isLexeme}
 use Rattle.rules.specs.Templates.{TypeForm, text, yes-no, list, fields, no-type, typeOf}
-use Rattle.rules.specs.Value.{children, asText, asYesNo, asList, asRecord, when, valuesBelow}
+use Rattle.rules.specs.Value.{children, asText, asYesNo, asList, asRecord, valuesBelow}
 use Rattle.rules.specs.Limits.{deepest, valueLimits}
-use Rattle.rules.specs.Typing.{Typed, typed, hasForm, hasType, paired, typedOf, typedBelow, mistyped, declared, valueTyping}
-use Rattle.theorems.specs.Laws.{need-none, both-none, In, here, later, every-in, in-every, every-nil, every-cons, onFound-true, onFound-none, found, eqb-iff, leb-iff, at-none, Below, itself, under, tree-in}
+use Rattle.rules.specs.Typing.{Typed, typed, hasForm, hasType, paired, typedOf, typedBelow, mistyped, declaredType, valueTyping}
+use Rattle.theorems.specs.Laws.{need-none, both-none, In, here, later, every-in, in-every, every-nil, every-cons, exists-iff, onFound-true, onFound-none, only-if-iff, found, eqb-iff, leb-iff, at-none, Below, itself, under, tree-in}
 use Rattle.theorems.specs.TypingExactly.{Declared, declared-exactly}
 use Rattle.theorems.specs.Judgement.{OfType, of-text, of-yes-no, of-list, of-record, AllOf, none-left, one-of, EachOf, no-field, a-field}
 
-when-some : {A : Type 0} (b : Bool) (a x : A) → when b a ≡ some x → (b ≡ true) × (a ≡ x)
-unfolding when
-when-some true a x e = (refl, Option·some-injective a x e)
-when-some false a x e = absurd (Option·none-ne-some x e)
-
 -- a value of a kind is what it is
-of-kind : {A : Type 0} (v : List ℕ) (w kind : ℕ) (a x : A) → when (eqb (kindOf v w) kind) a ≡ some x → (kindOf v w ≡ kind) × (a ≡ x)
-of-kind v w kind a x e = let r = when-some _ a x e in (eqb-iff _ _ .0 (r .0), r .1)
+of-kind : {A : Type 0} (v : List ℕ) (w kind : ℕ) (a x : A) → onlyIf (eqb (kindOf v w) kind) a ≡ some x → (kindOf v w ≡ kind) × (a ≡ x)
+of-kind v w kind a x e = let r = only-if-iff _ a x .0 e in (eqb-iff _ _ .0 (r .0), r .1)
 
-kind-of : {A : Type 0} (v : List ℕ) (w kind : ℕ) (a : A) → kindOf v w ≡ kind → when (eqb (kindOf v w) kind) a ≡ some a
-unfolding when
+pub kind-of : {A : Type 0} (v : List ℕ) (w kind : ℕ) (a : A) → kindOf v w ≡ kind → onlyIf (eqb (kindOf v w) kind) a ≡ some a
+unfolding onlyIf
 kind-of v w kind a e = rw (eqb-iff _ _ .1 e)
 
 -- From the check to the judgement, where a check of the values below gives theirs
@@ -53,10 +48,10 @@ module _ (g t v : List ℕ) (check : Typed → Option Typed) (below : (x : Typed
       let k = of-kind v w 1 (textOf v w) (a .0) (a .1) in
       of-text ty w c f (k .0) (subst (λ (x : List ℕ). isLexeme g c x ≡ true) (sym (k .1)) (a .2))
   of-form yes-no ty w f e s =
-      let a = onFound-true (asYesNo v w) _ .0 e in
+      let a = exists-iff (asYesNo v w) .0 e in
       of-yes-no ty w f (of-kind v w 2 _ (a .0) (a .1) .0)
   of-form (list item) ty w f e s =
-      let a = onFound-true (asList v w) _ .0 e in
+      let a = exists-iff (asList v w) .0 e in
       let k = of-kind v w 3 (children v w) (a .0) (a .1) in
       of-list ty w item f (k .0) (rw (k .1) (all-of item (a .0) (subst (λ (l : List Typed). every check l ≡ none) (found [] _ (a .1)) s)))
   of-form (fields tys) ty w f e s =
@@ -65,7 +60,7 @@ module _ (g t v : List ℕ) (check : Typed → Option Typed) (below : (x : Typed
       of-record ty w tys f (k .0) (rw (k .1) (each-of tys (a .0) (eqb-iff _ _ .0 (a .2)) (subst (λ (l : List Typed). every check l ≡ none) (found [] _ (a .1)) s)))
   of-form no-type ty w f e s = absurd (false≢true e)
 
-mistyped-of : (g t v : List ℕ) (k : ℕ) (x : Typed) → mistyped g t v k x ≡ none → OfType g t v (x .type) (x .value)
+pub mistyped-of : (g t v : List ℕ) (k : ℕ) (x : Typed) → mistyped g t v k x ≡ none → OfType g t v (x .type) (x .value)
 unfolding mistyped tree hasType typedBelow
 mistyped-of g t v zero x e = absurd (Option·some-ne-none x e)
 mistyped-of g t v (suc k) x e =
@@ -91,11 +86,11 @@ module _ (g t v : List ℕ) (ty w : ℕ) where
   own-text c f k e = (rw (f, kind-of v w 1 (textOf v w) k) e, rw f)
 
   own-yes-no : typeOf t ty ≡ yes-no → kindOf v w ≡ 2 → Own []
-  unfolding hasType hasForm typedBelow typedOf typed asYesNo onFound
+  unfolding hasType hasForm typedBelow typedOf typed asYesNo exists
   own-yes-no f k = (rw (f, kind-of v w 2 _ k), rw f)
 
   own-list : (item : ℕ) → typeOf t ty ≡ list item → kindOf v w ≡ 3 → Own (map (typed item) (children v w))
-  unfolding hasType hasForm typedBelow typedOf typed asList onFound
+  unfolding hasType hasForm typedBelow typedOf typed asList onFound exists
   own-list item f k = (rw (f, kind-of v w 3 (children v w) k), rw (f, kind-of v w 3 (children v w) k))
 
   own-record : (tys : List ℕ) → typeOf t ty ≡ fields tys → kindOf v w ≡ 4 → length (children v w) ≡ length tys → Own (paired tys (children v w))
@@ -139,7 +134,7 @@ pub record ValueTyped (g t v : List ℕ) : Type 0 where
 pub value-typed-exactly : (g t v : List ℕ) → valueLimits v ≡ none → (valueTyping g t v ≡ none) ↔ ValueTyped g t v
 unfolding valueTyping valueLimits typed
 value-typed-exactly g t v shallow = (
-  λ e. let a = onFound-none {B = ℕ} (declared t) 0 _ .0 e in
+  λ e. let a = onFound-none {B = ℕ} (declaredType t) 0 _ .0 e in
       record { type = a .0; declares = declared-exactly t (a .0) .0 (a .1); of-type = mistyped-of g t v deepest (typed (a .0) 0) (at-none _ _ .0 (a .2)) },
-  λ h. onFound-none {B = ℕ} (declared t) 0 _ .1 (h .type, declared-exactly t (h .type) .1 (h .declares), at-none _ _ .1 (of-none (h .of-type) deepest (λ d u b. tree-in _ _ deepest shallow b .0))),
+  λ h. onFound-none {B = ℕ} (declaredType t) 0 _ .1 (h .type, declared-exactly t (h .type) .1 (h .declares), at-none _ _ .1 (of-none (h .of-type) deepest (λ d u b. tree-in _ _ deepest shallow b .0))),
 )
