@@ -2,11 +2,15 @@
 use mathlib.Core.Path.{_≡_}
 use mathlib.Core.Logic.{_↔_}
 use Prim.Native.Nat.{ℕ, _+_, _*_, _≤_, _<_}
-use mathlib.Core.List.{List}
+use mathlib.Core.List.{List, [], _∷_}
 use mathlib.Core.Option.{Option, none, some}
 use lib.ListN.{length}
 use Rattle.rules.specs.Walk.{State, walk, done}
-use Rattle.rules.specs.Answers.{answer, packRefusal, input, check, evaluate}
+use Rattle.rules.specs.Answers
+use Rattle.rules.specs.Answers.{answer, checkRefusal, evaluateRefusal, packRefusal, input, check, evaluate}
+use Rattle.theorems.specs.Least.{FirstBy}
+use Rattle.theorems.specs.Offences.{Offence}
+use Rattle.theorems.specs.FirstRefused.{Before, Names, first-offending}
 use Rattle.theorems.specs.Accepted.{Accepted, accepted-exactly, WellFormed, AtMost200Deep, Admitted}
 use Rattle.theorems.specs.ValueExactly.{ValueTyped}
 use Rattle.theorems.specs.Evaluation.{EvaluatesSet}
@@ -18,8 +22,14 @@ use Rattle.theorems.specs.AsWalked.{AsWalked, answers-of-accepted}
 
 -- 1. "A caller who lends any grammar, template set, record, scratch and output buffer, of any bytes and lengths, gets either a finished text or one numbered
 -- refusal, set by a stated order of checks, and finds every lent byte afterwards as document 01 states."
-pub demand-1 : (g t v : List ℕ) (fuel : ℕ) (out scratch : List ℕ) → Kept g t v fuel out scratch (evaluate g t v fuel out scratch)
-demand-1 = refusals-keep
+pub record Demand1 : Type 0 where
+  pub finished-or-refused : (g t v : List ℕ) (fuel : ℕ) (out scratch : List ℕ) → Kept g t v fuel out scratch (evaluate g t v fuel out scratch)
+  pub in-stated-order : (g t v scratch : List ℕ)
+      → FirstBy Before (Names (Offence g t [] none)) (checkRefusal g t)
+      × FirstBy Before (Names (Offence g t (Answers.value v ∷ []) (some scratch))) (evaluateRefusal g t v scratch)
+
+pub demand-1 : Demand1
+demand-1 = record { finished-or-refused = refusals-keep; in-stated-order = first-offending }
 
 -- 2. "The checker accepts a grammar and template set exactly when the written rules of blocks, layout, limits, names, classes and typing hold, .. and the text is
 -- byte for byte what the written evaluation rules give; blocks packed and unpacked return the same records, with zero fill at most after them."

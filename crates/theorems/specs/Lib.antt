@@ -11,6 +11,11 @@ pub mod TypingExactly
 pub mod ValueExactly
 pub mod Refusals
 pub mod Accepted
+pub mod Least
+pub mod Ranges
+pub mod Offences
+pub mod FirstOffending
+pub mod FirstRefused
 pub mod Bounds
 pub mod Ends
 pub mod Evaluation

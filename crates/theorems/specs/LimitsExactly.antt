@@ -93,7 +93,7 @@ in-has g n (p ∷ ps) e = go (eqb (fieldB g p) n) refl e (in-has g n ps)
     go true b h ih = (p, here ps, eqb-iff _ _ .0 b)
     go false b h ih = let r = ih h in (r .0, later p ps (r .1), r .2)
 
-nonterminal-iff : (g : List ℕ) (n : ℕ) → (nonterminalExists g n ≡ true) ↔ HasProduction g n
+pub nonterminal-iff : (g : List ℕ) (n : ℕ) → (nonterminalExists g n ≡ true) ↔ HasProduction g n
 unfolding nonterminalExists
 nonterminal-iff g n = (in-has g n (productions g), λ h. has-in g n (h .1) (h .2))
 
@@ -130,14 +130,14 @@ pub record TemplatesNamed (g t : List ℕ) : Type 0 where
   pub parameters-name : (p a : ℕ) → In p (templates t) → In a (parameterHeads t p) → Exists (type t (fieldB t a))
   pub nodes-name : (p d q : ℕ) → In p (templates t) → Below (nodesBelow t) (body t p) d q → NodeNames g t (formOf t q) (fieldB t q)
 
-element-names : (g : List ℕ) (x : Element) → (elementNamed g x ≡ true) ↔ ElementNames g x
+pub element-names : (g : List ℕ) (x : Element) → (elementNamed g x ≡ true) ↔ ElementNames g x
 unfolding elementNamed
 element-names g (keyword x) = (λ e. tt, λ h. refl)
 element-names g (lexeme c) = exists-iff (class g c)
 element-names g (nonterminal n) = nonterminal-iff g n
 element-names g (repetition n) = nonterminal-iff g n
 
-type-names : (g t : List ℕ) (x : TypeForm) → (typeNamed g t x ≡ true) ↔ TypeNames g t x
+pub type-names : (g t : List ℕ) (x : TypeForm) → (typeNamed g t x ≡ true) ↔ TypeNames g t x
 unfolding typeNamed
 type-names g t (text c) = exists-iff (class g c)
 type-names g t yes-no = (λ e. tt, λ h. refl)
@@ -145,7 +145,7 @@ type-names g t (list n) = exists-iff (type t n)
 type-names g t (fields ns) = (λ e. tt, λ h. refl)
 type-names g t no-type = (λ e. tt, λ h. refl)
 
-node-names : (g t : List ℕ) (f : Form) (n : ℕ) → (formNamed g t f n ≡ true) ↔ NodeNames g t f n
+pub node-names : (g t : List ℕ) (f : Form) (n : ℕ) → (formNamed g t f n ≡ true) ↔ NodeNames g t f n
 unfolding formNamed
 node-names g t Build n = exists-iff (production g n)
 node-names g t Literal n = (λ e. tt, λ h. refl)
@@ -164,7 +164,7 @@ grammar-names-exactly g = (
 )
 
 -- the entries of a numbered list
-numbered-in : (m : ℕ) (ps : List ℕ) (j p : ℕ) → nth ps j ≡ some p → In (m + j, p) (numbered m ps)
+pub numbered-in : (m : ℕ) (ps : List ℕ) (j p : ℕ) → nth ps j ≡ some p → In (m + j, p) (numbered m ps)
 unfolding numbered nth
 numbered-in m [] j p e = absurd (Option·none-ne-some p e)
 numbered-in m (q ∷ ps) zero p e = let z : m + 0 ≡ m = omega arith in rw (z, ← Option·some-injective q p e) (here _)

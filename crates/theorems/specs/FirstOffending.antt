@@ -1,0 +1,356 @@
+-- "Places are record indexes of the first offending head": each rule's check answers the first place that offends, and none before it does.
+use mathlib.Core.Path.{_≡_, refl, sym, _∙_, subst}
+use mathlib.Core.Logic.{_↔_, _⊎_, inl, inr}
+use Prim.Native.Nat.{ℕ, zero, suc, _+_, _/_, _<_}
+use mathlib.Core.List.{List, [], _∷_}
+use mathlib.Core.Bool.{Bool, true, false, _&&_, false≢true, true≢false}
+use mathlib.Core.Option.{Option, none, some, Option·some-ne-none, Option·none-ne-some, Option·some-injective}
+use native.Mathlib.Omega.{arith}
+use lib.ListN.{length}
+use lib.Dec.{leb, ltb}
+use borrow.Author.Tests.{leb-false, lt-leb, ltb-false, le-ltb}
+use Rattle.rules.specs.Faults.{need, every, tree, onFound, exists, at}
+use Rattle.rules.specs.Records.{fieldA, fieldB, fieldC, fieldD, row, nth, numbered}
+use Rattle.rules.specs.Blocks.{streamLength, blockRight, streamBlocks}
+use Rattle.rules.specs.Lexeme.{lowest, highest, ranges}
+use Rattle.rules.specs.Grammar.{elementSize, classes, productions, elementAt, elementHeads, nonterminalExists}
+use Rattle.rules.specs.Templates.{type, types, typeAt, fieldHeads, templates, formOf, parameterHeads, body, nodesBelow}
+use Rattle.rules.specs.Value.{valuesBelow}
+use Rattle.rules.specs.Layout.{layoutFault, grammarLayout, templatesLayout, valueLayout}
+use Rattle.rules.specs.Limits.{deepest, looped, loopedBelow, fewLoops, templateLimits, templatesLimits, valueLimits}
+use Rattle.rules.specs.Names.{elementNamed, grammarNames, typeNamed, typeNames, nodeNamed, templateNames, templatesNames}
+use Rattle.rules.specs.Classes.{rangeRight, classBounds, grammarClasses}
+use Rattle.rules.specs.Typing.{site, suits, sitesBelow, misfit, bodySite, declaredType, templatesTyping, typed, hasType, typedBelow, mistyped, valueTyping}
+use Rattle.rules.specs.Answers
+use Rattle.rules.specs.Answers.{Stream, bytesOf, layoutOf, limitsOf}
+use Rattle.theorems.specs.Laws.{In, here, later, Below, exists-iff}
+use Rattle.theorems.specs.Streams.{WellSized, length-exactly, block-exactly, row-in, in-row}
+use Rattle.theorems.specs.LaidOut.{InRow, no-thing, one-thing, GrammarLaid, NamingAt, TypeAt, TemplateAt, TemplatesLaid, ValueLaid}
+use Rattle.theorems.specs.Heads.{element-size, element-grows}
+use Rattle.theorems.specs.LayoutExactly.{grammar-laid-exactly, templates-laid-exactly, value-laid-exactly}
+use Rattle.theorems.specs.LimitsExactly.{limits-exactly, value-limits-exactly, not-deep, nonterminal-iff, element-names, type-names, node-names, numbered-in}
+use Rattle.theorems.specs.TypingExactly.{Declared, declared-exactly}
+use Rattle.theorems.specs.Least.{First, Least, first-same, first-need, first-none, first-both, least-same, least-wide, least-need, least-both, rows-heads, Some, least-every, least-heads, least-tests, Offends, too-deep, fails, least-tree, Fails, failing, least-shallow}
+use Rattle.theorems.specs.Ranges.{AnyClass, AnyProduction, class-rows, production-rows, type-rows, template-rows, Leading, stops, goes-on, rows-leading, below-leading, standing-leading, nodes-standing, values-standing, looped-leading, sites-leading, typed-leading}
+use Rattle.theorems.specs.Offences.{WrongBlock, Laid, TemplateOver, over-8-parameters, over-200-deep, over-16-loops, OverLimits, a-template, a-value, GrammarUnnamed, by-element, TypeUnnamed, by-type, by-field, TemplateUnnamed, by-template, by-parameter, by-node, TemplatesUnnamed, in-type, in-template, WrongClass, least-above-most, lowest-above-highest, past-unicode, Misfit, undeclared, unsuited, Mistyped, not-of-type}
+
+-- a test fails where what it decides does not hold
+fails-iff : {P : Type 0} (b : Bool) → ((b ≡ true) ↔ P) → (b ≡ false) ↔ (P → ⊥)
+fails-iff true h = (λ e. absurd (true≢false e), λ n. absurd (n (h .0 refl)))
+fails-iff false h = (λ e p. false≢true (h .1 p), λ n. refl)
+
+-- a check that answers place 0 alone
+at-0 : (b : Bool) (p : ℕ) → need b 0 ≡ some p → p ≡ 0
+unfolding need
+at-0 true p e = absurd (Option·none-ne-some p e)
+at-0 false p e = sym (Option·some-injective 0 p e)
+
+first-at-0 : {P : Type 0} (o : Option ℕ) → ((p : ℕ) → o ≡ some p → p ≡ 0) → ((o ≡ none) ↔ P) → First (λ p. (p ≡ 0) × (P → ⊥)) o
+first-at-0 none z h = first-none (λ q o. o .1 (h .0 refl))
+first-at-0 (some p) z h = record {
+  none-offends = λ e q o. Option·some-ne-none p e;
+  first-offends = λ q e. ((z q e, λ x. Option·some-ne-none p (h .1 x)), λ r l o. let i = z q e in omega arith);
+}
+
+-- 1
+pub first-length : (s : List ℕ) → First (λ p. (p ≡ 0) × (WellSized s → ⊥)) (streamLength s)
+first-length s = first-at-0 (streamLength s) (unfold streamLength in at-0 _) (length-exactly s)
+
+-- 2
+ones : (n p : ℕ) → InRow (λ p q. q ≡ p + 1) n p (p + n)
+ones zero p = subst (InRow (λ p q. q ≡ p + 1) 0 p) (let z : p ≡ p + 0 = omega arith in z) (no-thing p)
+ones (suc n) p =
+    one-thing n p (p + 1) (p + suc n) refl
+    (subst (InRow (λ p q. q ≡ p + 1) n (p + 1)) (let z : p + 1 + n ≡ p + suc n = omega arith in z) (ones n (p + 1)))
+
+-- a test of every record in a row
+least-row : {Thing : ℕ → ℕ → Type 0} {n p q : ℕ} → ((p q : ℕ) → Thing p q → q ≡ p + 1) → (b : ℕ → Bool) → InRow Thing n p q
+    → Least (λ x. In x (row n p) × (b x ≡ false)) p q (every (λ x. need (b x) x) (row n p))
+unfolding row
+least-row h b r = least-tests (λ p q a. let e = h p q a in omega arith) b (rows-heads (λ q. 1) h r)
+
+wrong-block : (kind : ℕ) (s : List ℕ) (n : ℕ) → (In n (row (length s / 512) 0) × (blockRight kind s n ≡ false)) ↔ WrongBlock kind s n
+wrong-block kind s n = (
+  λ o. record { a-block = let r = in-row (length s / 512) 0 (o .0) in omega arith; wrong = fails-iff _ (block-exactly kind s n) .0 (o .1) },
+  λ w. (row-in (length s / 512) 0 n (omega arith) (let l = w .a-block in omega arith), fails-iff _ (block-exactly kind s n) .1 (w .wrong)),
+)
+
+pub first-block : (kind : ℕ) (s : List ℕ) → First (WrongBlock kind s) (streamBlocks kind s)
+unfolding streamBlocks
+first-block kind s = first-same (wrong-block kind s) (least-row (λ p q e. e) (blockRight kind s) (ones (length s / 512) 0) .first)
+
+-- 3
+pub laid-exactly : (s : Stream) → WellSized (bytesOf s) → (layoutOf s ≡ none) ↔ Laid s
+unfolding bytesOf layoutOf
+laid-exactly (Answers.grammar g) w = grammar-laid-exactly g w
+laid-exactly (Answers.templates t) w = templates-laid-exactly t w
+laid-exactly (Answers.value v) w = value-laid-exactly v w
+
+layout-at-0 : (s : Stream) (p : ℕ) → layoutOf s ≡ some p → p ≡ 0
+unfolding layoutOf grammarLayout templatesLayout valueLayout layoutFault
+layout-at-0 (Answers.grammar g) = at-0 _
+layout-at-0 (Answers.templates t) = at-0 _
+layout-at-0 (Answers.value v) = at-0 _
+
+pub first-layout : (s : Stream) → WellSized (bytesOf s) → First (λ p. (p ≡ 0) × (Laid s → ⊥)) (layoutOf s)
+first-layout s w = first-at-0 (layoutOf s) (layout-at-0 s) (laid-exactly s w)
+
+-- 4. Of a template: its own test, and then the tree of its body
+abbrev OverIn : List ℕ → ℕ → ℕ → Type 0
+OverIn t p q = ((q ≡ p) × (leb (fieldA t p) 8 ≡ false)) ⊎ Offends fewLoops (loopedBelow t) (λ x. x .node) deepest (looped 0 (body t p)) q
+
+template-over : (t : List ℕ) (p q : ℕ) → OverIn t p q → TemplateOver t p q
+unfolding deepest fewLoops
+template-over t p q (inl (e, b)) = subst (TemplateOver t p) (sym e) (over-8-parameters (leb-false _ _ b))
+template-over t p q (inr (too-deep d x b l)) = over-200-deep d x b l
+template-over t p q (inr (fails d x b e)) = over-16-loops d x b (leb-false _ _ e)
+
+over-template : (t : List ℕ) (p q : ℕ) → TemplateOver t p q → OverIn t p q
+unfolding deepest fewLoops
+over-template t p q (over-8-parameters l) = inl (refl, lt-leb _ _ l)
+over-template t p q (over-200-deep d x b l) = inr (too-deep d x b l)
+over-template t p q (over-16-loops d x b l) = inr (fails d x b (lt-leb _ _ l))
+
+least-over : (t : List ℕ) (p q : ℕ) → TemplateAt t p q → Least (TemplateOver t p) p q (templateLimits t p)
+unfolding templateLimits body looped
+least-over t p q a =
+    least-same (λ q. (template-over t p q, over-template t p q))
+    (least-both (least-wide (omega arith) (omega arith) (least-need _ p))
+    (least-tree (standing-leading (λ x. x .node) (loopedBelow t) (nodesBelow t) (looped-leading t) (nodes-standing t))
+    fewLoops deepest (looped 0 (body t p)) (p + 1 + fieldA t p) q (refl, a .body)))
+
+templates-over : (t : List ℕ) (q : ℕ) → OverLimits (Answers.templates t) q → Some (templates t) (TemplateOver t) q
+templates-over t q (a-template u p x i o) = (p, i, o)
+
+-- of a value: its tree
+value-over : (v : List ℕ) (q : ℕ) → Offends (λ w. true) (valuesBelow v) (λ w. w) deepest 0 q → OverLimits (Answers.value v) q
+unfolding deepest
+value-over v q (too-deep d w b l) = a-value v d w b l
+value-over v q (fails d w b e) = absurd (true≢false e)
+
+over-value : (v : List ℕ) (q : ℕ) → OverLimits (Answers.value v) q → Offends (λ w. true) (valuesBelow v) (λ w. w) deepest 0 q
+unfolding deepest
+over-value v q (a-value u d w b l) = too-deep d w b l
+
+at-itself : (o : Option ℕ) → at (λ w. w) o ≡ o
+unfolding at
+at-itself none = refl
+at-itself (some w) = refl
+
+grammar-over : (g : List ℕ) (q : ℕ) → OverLimits (Answers.grammar g) q → ⊥
+grammar-over g q = elim [ ]
+
+pub first-over : (s : Stream) → WellSized (bytesOf s) → Laid s → First (OverLimits s) (limitsOf s)
+unfolding bytesOf limitsOf templatesLimits valueLimits
+first-over (Answers.grammar g) w h = first-none (grammar-over g)
+first-over (Answers.templates t) w h =
+    first-same (λ q. (λ o. a-template t (o .0) q (o .1) (o .2), templates-over t q))
+    (least-heads (TemplateOver t) (templateLimits t) (λ p q i. least-over t p q) (template-rows w h) .first)
+first-over (Answers.value v) w h =
+    rw (← at-itself (tree (λ w. true) (valuesBelow v) deepest 0))
+    (first-same (λ q. (value-over v q, over-value v q)) (least-tree (values-standing v) (λ w. true) deepest 0 0 (h .end) (refl, h .value) .first))
+
+-- after it no node and no value is over 200 deep
+node-shallow : (t : List ℕ) → templatesLimits t ≡ none → (p : ℕ) → In p (templates t) → (d q : ℕ) → Below (nodesBelow t) (body t p) d q → d < deepest
+node-shallow t l p i = not-deep t p (limits-exactly t .0 l p i)
+
+value-shallow : (v : List ℕ) → valueLimits v ≡ none → (d w : ℕ) → Below (valuesBelow v) 0 d w → d < deepest
+unfolding deepest
+value-shallow v l d w b = let z = value-limits-exactly v .0 l d w b in omega arith
+
+-- 5. Of a production: its elements' tests
+abbrev ElementIn : List ℕ → ℕ → ℕ → Type 0
+ElementIn g p q = In q (elementHeads g p) × (elementNamed g (elementAt g q) ≡ false)
+
+unnamed-element : (g : List ℕ) (q : ℕ) → GrammarUnnamed g q → Some (productions g) (ElementIn g) q
+unnamed-element g q (by-element p e i j n) = (p, i, (j, fails-iff _ (element-names g (elementAt g e)) .1 n))
+
+element-unnamed : (g : List ℕ) (q : ℕ) → Some (productions g) (ElementIn g) q → GrammarUnnamed g q
+element-unnamed g q (p, i, (j, b)) = by-element p q i j (fails-iff _ (element-names g (elementAt g q)) .0 b)
+
+least-elements : (g : List ℕ) (p q : ℕ) → AnyProduction g p q
+    → Least (ElementIn g p) p q (every (λ e. need (elementNamed g (elementAt g e)) e) (elementHeads g p))
+unfolding elementHeads
+least-elements g p q (n, a) =
+    least-wide (omega arith) (omega arith)
+    (least-tests (λ p q. element-grows) (λ e. elementNamed g (elementAt g e)) (rows-heads (elementSize g) (λ p q. element-size) (a .elements)))
+
+pub first-grammar-unnamed : (g : List ℕ) → WellSized g → GrammarLaid g → First (GrammarUnnamed g) (grammarNames g)
+unfolding grammarNames
+first-grammar-unnamed g w h =
+    first-same (λ q. (element-unnamed g q, unnamed-element g q)) (least-heads (ElementIn g) _ (λ p q i. least-elements g p q) (production-rows w h) .first)
+
+-- of a type: its own test, and then its fields'
+abbrev TypeIn : List ℕ → List ℕ → ℕ → ℕ → ℕ → Type 0
+TypeIn g t n p q = ((q ≡ p) × (typeNamed g t (typeAt t p) ≡ false)) ⊎ (In q (fieldHeads t p) × (ltb (fieldB t q) n ≡ false))
+
+type-unnamed : (g t : List ℕ) (n p q : ℕ) → TypeIn g t n p q → TypeUnnamed g t n p q
+type-unnamed g t n p q (inl (e, b)) = subst (TypeUnnamed g t n p) (sym e) (by-type (fails-iff _ (type-names g t (typeAt t p)) .0 b))
+type-unnamed g t n p q (inr (i, b)) = by-field q i (ltb-false _ _ b)
+
+unnamed-type : (g t : List ℕ) (n p q : ℕ) → TypeUnnamed g t n p q → TypeIn g t n p q
+unnamed-type g t n p q (by-type b) = inl (refl, fails-iff _ (type-names g t (typeAt t p)) .1 b)
+unnamed-type g t n p q (by-field f i l) = inr (i, le-ltb _ _ l)
+
+fields-row : {t : List ℕ} {p q : ℕ} → TypeAt t p q → InRow (NamingAt t 2) (fieldD t p) (p + 1) q
+fields-row (TypeAt.a-text p k a c d) = rw d (no-thing (p + 1))
+fields-row (TypeAt.a-yes-no p k a b c d) = rw d (no-thing (p + 1))
+fields-row (TypeAt.a-list p k a c d) = rw d (no-thing (p + 1))
+fields-row (TypeAt.a-record p q k a b c fs) = fs
+
+least-type : (g t : List ℕ) (n p q : ℕ) → TypeAt t p q → Least (TypeUnnamed g t n p) p q (typeNames g t (n, p))
+unfolding typeNames fieldHeads
+least-type g t n p q a =
+    least-same (λ q. (type-unnamed g t n p q, unnamed-type g t n p q))
+    (least-both (least-need _ p) (least-row (λ p q f. f .end) (λ f. ltb (fieldB t f) n) (fields-row a)))
+
+numbered-leading : (n : ℕ) (ps : List ℕ) → Leading {A = ℕ × ℕ} (λ x. x .1) (numbered n ps) ps
+unfolding numbered
+numbered-leading n [] = stops []
+numbered-leading n (p ∷ ps) = goes-on (n, p) (numbered (suc n) ps) p ps refl (numbered-leading (suc n) ps)
+
+in-numbered : (m : ℕ) (ps : List ℕ) {x : ℕ × ℕ} → In x (numbered m ps) → (j : ℕ) × (x .0 ≡ m + j) × (nth ps j ≡ some (x .1))
+unfolding numbered nth
+in-numbered m (p ∷ ps) (here xs) = (0, omega arith, refl)
+in-numbered m (p ∷ ps) (later y xs i) = let r = in-numbered (suc m) ps i in (suc (r .0), omega arith, r .2)
+
+least-types : (g t : List ℕ) → WellSized t → (h : TemplatesLaid t)
+    → Least (Some (numbered 0 (types t)) (λ x. TypeUnnamed g t (x .0) (x .1))) 0 (h .middle) (every (typeNames g t) (numbered 0 (types t)))
+least-types g t w h =
+    least-every (λ x. TypeUnnamed g t (x .0) (x .1)) (typeNames g t)
+    (λ x lo hi i a. subst (λ (p : ℕ). Least (TypeUnnamed g t (x .0) p) lo hi (typeNames g t (x .0, p))) (sym (a .0)) (least-type g t (x .0) lo hi (a .1)))
+    (rows-leading (λ p lo hi a. least-type g t 0 lo hi (a .1) .ordered) (numbered-leading 0 (types t)) (type-rows w h))
+
+-- of a template: its own test, its parameters' and its nodes'
+abbrev TemplateIn : List ℕ → List ℕ → ℕ → ℕ → Type 0
+TemplateIn g t p q =
+    ((q ≡ p) × (nonterminalExists g (fieldB t p) ≡ false))
+    ⊎ ((In q (parameterHeads t p) × (exists (type t (fieldB t q)) ≡ false)) ⊎ Fails (nodeNamed g t) (nodesBelow t) (λ w. w) (body t p) q)
+
+template-unnamed : (g t : List ℕ) (p q : ℕ) → TemplateIn g t p q → TemplateUnnamed g t p q
+unfolding nodeNamed
+template-unnamed g t p q (inl (e, b)) = subst (TemplateUnnamed g t p) (sym e) (by-template (fails-iff _ (nonterminal-iff g _) .0 b))
+template-unnamed g t p q (inr (inl (i, b))) = by-parameter q i (fails-iff _ (exists-iff _) .0 b)
+template-unnamed g t p q (inr (inr (failing d y b e))) = by-node d y b (fails-iff _ (node-names g t (formOf t y) (fieldB t y)) .0 e)
+
+unnamed-template : (g t : List ℕ) (p q : ℕ) → TemplateUnnamed g t p q → TemplateIn g t p q
+unfolding nodeNamed
+unnamed-template g t p q (by-template b) = inl (refl, fails-iff _ (nonterminal-iff g _) .1 b)
+unnamed-template g t p q (by-parameter a i b) = inr (inl (i, fails-iff _ (exists-iff _) .1 b))
+unnamed-template g t p q (by-node d y b n) = inr (inr (failing d y b (fails-iff _ (node-names g t (formOf t y) (fieldB t y)) .1 n)))
+
+least-template : (g t : List ℕ) → templatesLimits t ≡ none → (p q : ℕ) → In p (templates t) → TemplateAt t p q
+    → Least (TemplateUnnamed g t p) p q (templateNames g t p)
+unfolding templateNames parameterHeads body
+least-template g t l p q i a =
+    least-same (λ q. (template-unnamed g t p q, unnamed-template g t p q))
+    (least-both (least-need _ p)
+    (least-both (least-row (λ p q f. f .end) (λ a. exists (type t (fieldB t a))) (a .parameters))
+    (rw (← at-itself (tree (nodeNamed g t) (nodesBelow t) deepest (body t p)))
+    (least-shallow (nodes-standing t) (nodeNamed g t) deepest (body t p) (p + 1 + fieldA t p) q (refl, a .body) (node-shallow t l p i)))))
+
+abbrev UnnamedIn : List ℕ → List ℕ → ℕ → Type 0
+UnnamedIn g t q = Some (numbered 0 (types t)) (λ x. TypeUnnamed g t (x .0) (x .1)) q ⊎ Some (templates t) (TemplateUnnamed g t) q
+
+templates-unnamed : (g t : List ℕ) (q : ℕ) → UnnamedIn g t q → TemplatesUnnamed g t q
+unfolding type
+templates-unnamed g t q (inl ((n, p), i, o)) = let r = in-numbered 0 (types t) i in
+    in-type n p q (rw (let z : n ≡ r .0 = omega arith in z) (r .2)) o
+templates-unnamed g t q (inr (p, i, o)) = in-template p q i o
+
+unnamed-templates : (g t : List ℕ) (q : ℕ) → TemplatesUnnamed g t q → UnnamedIn g t q
+unfolding type
+unnamed-templates g t q (in-type n p r e o) =
+    inl ((n, p), subst (λ (m : ℕ). In (m, p) (numbered 0 (types t))) (let z : 0 + n ≡ n = omega arith in z) (numbered-in 0 (types t) n p e), o)
+unnamed-templates g t q (in-template p r i o) = inr (p, i, o)
+
+pub first-templates-unnamed : (g t : List ℕ) → WellSized t → TemplatesLaid t → templatesLimits t ≡ none → First (TemplatesUnnamed g t) (templatesNames g t)
+unfolding templatesNames
+first-templates-unnamed g t w h l =
+    first-same (λ q. (templates-unnamed g t q, unnamed-templates g t q))
+    (least-both (least-types g t w h) (least-heads (TemplateUnnamed g t) (templateNames g t) (least-template g t l) (template-rows w h)) .first)
+
+-- 6. Of a class: its own test, and then its ranges'
+abbrev ClassIn : List ℕ → ℕ → ℕ → Type 0
+ClassIn g p q = ((q ≡ p) × (leb (fieldB g p) (fieldC g p) ≡ false)) ⊎ (In q (ranges g p) × (rangeRight g q ≡ false))
+
+and-no : (b : Bool) → (b && false) ≡ false
+and-no true = refl
+and-no false = refl
+
+wrong-range : (g : List ℕ) (p r : ℕ) → In r (ranges g p) → (a b : Bool) → leb (lowest g r) (highest g r) ≡ a → leb (highest g r) 0x10ffff ≡ b
+    → (a && b) ≡ false → WrongClass g p r
+wrong-range g p r i true b k l e = past-unicode r i (leb-false _ _ (l ∙ e))
+wrong-range g p r i false b k l e = lowest-above-highest r i (leb-false _ _ k)
+
+wrong-class : (g : List ℕ) (p q : ℕ) → ClassIn g p q → WrongClass g p q
+unfolding rangeRight
+wrong-class g p q (inl (e, b)) = subst (WrongClass g p) (sym e) (least-above-most (leb-false _ _ b))
+wrong-class g p q (inr (i, b)) = wrong-range g p q i _ _ refl refl b
+
+class-wrong : (g : List ℕ) (p q : ℕ) → WrongClass g p q → ClassIn g p q
+unfolding rangeRight
+class-wrong g p q (least-above-most l) = inl (refl, lt-leb _ _ l)
+class-wrong g p q (lowest-above-highest r i l) = inr (i, rw (lt-leb (lowest g r) (highest g r) l))
+class-wrong g p q (past-unicode r i l) = inr (i, rw (lt-leb (highest g r) 0x10ffff l) (and-no (leb (lowest g r) (highest g r))))
+
+least-class : (g : List ℕ) (p q : ℕ) → AnyClass g p q → Least (WrongClass g p) p q (classBounds g p)
+unfolding classBounds ranges
+least-class g p q (n, a) =
+    least-same (λ q. (wrong-class g p q, class-wrong g p q)) (least-both (least-need _ p) (least-row (λ p q r. r .end) (rangeRight g) (a .ranges)))
+
+pub first-class : (g : List ℕ) → WellSized g → GrammarLaid g → First (Some (classes g) (WrongClass g)) (grammarClasses g)
+unfolding grammarClasses
+first-class g w h = least-heads (WrongClass g) (classBounds g) (λ p q i. least-class g p q) (class-rows w h) .first
+
+-- 7. That a type is declared, and then each template's tree
+abbrev MisfitIn : List ℕ → List ℕ → ℕ → Type 0
+MisfitIn g t q =
+    ((q ≡ 0) × (exists (declaredType t) ≡ false)) ⊎ Some (templates t) (λ p. Fails (suits g t) (sitesBelow g t) (λ x. x .node) (bodySite t p)) q
+
+declared-iff : (t : List ℕ) → (exists (declaredType t) ≡ true) ↔ ((ty : ℕ) × Declared t ty)
+declared-iff t = (
+  λ e. let a = exists-iff (declaredType t) .0 e in (a .0, declared-exactly t (a .0) .0 (a .1)),
+  λ d. exists-iff (declaredType t) .1 (d .0, declared-exactly t (d .0) .1 (d .1)),
+)
+
+misfit-to : (g t : List ℕ) (q : ℕ) → MisfitIn g t q → Misfit g t q
+misfit-to g t q (inl (e, b)) = subst (Misfit g t) (sym e) (undeclared (λ ty d. fails-iff _ (declared-iff t) .0 b (ty, d)))
+misfit-to g t q (inr (p, i, failing d x b e)) = unsuited p d x i b e
+
+misfit-from : (g t : List ℕ) (q : ℕ) → Misfit g t q → MisfitIn g t q
+misfit-from g t q (undeclared n) = inl (refl, fails-iff _ (declared-iff t) .1 (λ d. n (d .0) (d .1)))
+misfit-from g t q (unsuited p d x i b e) = inr (p, i, failing d x b e)
+
+least-unsuited : (g t : List ℕ) → templatesLimits t ≡ none → (p q : ℕ) → In p (templates t) → TemplateAt t p q
+    → Least (Fails (suits g t) (sitesBelow g t) (λ x. x .node) (bodySite t p)) p q (at (λ x. x .node) (misfit g t deepest (bodySite t p)))
+unfolding misfit bodySite site body
+least-unsuited g t l p q i a =
+    least-wide (omega arith) (omega arith)
+    (least-shallow (standing-leading (λ x. x .node) (sitesBelow g t) (nodesBelow t) (sites-leading g t) (nodes-standing t))
+    (suits g t) deepest (bodySite t p) (p + 1 + fieldA t p) q (refl, a .body)
+    (λ d x b. node-shallow t l p i d (x .node) (below-leading (λ x. x .node) (sitesBelow g t) (nodesBelow t) (sites-leading g t) b)))
+
+pub first-misfit : (g t : List ℕ) → WellSized t → TemplatesLaid t → templatesLimits t ≡ none → First (Misfit g t) (templatesTyping g t)
+unfolding templatesTyping
+first-misfit g t w h l =
+    first-same (λ q. (misfit-to g t q, misfit-from g t q))
+    (first-both _ _ (λ p q a b l. let e : p ≡ 0 = a .0 in omega arith) (first-need _ 0) (least-heads _ _ (least-unsuited g t l) (template-rows w h) .first))
+
+-- 8
+mistyped-to : (g t v : List ℕ) (ty : ℕ) → Declared t ty → (q : ℕ) → Fails (hasType g t v) (typedBelow t v) (λ x. x .value) (typed ty 0) q → Mistyped g t v q
+mistyped-to g t v ty e q (failing d x b f) = not-of-type ty d x e b f
+
+mistyped-from : (g t v : List ℕ) (ty : ℕ) → Declared t ty → (q : ℕ) → Mistyped g t v q → Fails (hasType g t v) (typedBelow t v) (λ x. x .value) (typed ty 0) q
+mistyped-from g t v ty e q (not-of-type u d x f b n) =
+    let same : u ≡ ty = Option·some-injective u ty (sym (declared-exactly t u .1 f) ∙ declared-exactly t ty .1 e) in
+    failing d x (subst (λ (z : ℕ). Below (typedBelow t v) (typed z 0) d x) same b) n
+
+pub first-mistyped : (g t v : List ℕ) (ty : ℕ) → Declared t ty → ValueLaid v → valueLimits v ≡ none → First (Mistyped g t v) (valueTyping g t v)
+unfolding valueTyping mistyped onFound typed
+first-mistyped g t v ty e h l =
+    rw (declared-exactly t ty .1 e)
+    (first-same (λ q. (mistyped-to g t v ty e q, mistyped-from g t v ty e q))
+    (least-shallow (standing-leading (λ x. x .value) (typedBelow t v) (valuesBelow v) (typed-leading t v) (values-standing v))
+    (hasType g t v) deepest (typed ty 0) 0 (h .end) (refl, h .value)
+    (λ d x b. value-shallow v l d (x .value) (below-leading (λ x. x .value) (typedBelow t v) (valuesBelow v) (typed-leading t v) b)) .first))
