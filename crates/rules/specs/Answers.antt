@@ -1,7 +1,6 @@
 -- Answers, section "What stops a run": the five fields, the order of the checks, and one definition for each call.
-use Prim.Native.Nat.{ℕ, zero, suc, _*_, _/_}
+use Prim.Native.Nat.{ℕ, _*_}
 use mathlib.Core.List.{List, [], _∷_, _++_}
-use mathlib.Core.Bool.{Bool, true, false, cond}
 use mathlib.Core.Option.{Option, none, some}
 use lib.ListN.{length, drop, replicate}
 use lib.Dec.{leb}
@@ -12,7 +11,7 @@ use Rattle.rules.specs.Limits.{deepest, templatesLimits, valueLimits}
 use Rattle.rules.specs.Names.{grammarNames, templatesNames}
 use Rattle.rules.specs.Classes.{grammarClasses}
 use Rattle.rules.specs.Typing.{templatesTyping, valueTyping}
-use Rattle.rules.specs.Walk.{Input, State, Limit, fuel-spent, too-deep, output-full, End, done, ended, stuck, walk}
+use Rattle.rules.specs.Walk.{Input, Limit, fuel-spent, too-deep, output-full, End, done, ended, stuck, walk}
 use Rattle.rules.specs.declared.Answer.{Answer}
 
 -- "An answer is a number (0 finished), stream kind, place, steps, bytes written."

@@ -1,8 +1,8 @@
 -- The grammar's records, section "Records": classes with their ranges, then productions with their elements.
 use Prim.Native.Nat.{ℕ, zero, suc, _+_, _-_}
 use mathlib.Core.List.{List, [], _∷_, map}
-use mathlib.Core.Bool.{Bool, true, false, cond, _||_}
-use mathlib.Core.Option.{Option, none, some}
+use mathlib.Core.Bool.{Bool, false, cond, _||_}
+use mathlib.Core.Option.{Option}
 use lib.Dec.{eqb}
 use Rattle.rules.specs.Records.{recordCount, kindOf, fieldA, fieldB, fieldD, units, textOf, heads, after, things, ofKind, nth}
 

@@ -1,7 +1,7 @@
 -- Layout, section "Records" and refusal 3; "Unused fields are zero." Each definition reads the records of one thing from p on and answers the place after it, if they lay one out.
 use Prim.Native.Nat.{ℕ, zero, suc, _+_, _-_}
-use mathlib.Core.List.{List, [], _∷_}
-use mathlib.Core.Bool.{Bool, true, false, cond, not, _&&_}
+use mathlib.Core.List.{List}
+use mathlib.Core.Bool.{Bool, true, false, cond, _&&_}
 use mathlib.Core.Option.{Option, none, some}
 use lib.ListN.{drop}
 use lib.Dec.{eqb, leb, ltb}

@@ -1,5 +1,5 @@
 -- Lexemes, section "Typing": "A lexeme of a class is well-formed UTF-8 (RFC 3629) with a character count from least to most, each character in some range."
-use Prim.Native.Nat.{ℕ, zero, suc, _+_, _-_, _*_}
+use Prim.Native.Nat.{ℕ, _+_, _-_, _*_}
 use mathlib.Core.List.{List, [], _∷_, _++_}
 use mathlib.Core.Bool.{Bool, true, false, cond, not, _&&_, _||_}
 use mathlib.Core.Option.{Option, none, some}

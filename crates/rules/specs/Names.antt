@@ -5,7 +5,7 @@ use mathlib.Core.Bool.{Bool, true}
 use mathlib.Core.Option.{Option}
 use lib.Dec.{ltb}
 use Rattle.rules.specs.Faults.{need, both, every, tree, exists}
-use Rattle.rules.specs.Records.{fieldA, fieldB, numbered}
+use Rattle.rules.specs.Records.{fieldB, numbered}
 use Rattle.rules.specs.Grammar.{class, production, productions, Element, keyword, lexeme, nonterminal, repetition, elementAt, elementHeads, nonterminalExists}
 use Rattle.rules.specs.Templates.{TypeForm, text, yes-no, list, fields, no-type, type, types, typeAt, fieldHeads, template, templates, parameterHeads, body, formOf, nodesBelow}
 use Rattle.rules.specs.Limits.{deepest}

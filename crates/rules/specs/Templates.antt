@@ -1,8 +1,8 @@
 -- The templates' records, section "Records": types, then templates with their parameters and bodies; nodes and paths.
 use Prim.Native.Nat.{ℕ, zero, suc, _+_}
 use mathlib.Core.List.{List, [], _∷_, map}
-use mathlib.Core.Bool.{Bool, true, false, cond}
-use mathlib.Core.Option.{Option, none, some}
+use mathlib.Core.Bool.{cond}
+use mathlib.Core.Option.{Option}
 use lib.ListN.{take, drop}
 use lib.Dec.{eqb}
 use Rattle.rules.specs.Faults.{onFound}

@@ -1,12 +1,12 @@
 -- Typing, section "Typing", refusals 7 and 8. A node suits its position by a test of its own; what stands below it has a position and variables of its own.
-use Prim.Native.Nat.{ℕ, zero, suc, _+_}
+use Prim.Native.Nat.{ℕ, _+_}
 use mathlib.Core.List.{List, [], _∷_, _++_, map}
 use mathlib.Core.Bool.{Bool, true, false, _&&_}
 use mathlib.Core.Option.{Option, none, some}
 use lib.ListN.{length}
 use lib.Dec.{eqb}
 use Rattle.rules.specs.Faults.{need, both, every, tree, onFound, exists, at}
-use Rattle.rules.specs.Records.{fieldA, fieldB, fieldD, textOf, nth}
+use Rattle.rules.specs.Records.{fieldB, fieldD, textOf, nth}
 use Rattle.rules.specs.Lexeme.{isLexeme}
 use Rattle.rules.specs.Grammar.{production, Element, keyword, lexeme, nonterminal, repetition, elements}
 use Rattle.rules.specs.Templates.{TypeForm, text, yes-no, list, fields, no-type, typeOf, template, templates, parameters, body, formOf, nodes, paths, path, first, second, variable, fieldNumbers}

@@ -1,8 +1,8 @@
 -- The value's records, section "Records": "1 text: b bytes, c size. 2 yes/no: a 0 or 1. 3 list and 4 record: c size, d children."
-use Prim.Native.Nat.{ℕ, zero, suc, _+_}
-use mathlib.Core.List.{List, [], _∷_}
-use mathlib.Core.Bool.{Bool, true, false, cond, _||_}
-use mathlib.Core.Option.{Option, none, some}
+use Prim.Native.Nat.{ℕ, _+_}
+use mathlib.Core.List.{List, []}
+use mathlib.Core.Bool.{Bool, cond}
+use mathlib.Core.Option.{Option}
 use lib.Dec.{eqb, leb}
 use Rattle.rules.specs.Faults.{onlyIf}
 use Rattle.rules.specs.Records.{kindOf, fieldA, fieldC, fieldD, textOf, heads}

@@ -1,26 +1,25 @@
 -- The check call accepts a grammar and template set exactly when the written rules of blocks, layout, limits, names, classes and typing hold.
-use mathlib.Core.Path.{_≡_, refl, sym, _∙_, ap, subst}
+use mathlib.Core.Path.{_≡_, refl, ap}
 use mathlib.Core.Logic.{_↔_}
 use Prim.Native.Nat.{ℕ, _+_, _/_, _<_, _≤_}
 use mathlib.Core.List.{List, [], _∷_}
-use mathlib.Core.Option.{Option, none, some, Option·some-ne-none, Option·none-ne-some, Option·some-injective}
+use mathlib.Core.Option.{Option, none, some, Option·some-ne-none}
 use native.Mathlib.Omega.{arith}
 use lib.ListN.{length}
-use lib.Dec.{leb}
-use Rattle.rules.specs.Faults.{need, both, every, onFound}
+use Rattle.rules.specs.Faults.{every, onFound}
 use Rattle.rules.specs.Blocks.{streamLength, streamBlocks}
 use Rattle.rules.specs.Grammar.{classes}
 use Rattle.rules.specs.Templates.{templates}
-use Rattle.rules.specs.Layout.{grammarLayout, templatesLayout, valueLayout}
-use Rattle.rules.specs.Limits.{deepest, templatesLimits, valueLimits}
+use Rattle.rules.specs.Layout.{valueLayout}
+use Rattle.rules.specs.Limits.{deepest, valueLimits}
 use Rattle.rules.specs.Names.{grammarNames, templatesNames}
 use Rattle.rules.specs.Classes.{grammarClasses}
-use Rattle.rules.specs.Typing.{templatesTyping, valueTyping}
+use Rattle.rules.specs.Typing.{templatesTyping}
 use Rattle.rules.specs.Value.{valuesBelow}
 use Rattle.rules.specs.Answers
-use Rattle.rules.specs.Answers.{answer, Stream, streamKind, bytesOf, layoutOf, limitsOf, placed, over, try, accept, setRefusal, checkRefusal, scratchNeeded, evaluateRefusal, check}
+use Rattle.rules.specs.Answers.{answer, Stream, streamKind, bytesOf, layoutOf, limitsOf, over, accept, setRefusal, checkRefusal, scratchNeeded, evaluateRefusal, check}
 use Rattle.rules.specs.declared.Answer.{Answer}
-use Rattle.theorems.specs.Laws.{need-iff, both-none, both-iff, In, every-nil, every-cons, placed-iff, try-iff, leb-iff, Below}
+use Rattle.theorems.specs.Laws.{need-iff, both-none, both-iff, In, placed-iff, try-iff, leb-iff, Below}
 use Rattle.theorems.specs.Refusals.{Refuses, check-refuses}
 use Rattle.theorems.specs.Streams.{WellSized, length-exactly, RightBlock, blocks-exactly}
 use Rattle.theorems.specs.LaidOut.{GrammarLaid, TemplatesLaid, ValueLaid}

@@ -1,9 +1,9 @@
 -- The customer's three demands, gathered. Each is of the definitions that the calls are proved equal to.
 use mathlib.Core.Path.{_≡_}
 use mathlib.Core.Logic.{_↔_}
-use Prim.Native.Nat.{ℕ, _+_, _*_, _≤_, _<_}
+use Prim.Native.Nat.{ℕ, _*_, _≤_, _<_}
 use mathlib.Core.List.{List, [], _∷_}
-use mathlib.Core.Option.{Option, none, some}
+use mathlib.Core.Option.{none, some}
 use lib.ListN.{length}
 use Rattle.rules.specs.Walk.{State, walk, done}
 use Rattle.rules.specs.Answers
@@ -11,7 +11,7 @@ use Rattle.rules.specs.Answers.{answer, checkRefusal, evaluateRefusal, packRefu
 use Rattle.theorems.specs.Least.{FirstBy}
 use Rattle.theorems.specs.Offences.{Offence}
 use Rattle.theorems.specs.FirstRefused.{Before, Names, first-offending}
-use Rattle.theorems.specs.Accepted.{Accepted, accepted-exactly, WellFormed, AtMost200Deep, Admitted}
+use Rattle.theorems.specs.Accepted.{Accepted, accepted-exactly, WellFormed, AtMost200Deep}
 use Rattle.theorems.specs.ValueExactly.{ValueTyped}
 use Rattle.theorems.specs.Evaluation.{EvaluatesSet}
 use Rattle.theorems.specs.EvaluatesExactly.{evaluates-exactly}

@@ -11,7 +11,7 @@ use Rattle.rules.specs.Answers.{answer, evaluateRefusal, limitNumber, Outcome, 
 use Rattle.rules.specs.declared.Answer.{Answer}
 use Rattle.theorems.specs.Laws.{placed-iff, try-iff}
 use Rattle.theorems.specs.Refusals.{Refusal, evaluate-refuses}
-use Rattle.theorems.specs.Accepted.{NoRefusal, set-none}
+use Rattle.theorems.specs.Accepted.{set-none}
 use Rattle.theorems.specs.Sound.{WellTyped, never-stuck}
 use Rattle.theorems.specs.Bounds.{when-done, when-ended, written-fits}
 

@@ -1,9 +1,8 @@
 -- Layout as a relation, in the words of section "Records": which records lay out a thing from p up to q.
 use mathlib.Core.Path.{_≡_}
-use Prim.Native.Nat.{ℕ, zero, suc, _+_, _-_, _≤_, _<_}
+use Prim.Native.Nat.{ℕ, suc, _+_, _-_, _≤_, _<_}
 use mathlib.Core.Bool.{true}
 use mathlib.Core.List.{List}
-use lib.ListN.{length}
 use Rattle.rules.specs.Records.{recordCount, byteOf, kindOf, fieldA, fieldB, fieldC, fieldD, units, paddingOf, zeros}
 
 -- so many things in a row from p up to q

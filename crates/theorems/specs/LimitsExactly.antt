@@ -1,13 +1,13 @@
 -- Refusals 4, 5 and 6 as statements, and that the checks find no fault exactly where they hold.
-use mathlib.Core.Path.{_≡_, refl, sym, _∙_, ap, subst}
+use mathlib.Core.Path.{_≡_, refl, subst}
 use mathlib.Core.Logic.{_↔_}
 use Prim.Native.Nat.{ℕ, zero, suc, _+_, _<_, _≤_}
-use mathlib.Core.List.{List, [], _∷_, _++_, map}
-use mathlib.Core.Bool.{Bool, true, false, _&&_, _||_, false≢true}
-use mathlib.Core.Option.{Option, none, some, Option·some-ne-none, Option·none-ne-some, Option·some-injective}
+use mathlib.Core.List.{List, [], _∷_}
+use mathlib.Core.Bool.{Bool, true, false, _||_, false≢true}
+use mathlib.Core.Option.{Option, none, some, Option·none-ne-some, Option·some-injective}
 use native.Mathlib.Omega.{arith}
-use lib.Dec.{eqb, leb, ltb}
-use Rattle.rules.specs.Faults.{need, both, every, tree, at, exists}
+use lib.Dec.{eqb}
+use Rattle.rules.specs.Faults.{every}
 use Rattle.rules.specs.Records.{fieldA, fieldB, fieldC, nth, numbered}
 use Rattle.rules.specs.Lexeme.{lowest, highest, ranges}
 use Rattle.rules.specs.Grammar.{class, classes, production, productions, Element, keyword, lexeme, nonterminal, repetition, elementAt, elementHeads, hasProduction, nonterminalExists}
@@ -18,7 +18,7 @@ use Rattle.rules.specs.Names.{elementNamed, grammarNames, typeNamed, typeNames,
 use Rattle.rules.specs.Classes.{rangeRight, classBounds, grammarClasses}
 use Rattle.rules.specs.declared.Form.{Form}
 use Rattle.rules.specs.declared.Form.the-variants.{Build, Literal, Place, Expand, If, For, Sequence, Unknown}
-use Rattle.theorems.specs.Laws.{need-none, need-iff, both-none, both-iff, In, here, later, in-nth, nth-in, in-map, every-in, in-every, every-nil, every-cons, exists-iff, and-iff, eqb-iff, leb-iff, ltb-iff, at-none, Below, itself, under, tree-in, in-tree}
+use Rattle.theorems.specs.Laws.{need-none, need-iff, both-none, both-iff, In, here, later, in-map, every-in, in-every, every-nil, every-cons, exists-iff, and-iff, eqb-iff, leb-iff, ltb-iff, at-none, Below, itself, under, tree-in, in-tree}
 
 -- 4, of a template: the body counts 1, what stands d levels below it d + 1
 pub record TemplateWithin (t : List ℕ) (p : ℕ) : Type 0 where

@@ -4,8 +4,7 @@ use mathlib.Core.Path.{_≡_, refl, ap, ap₂, sym, _∙_}
 use Prim.Native.Nat.{ℕ, zero, suc, _+_, _-_, _*_, _/_, _%_, _≤_, _<_}
 use mathlib.Core.List.{List, [], _∷_, _++_, append-assoc, append-nil}
 use mathlib.Core.Bool.{Bool, true, false}
-use mathlib.Core.Logic.{_↔_}
-use mathlib.Core.Option.{Option, none, some, Option·some-ne-none}
+use mathlib.Core.Option.{none}
 use native.Mathlib.Omega.{arith}
 use native.Mathlib.Nat.{mod-eq-of-lt, sub-zero, add-zero, zero-add}
 use borrow.Author.Tests.{le-leb, leb-true, leb-false}
@@ -16,8 +15,7 @@ use lib.Bits.{bitXor}
 use lib.Seq.{length-take-le, take-at, drop-at, getD-append-add, take-all, drop-drop, take-append-seam}
 use Rattle.rules.specs.Records.{word}
 use Rattle.rules.specs.Blocks.{fnvStart, multiplied, fnv1a, word32, isKind, streamLength, block, streamBlocks, bytes32, checked, filled, packedBlock, packedBlocks, packed, payloadLength, payloads, unpacked}
-use Rattle.rules.specs.Answers.{answer, placed, try, accept, packRefusal, unpackRefusal, Written, written, pack, unpack}
-use Rattle.rules.specs.declared.Answer.{Answer}
+use Rattle.rules.specs.Answers.{answer, accept, packRefusal, unpackRefusal, Written, written, pack, unpack}
 use Rattle.theorems.specs.Laws.{need-iff, both-iff, and-iff, leb-iff, placed-iff, try-iff}
 use Rattle.theorems.specs.Streams.{length-exactly, RightBlock, blocks-exactly}
 

@@ -1,15 +1,15 @@
 -- Refusal 7 exactly, of templates within the limits: the check finds no fault where the judgements hold, and nowhere else.
 use mathlib.Core.Path.{_≡_, refl, sym, _∙_, ap, subst}
 use mathlib.Core.Logic.{_↔_}
-use Prim.Native.Nat.{ℕ, zero, suc, _+_, _<_, _≤_}
+use Prim.Native.Nat.{ℕ, zero, suc, _+_, _<_}
 use mathlib.Core.List.{List, [], _∷_, _++_, map}
-use mathlib.Core.Bool.{Bool, true, false, _&&_, false≢true}
+use mathlib.Core.Bool.{true, false≢true}
 use mathlib.Core.Option.{Option, none, some, Option·some-ne-none, Option·none-ne-some, Option·some-injective}
 use native.Mathlib.Omega.{arith}
 use lib.ListN.{length}
 use lib.Dec.{eqb}
 use Rattle.rules.specs.Faults.{need, both, every, tree, onFound, at, exists}
-use Rattle.rules.specs.Records.{kindOf, fieldB, fieldC, fieldD, textOf, nth, heads}
+use Rattle.rules.specs.Records.{fieldB, fieldC, fieldD, textOf, nth, heads}
 use Rattle.rules.specs.Lexeme.{isLexeme}
 use Rattle.rules.specs.Grammar.{production, Element, keyword, lexeme, nonterminal, repetition, elements}
 use Rattle.rules.specs.Templates.{TypeForm, text, yes-no, list, fields, no-type, typeOf, template, templates, parameters, body, formOf, nodes, nodesOf, nodesBelow, paths, path, first, second, variable, fieldNumbers}
@@ -18,7 +18,7 @@ use Rattle.rules.specs.declared.Form.{Form}
 use Rattle.rules.specs.declared.Form.the-variants.{Build, Literal, Place, Expand, If, For, Sequence, Unknown}
 use Rattle.rules.specs.declared.Position.{Position}
 use Rattle.rules.specs.declared.Position.the-variants.{Class, Nonterminal, Repetition, Item}
-use Rattle.theorems.specs.Laws.{need-none, need-iff, both-none, both-iff, In, here, later, every-in, in-every, every-nil, every-cons, exists-iff, onFound-true, onFound-some, found, and-iff, eqb-iff, at-none, Below, itself, under, tree-in, in-tree}
+use Rattle.theorems.specs.Laws.{need-none, need-iff, both-none, both-iff, In, here, later, every-in, in-every, every-nil, every-cons, exists-iff, onFound-true, onFound-some, found, and-iff, eqb-iff, at-none, Below, itself, under}
 use Rattle.rules.specs.Limits.{deepest}
 use Rattle.theorems.specs.LimitsExactly.{TemplateWithin, not-deep}
 use Rattle.theorems.specs.Judgement.{Along, arrived, a-field, PathTyped, Arguments, no-argument, an-argument, Suits, by-build, by-literal, by-place, by-expand, by-if, by-for, by-sequence, as-item, Fills, all-filled, no-child, a-lexeme, a-text, a-row, Items, no-item, an-item}

@@ -1,21 +1,21 @@
 -- Refusal 8 exactly, of a value at most 200 deep: the check finds no fault where the value is of its declared type, and nowhere else.
-use mathlib.Core.Path.{_≡_, refl, sym, _∙_, ap, subst}
+use mathlib.Core.Path.{_≡_, refl, sym, ap, subst}
 use mathlib.Core.Logic.{_↔_}
-use Prim.Native.Nat.{ℕ, zero, suc, _+_, _<_, _≤_}
-use mathlib.Core.List.{List, [], _∷_, _++_, map}
-use mathlib.Core.Bool.{Bool, true, false, _&&_, false≢true}
-use mathlib.Core.Option.{Option, none, some, Option·some-ne-none, Option·none-ne-some, Option·some-injective}
+use Prim.Native.Nat.{ℕ, zero, suc, _<_, _≤_}
+use mathlib.Core.List.{List, [], _∷_, map}
+use mathlib.Core.Bool.{true, false≢true}
+use mathlib.Core.Option.{Option, none, some, Option·some-ne-none}
 use native.Mathlib.Omega.{arith}
 use lib.ListN.{length}
-use lib.Dec.{eqb, leb}
-use Rattle.rules.specs.Faults.{need, both, every, tree, onFound, at, onlyIf, exists}
-use Rattle.rules.specs.Records.{kindOf, fieldD, textOf}
+use lib.Dec.{eqb}
+use Rattle.rules.specs.Faults.{need, both, every, tree, onFound, onlyIf, exists}
+use Rattle.rules.specs.Records.{kindOf, textOf}
 use Rattle.rules.specs.Lexeme.{isLexeme}
 use Rattle.rules.specs.Templates.{TypeForm, text, yes-no, list, fields, no-type, typeOf}
 use Rattle.rules.specs.Value.{children, asText, asYesNo, asList, asRecord, valuesBelow}
 use Rattle.rules.specs.Limits.{deepest, valueLimits}
 use Rattle.rules.specs.Typing.{Typed, typed, hasForm, hasType, paired, typedOf, typedBelow, mistyped, declaredType, valueTyping}
-use Rattle.theorems.specs.Laws.{need-none, both-none, In, here, later, every-in, in-every, every-nil, every-cons, exists-iff, onFound-true, onFound-none, only-if-iff, found, eqb-iff, leb-iff, at-none, Below, itself, under, tree-in}
+use Rattle.theorems.specs.Laws.{need-none, both-none, In, here, later, every-nil, every-cons, exists-iff, onFound-true, onFound-none, only-if-iff, found, eqb-iff, leb-iff, at-none, Below, itself, under, tree-in}
 use Rattle.theorems.specs.TypingExactly.{Declared, declared-exactly}
 use Rattle.theorems.specs.Judgement.{OfType, of-text, of-yes-no, of-list, of-record, AllOf, none-left, one-of, EachOf, no-field, a-field}
 
