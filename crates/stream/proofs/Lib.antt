@@ -1,0 +1,6 @@
+pub mod FnvLaws
+pub mod BlockLaws
+pub mod PackLaws
+pub mod RecordLaws
+pub mod TextLaws
+pub mod TextCopyLaws

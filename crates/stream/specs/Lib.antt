@@ -1,0 +1,3 @@
+pub mod Fault
+pub mod Record
+pub mod Text

@@ -1,0 +1,49 @@
+-- A record fetched whole, and where it lies. The fields are those of crate rules: 0 past the end of the stream.
+use Prim.Native.Nat.{ℕ, _+_, _*_, _/_, _%_, _<_, _^_}
+use mathlib.Core.Path.{_≡_}
+use mathlib.Core.List.{List}
+use lib.ListN.{length, getD}
+use Rattle.rules.specs.Records.{base, word, byteOf, kindOf, fieldA, fieldB, fieldC, fieldD}
+use Rattle.stream.specs.declared.record.Record.{Record}
+use Rattle.stream.specs.declared.record.Place.{Place}
+
+-- the record whose 8 bytes begin at an address
+unfoldable pub recordAt : List ℕ → ℕ → Record
+recordAt s at = record { kind = getD s at 0; a = getD s (at + 1) 0; b = word s (at + 2); c = word s (at + 4); d = word s (at + 6) }
+
+-- r is the 8 bytes that begin at an address
+pub record Padded (s : List ℕ) (at : ℕ) (r : List ℕ) : Type 0 where
+  pub eight : length r ≡ 8
+  pub same : (k : ℕ) → k < 8 → getD r k 0 ≡ getD s (at + k) 0
+
+-- record i of a stream
+unfoldable pub recordOf : List ℕ → ℕ → Record
+recordOf s i = record { kind = kindOf s i; a = fieldA s i; b = fieldB s i; c = fieldC s i; d = fieldD s i }
+
+-- r is record i of a stream of bytes, field by field
+pub record Fetched (s : List ℕ) (i : ℕ) (r : Record) : Type 0 where
+  pub kind : r .kind ≡ kindOf s i
+  pub a : r .a ≡ fieldA s i
+  pub b : r .b ≡ fieldB s i
+  pub c : r .c ≡ fieldC s i
+  pub d : r .d ≡ fieldD s i
+  pub small : (j : ℕ) → byteOf s i j < 256
+
+-- the 8 bytes of record i, from its fields (`eight-bytes`, of RecordLaws, for a record that was fetched)
+pub record EightBytes (s : List ℕ) (i : ℕ) (r : Record) : Type 0 where
+  pub byte0 : byteOf s i 0 ≡ r .kind
+  pub byte1 : byteOf s i 1 ≡ r .a
+  pub byte2 : byteOf s i 2 ≡ r .b % 256
+  pub byte3 : byteOf s i 3 ≡ r .b / 256
+  pub byte4 : byteOf s i 4 ≡ r .c % 256
+  pub byte5 : byteOf s i 5 ≡ r .c / 256
+  pub byte6 : byteOf s i 6 ≡ r .d % 256
+  pub byte7 : byteOf s i 7 ≡ r .d / 256
+
+-- the place of record i: its address, and which of its block's 63 records it is
+unfoldable pub placeOf : ℕ → Place
+placeOf i = record { at = base i; slot = i % 63 }
+
+-- n records on from a place, its numbers stay below 2^64
+pub record Reach (p : Place) (n : ℕ) : Type 0 where
+  pub reach : p .at + p .slot + 16 * n < 2 ^ 64

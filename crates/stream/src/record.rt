@@ -1,0 +1,159 @@
+// The fetch of a record, whole: by its index, or by a place that a scan carries from head to head.
+ghost use mathlib.Core.Path.{_≡_};
+ghost use Prim.Native.Nat.{ℕ, _+_, _-_, _*_, _/_, min, _≤_, _<_, _^_};
+ghost use lib.ListN.{length};
+ghost use Rattle.rules.specs.Records.{base};
+ghost use Rattle.stream.specs.Record.{Fetched, recordAt, Padded, placeOf, Reach};
+
+// A record: byte 0, byte 1, and three words of 16 bits. Bytes 2 to 7 are the words' low and high bytes.
+pub struct Record {
+    pub kind: u8,
+    pub a: u8,
+    pub b: u16,
+    pub c: u16,
+    pub d: u16,
+}
+
+// Where a record lies: its address in the stream, and which of its block's 63 records it is.
+pub struct Place {
+    pub at: usize,
+    pub slot: usize,
+}
+
+// The block that record i is in. Nothing else divides by 63.
+fn block_of(i: usize) -> usize
+    ensures { λ r. ⌜ r ≡ i / 63 ⌝ }
+{
+    i / 63
+}
+
+// The address of record i in its block: 8 bytes for each record before it, 8 for each block's head and check, and the head's 4.
+fn address(i: usize, block: usize) -> usize
+    requires { ⌜ (block ≡ i / 63) × (i < 2 ^ 60) ⌝ }
+    ensures { λ r. ⌜ r ≡ base i ⌝ }
+{
+    8 * (i + block) + 4
+}
+
+fn word_of(low: u8, high: u8) -> u16
+    ensures { λ r. ⌜ r ≡ low + 256 * high ⌝ }
+{
+    low as u16 + 256 * (high as u16)
+}
+
+// The record at an address, where its 8 bytes lie inside the slice.
+fn inside(s: &[u8], at: usize) -> Record
+    requires { ⌜ at + 8 ≤ length (now s) ⌝ }
+    ensures { λ r. ⌜ r ≡ recordAt (now (s .entry)) at ⌝ }
+{
+    Record {
+        kind: s[at],
+        a: s[at + 1],
+        b: word_of(s[at + 2], s[at + 3]),
+        c: word_of(s[at + 4], s[at + 5]),
+        d: word_of(s[at + 6], s[at + 7]),
+    }
+}
+
+fn zeros() -> Record
+    ensures { λ r. ⌜ (r .kind ≡ 0) × (r .a ≡ 0) × (r .b ≡ 0) × (r .c ≡ 0) × (r .d ≡ 0) ⌝ }
+{
+    Record {
+        kind: 0,
+        a: 0,
+        b: 0,
+        c: 0,
+        d: 0,
+    }
+}
+
+// How many of the 8 bytes at an address a slice of n bytes holds.
+fn held(n: usize, at: usize) -> usize
+    ensures { λ r. ⌜ r ≡ min 8 (n - at) ⌝ }
+{
+    if n <= at {
+        return 0;
+    }
+    if 8 < n - at { 8 } else { n - at }
+}
+
+// The 8 bytes at an address, 0 for each past the end of the slice.
+fn padded(s: &[u8], at: usize) -> [u8; 8]
+    ensures { λ r. ⌜ Padded (now (s .entry)) at r ⌝ }
+{
+    let n = held(s.len(), at);
+    let mut bytes = [0u8; 8];
+    let mut j = 0;
+    while j < n {
+        bytes[j] = s[at + j];
+        j += 1;
+    }
+    bytes
+}
+
+// The record at an address, where the end of the slice cuts it. It is read from a copy, so that this rare case stays small where it is inlined.
+fn cut(s: &[u8], at: usize) -> Record
+    ensures { λ r. ⌜ r ≡ recordAt (now (s .entry)) at ⌝ }
+{
+    let bytes = padded(s, at);
+    inside(&bytes, 0)
+}
+
+// Record i: one test and one address where its block is whole, which it is in every stream that is let through.
+pub fn fetch(s: &[u8], i: usize) -> Record
+    ensures { λ r. ⌜ Fetched (now (s .entry)) i r ⌝ }
+{
+    let block = block_of(i);
+    let blocks = s.len() / 512;
+    if block < blocks {
+        return inside(s, address(i, block));
+    }
+    if blocks < block {
+        return zeros();
+    }
+    cut(s, address(i, block))
+}
+
+// The record at a place.
+pub fn fetch_at(s: &[u8], p: Place) -> Record
+    ensures { λ r. ⌜ ((i : ℕ) → p ≡ placeOf i → Fetched (now (s .entry)) i r) ⌝ }
+{
+    let at = p.at;
+    if at < s.len() {
+        if 8 <= s.len() - at {
+            return inside(s, at);
+        }
+    }
+    cut(s, at)
+}
+
+// The place of record i: where a scan starts.
+pub fn place_of(i: usize) -> Place
+    requires { ⌜ i < 2 ^ 60 ⌝ }
+    ensures { λ r. ⌜ r ≡ placeOf i ⌝ }
+{
+    let block = block_of(i);
+    Place {
+        at: address(i, block),
+        slot: i - 63 * block,
+    }
+}
+
+// The place n records on. Most steps stay in the block, and divide nothing.
+pub fn forward(p: Place, n: usize) -> Place
+    requires { ⌜ Reach p n ⌝ }
+    ensures { λ r. ⌜ ((i : ℕ) → p ≡ placeOf i → r ≡ placeOf (i + n)) ⌝ }
+{
+    let slot = p.slot + n;
+    if slot < 63 {
+        return Place {
+            at: p.at + 8 * n,
+            slot: slot,
+        };
+    }
+    let blocks = block_of(slot);
+    Place {
+        at: p.at + 8 * (n + blocks),
+        slot: slot - 63 * blocks,
+    }
+}

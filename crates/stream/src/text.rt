@@ -1,0 +1,132 @@
+// The reader of text. The bytes of a text lie in the payloads of blocks in a row; they are handed on block by block, as parts of the stream.
+ghost use mathlib.Core.Path.{_≡_};
+ghost use mathlib.Core.List.{_++_};
+ghost use Prim.Native.Nat.{min, _≤_, _<_, _^_};
+ghost use lib.ListN.{length, drop};
+ghost use Rattle.rules.specs.Records.{textOf};
+ghost use Rattle.stream.specs.Text.{textIn, textAfter, Begins, BeginsAt, room, partOf, Rest, Copied};
+use crate::copy::copy_into;
+use crate::record::Place;
+use crate::record::fetch;
+use crate::record::place_of;
+
+// A text, or what is left of one: the address of its first byte, and the number of its bytes.
+pub struct Text {
+    pub at: usize,
+    pub left: usize,
+}
+
+// The text of n bytes after the head at record i. A head past the end of the stream has none.
+pub fn text_after(s: &[u8], i: usize, n: usize) -> Text
+    ensures { λ t. ⌜ Begins (now (s .entry)) (textAfter (now (s .entry)) i n) n t ⌝ }
+{
+    if s.len() / 8 <= i {
+        return Text { at: 0, left: 0 };
+    }
+    text_from(place_of(i + 1), n)
+}
+
+// The text of the head at record i, of as many bytes as its field b says.
+pub fn text_of(s: &[u8], i: usize) -> Text
+    ensures { λ t. ⌜ Begins (now (s .entry)) (textOf (now (s .entry)) i) 65535 t ⌝ }
+{
+    let head = fetch(s, i);
+    text_after(s, i, head.b as usize)
+}
+
+// The text of n bytes whose first unit is the record at a place, after a head that was carried there.
+pub fn text_from(p: Place, n: usize) -> Text
+    ensures { λ t. ⌜ BeginsAt p n t ⌝ }
+{
+    Text { at: p.at, left: n }
+}
+
+pub(crate) fn least(a: usize, b: usize) -> usize
+    ensures { λ r. ⌜ r ≡ min a b ⌝ }
+{
+    if a < b { a } else { b }
+}
+
+// How many bytes of payload a block has from an address on.
+fn room_at(at: usize) -> usize
+    requires { ⌜ at < 2 ^ 63 ⌝ }
+    ensures { λ r. ⌜ r ≡ room at ⌝ }
+{
+    512 - (at + 4) % 512
+}
+
+// The part of a text that stands in the block of its first byte.
+pub fn text_part(s: &[u8], t: Text) -> &[u8]
+    ensures { λ r. ⌜ now r ≡ partOf (now (s .entry)) t ⌝ }
+{
+    let at = t.at;
+    if s.len() <= at {
+        return &s[0..0];
+    }
+    let here = least(t.left, room_at(at));
+    let end = at + least(here, s.len() - at);
+    &s[at..end]
+}
+
+// The text after that part. It goes on behind the block's check and the head of the next block.
+pub fn text_rest(s: &[u8], t: Text) -> Text
+    ensures { λ r. ⌜ Rest (now (s .entry)) t r ⌝ }
+{
+    let at = t.at;
+    if s.len() <= at {
+        return Text { at: at, left: 0 };
+    }
+    let here = room_at(at);
+    if t.left <= here {
+        return Text { at: at, left: 0 };
+    }
+    Text {
+        at: at + here + 8,
+        left: t.left - here,
+    }
+}
+
+// How many bytes of a text the stream has: a text that runs past its end is cut short. The pattern of a scan: the state after a part is the
+// start of the next.
+pub fn text_len(s: &[u8], t: Text) -> usize
+    ensures { λ r. ⌜ r ≡ length (textIn (now (s .entry)) t) ⌝ }
+{
+    let mut rest = t;
+    let mut n = 0;
+    while 0 < rest.left {
+        let part = text_part(s, rest);
+        n += part.len();
+        rest = text_rest(s, rest);
+    }
+    n
+}
+
+// A text that fits, part by part.
+fn copy_parts(s: &[u8], t: Text, out: &mut [u8]) -> usize
+    requires { ⌜ length (textIn (now s) t) ≤ length (now out) ⌝ }
+    ensures { λ r. ⌜ Copied (textIn (now (s .entry)) t) (now (out .entry)) (now (out .exit)) r ⌝ }
+{
+    let mut rest = t;
+    let mut done = 0;
+    while 0 < rest.left {
+        let part = text_part(s, rest);
+        copy_into(part, &mut out[done..]);
+        done += part.len();
+        rest = text_rest(s, rest);
+    }
+    done
+}
+
+// A text to the beginning of out: whole or not at all. The answer is its length, whether it fits or not. Its bytes are counted
+// beforehand only where it may not fit.
+pub fn copy_text(s: &[u8], t: Text, out: &mut [u8]) -> usize
+    ensures { λ r. ⌜ Copied (textIn (now (s .entry)) t) (now (out .entry)) (now (out .exit)) r ⌝ }
+{
+    if out.len() < t.left {
+        let n = text_len(s, t);
+        if out.len() < n {
+            return n;
+        }
+    }
+    copy_parts(s, t, out)
+}
