@@ -1,0 +1,223 @@
+-- Steps of the check of a grammar's layout, in the shape of the code.
+use Prim.Native.Nat.{ℕ, zero, suc, _+_, _-_, _*_, _/_, _<_, _≤_}
+use mathlib.Core.Path.{_≡_, refl, sym, _∙_, ap}
+use mathlib.Core.Bool.{Bool, true, false, cond, _&&_}
+use mathlib.Core.List.{List}
+use mathlib.Core.Option.{Option, none, some, Option·none-ne-some, Option·some-injective}
+use native.Mathlib.Omega.{arith}
+use native.Mathlib.Numerals.{add-one}
+use native.Mathlib.Nat.{sub-zero, add-assoc}
+use borrow.Author.Tests.{eq-eqb, ne-eqb, eqb-true}
+use lib.Dec.{eqb, leb}
+use Rattle.rules.specs.Faults.{need, onFound, onlyIf}
+use Rattle.rules.specs.Records.{base, word, recordCount, byteOf, kindOf, fieldA, fieldB, fieldC, fieldD, paddingOf, zeros, units}
+use Rattle.rules.specs.Layout.{thenRead, inRow, whileKind, textEnd, rangeEnd, classEnd, elementEnd, productionEnd, grammarEnd, tailRight, layoutFault, grammarLayout}
+use Rattle.stream.specs.Record.{Fetched}
+use Rattle.stream.specs.declared.record.Record.{Record}
+use Rattle.layout.specs.Grammar.{endOf, elementHead}
+use Rattle.layout.specs.declared.grammar.End.{End}
+use Rattle.layout.specs.declared.grammar.End.the-variants.{At, Broken}
+use Rattle.theorems.specs.Laws.{and-iff}
+use Rattle.theorems.specs.Streams.{WellSized}
+use Rattle.theorems.specs.Heads.{by-less, byte-past}
+
+-- a record with a kind stands in the stream, which has at most 8,064
+pub few-records : {s : List ℕ} → WellSized s → recordCount s ≤ 8064
+unfolding recordCount
+few-records {s} w = let h = w .at-most in omega arith
+
+pub inside : {s : List ℕ} → WellSized s → (p kind : ℕ) → kindOf s p ≡ suc kind → p < recordCount s
+unfolding kindOf
+inside {s} w p kind e = by-less p (recordCount s) (λ l. l) (λ l. absurd (let z = byte-past w p 0 l in omega arith))
+
+-- n things in a row, of which k are read; `one` reads a thing
+
+one-less : (k n : ℕ) → n < k → k - n ≡ suc (k - (n + 1))
+one-less k n l = omega arith
+
+module _ (one : ℕ → Option ℕ) (n k p : ℕ) where
+  pub row-go : (q : ℕ) → k < n → one p ≡ some q → inRow one (n - k) p ≡ inRow one (n - (k + 1)) q
+  unfolding inRow thenRead onFound
+  row-go q l e = rw (one-less n k l, inRow, e)
+
+  pub row-broken : k < n → one p ≡ none → inRow one (n - k) p ≡ none
+  unfolding inRow thenRead onFound
+  row-broken l e = rw (one-less n k l, inRow, e)
+
+  pub row-done : n ≤ k → inRow one (n - k) p ≡ some p
+  unfolding inRow
+  row-done l = let z : n - k ≡ 0 = omega arith in rw z
+
+pub row-all : (one : ℕ → Option ℕ) (n k p : ℕ) → k ≤ n → n ≤ k → inRow one (n - k) (p + k) ≡ some (p + n)
+row-all one n k p a b = row-done one n k (p + k) b ∙ ap (λ x. some (p + x)) (let z : k ≡ n = omega arith in z)
+
+pub then-some : (o : Option ℕ) (next : ℕ → Option ℕ) (q : ℕ) → thenRead o next ≡ some q → (r : ℕ) × (o ≡ some r) × (next r ≡ some q)
+unfolding thenRead onFound
+then-some none next q e = absurd (Option·none-ne-some q e)
+then-some (some r) next q e = (r, refl, e)
+
+pub row-grows : (one : ℕ → Option ℕ) → ((p q : ℕ) → one p ≡ some q → p < q) → (n p q : ℕ) → inRow one n p ≡ some q → p ≤ q
+unfolding inRow
+row-grows one f zero p q e = let z : p ≡ q = Option·some-injective p q e in omega arith
+row-grows one f (suc n) p q e =
+    let h = then-some (one p) (inRow one n) q e in
+    let a = f p (h .0) (h .1) in
+    let b = row-grows one f n (h .0) q (h .2) in
+    omega arith
+
+-- the things of a kind, of which n are read and the next begins at p: what is left to read is the whole
+pub record Left (s : List ℕ) (kind : ℕ) (one : ℕ → ℕ → Option ℕ) (whole : Option ℕ) (n p : ℕ) : Type 0 where
+  pub fewer : n ≤ p
+  pub same : whileKind s kind one (recordCount s - n) n p ≡ whole
+
+module _ {s : List ℕ} {kind : ℕ} {one : ℕ → ℕ → Option ℕ} where
+  pub left-start : (p : ℕ) → Left s kind one (whileKind s kind one (recordCount s) 0 p) 0 p
+  left-start p = record { fewer = omega arith; same = rw sub-zero }
+
+  pub left-stop : {whole : Option ℕ} {n p : ℕ} → (kindOf s p ≡ kind → ⊥) → Left s kind one whole n p → some p ≡ whole
+  left-stop {whole} {n} {p} l h = sym (go (recordCount s - n)) ∙ h .same
+    where
+      go : (k : ℕ) → whileKind s kind one k n p ≡ some p
+      go zero = unfold whileKind in refl
+      go (suc k) = unfold whileKind in rw (ne-eqb _ _ l, whileKind)
+
+-- a turn: the thing at p is of the kind, which is not 0
+module _ {s : List ℕ} (w : WellSized s) {kind : ℕ} {one : ℕ → ℕ → Option ℕ} {whole : Option ℕ} {n p : ℕ}
+    (e : kindOf s p ≡ suc kind) (h : Left s (suc kind) one whole n p) where
+  more : n < recordCount s
+  more = let a = inside w p kind e in let b = h .fewer in omega arith
+
+  pub left-go : (q : ℕ) → one n p ≡ some q → p < q → Left s (suc kind) one whole (n + 1) q
+  unfolding whileKind thenRead onFound
+  left-go q o l = record {
+    fewer = let b = h .fewer in omega arith;
+    same = sym (rw (one-less (recordCount s) n more, whileKind, eq-eqb _ _ e, o, add-one n)) ∙ h .same;
+  }
+
+  pub left-broken : one n p ≡ none → none ≡ whole
+  unfolding whileKind thenRead onFound
+  left-broken o = sym (rw (one-less (recordCount s) n more, whileKind, eq-eqb _ _ e, o)) ∙ h .same
+
+-- What the records say, as they were fetched
+
+module _ {g : List ℕ} {p : ℕ} {r : Record} (f : Fetched g p r) where
+  pub kind-here : (kind : ℕ) → r .kind ≡ kind → kindOf g p ≡ kind
+  kind-here kind e = sym (f .kind) ∙ e
+
+  pub kind-other : (kind : ℕ) → (r .kind ≡ kind → ⊥) → kindOf g p ≡ kind → ⊥
+  kind-other kind l e = l (f .kind ∙ e)
+
+  pub near : WellSized g → (kind : ℕ) → r .kind ≡ suc kind → p < 8064
+  near w kind e = let a = inside w p kind (kind-here (suc kind) e) in let b = few-records w in omega arith
+
+  -- byte 7 is the high byte of d
+  d-is : r .d ≡ byteOf g p 6 + 256 * byteOf g p 7
+  unfolding fieldD word byteOf
+  d-is = f .d ∙ rw (add-assoc (base p) 6 1)
+
+  pub range-right : (q : ℕ) → q ≡ p + 1 → r .kind ≡ 2 → r .d ≤ 255 → rangeEnd g p ≡ some q
+  unfolding rangeEnd onlyIf
+  range-right q z k l = let e : byteOf g p 7 ≡ 0 = omega (arith, d-is) in rw (eq-eqb _ _ (kind-here 2 k), eq-eqb _ _ e, z)
+
+  pub range-other : (r .kind ≡ 2 → ⊥) → rangeEnd g p ≡ none
+  unfolding rangeEnd onlyIf
+  range-other k = rw (ne-eqb _ _ (kind-other 2 k))
+
+  pub range-over : r .kind ≡ 2 → 255 < r .d → rangeEnd g p ≡ none
+  unfolding rangeEnd onlyIf
+  range-over k l = rw (eq-eqb _ _ (kind-here 2 k), ne-eqb (byteOf g p 7) 0 (λ e. omega (arith, d-is, f .small 6)))
+
+  -- a class's number, and then its ranges
+  pub class-number : (n : ℕ) → (r .a ≡ n → ⊥) → classEnd g n p ≡ none
+  unfolding classEnd thenRead onFound onlyIf
+  class-number n l = rw (ne-eqb _ _ (λ e. l (f .a ∙ e)))
+
+  module _ (n : ℕ) {b : Bool} (e : r .a ≡ n) (h : inRow (rangeEnd g) (r .d) (p + 1) ≡ onlyIf b (p + 1 + r .d)) where
+    pub class-broken : b ≡ false → classEnd g n p ≡ none
+    unfolding classEnd thenRead onFound onlyIf
+    class-broken z = rw (eq-eqb _ _ (sym (f .a) ∙ e), ← f .d, h, z)
+
+    pub class-right : b ≡ true → classEnd g n p ≡ some (p + (1 + r .d))
+    unfolding classEnd thenRead onFound onlyIf
+    class-right z = rw (eq-eqb _ _ (sym (f .a) ∙ e), ← f .d, h, z, add-assoc)
+
+  -- a production's number, its unused c, and then its elements
+  pub production-number : (n : ℕ) → (r .a ≡ n → ⊥) → productionEnd g n p ≡ none
+  unfolding productionEnd thenRead onFound onlyIf
+  production-number n l = rw (ne-eqb _ _ (λ e. l (f .a ∙ e)))
+
+  pub production-over : (n : ℕ) → r .a ≡ n → (r .c ≡ 0 → ⊥) → productionEnd g n p ≡ none
+  unfolding productionEnd thenRead onFound onlyIf
+  production-over n e l = rw (eq-eqb _ _ (sym (f .a) ∙ e), ne-eqb _ _ (λ e. l (f .c ∙ e)))
+
+  pub production-elements : (n : ℕ) (o : Option ℕ) → r .a ≡ n → r .c ≡ 0 → inRow (elementEnd g) (r .d) (p + 1) ≡ o → productionEnd g n p ≡ o
+  unfolding productionEnd thenRead onFound onlyIf
+  production-elements n o a c h = rw (eq-eqb _ _ (sym (f .a) ∙ a), eq-eqb _ _ (sym (f .c) ∙ c), ← f .d) h
+
+  -- an element: its head, and then a keyword's text
+  head-is : elementHead r ≡ (eqb (kindOf g p) 4 && (leb (fieldA g p) 3 && (eqb (fieldC g p) 0 && eqb (fieldD g p) 0)))
+  unfolding elementHead
+  head-is = rw (f .kind, f .a, f .c, f .d)
+
+  pub element-broken : elementHead r ≡ false → elementEnd g p ≡ none
+  unfolding elementEnd thenRead onFound onlyIf
+  element-broken h = rw (sym head-is ∙ h)
+
+  pub element-name : elementHead r ≡ true → (r .a ≡ 0 → ⊥) → elementEnd g p ≡ some (p + 1)
+  unfolding elementEnd thenRead onFound onlyIf
+  element-name h a = rw (sym head-is ∙ h, ne-eqb _ _ (λ e. a (f .a ∙ e)))
+
+  module _ {b : Bool} (h : elementHead r ≡ true) (a : r .a ≡ 0) (z : b ≡ zeros (paddingOf g p)) where
+    pub element-unpadded : b ≡ false → elementEnd g p ≡ none
+    unfolding elementEnd textEnd thenRead onFound onlyIf
+    element-unpadded e = rw (sym head-is ∙ h, eq-eqb _ _ (sym (f .a) ∙ a), ← z, e)
+
+    pub element-text : b ≡ true → elementEnd g p ≡ some (p + 1 + (r .b + 7) / 8)
+    unfolding elementEnd textEnd units thenRead onFound onlyIf
+    element-text e = rw (sym head-is ∙ h, eq-eqb _ _ (sym (f .a) ∙ a), ← z, e, f .b)
+
+  pub element-near : WellSized g → elementHead r ≡ true → p < 8064
+  unfolding elementHead
+  element-near w h = near w 3 (eqb-true _ _ (and-iff _ _ .0 h .0))
+
+-- an element takes a record at least
+only-some : (b : Bool) (a q : ℕ) → onlyIf b a ≡ some q → a ≡ q
+unfolding onlyIf
+only-some true a q e = Option·some-injective a q e
+only-some false a q e = absurd (Option·none-ne-some q e)
+
+element-grows : (g : List ℕ) (p q : ℕ) → elementEnd g p ≡ some q → p < q
+unfolding elementEnd textEnd
+element-grows g p q e =
+    let h = then-some _ _ q e in
+    let z : p ≡ h .0 = only-some _ p (h .0) (h .1) in
+    go (h .0) (eqb (fieldA g (h .0)) 0) (h .2) z
+  where
+    go : (r : ℕ) (b : Bool) → cond b (onlyIf (zeros (paddingOf g r)) (r + 1 + units (fieldB g r))) (some (r + 1)) ≡ some q → p ≡ r → p < q
+    go r true i z = let y = only-some _ _ q i in omega arith
+    go r false i z = let y : r + 1 ≡ q = Option·some-injective _ q i in omega arith
+
+pub elements-grow : (g : List ℕ) (n p q : ℕ) → inRow (elementEnd g) n (p + 1) ≡ some q → p < q
+elements-grow g n p q e = let l = row-grows (elementEnd g) (element-grows g) n (p + 1) q e in omega arith
+
+-- The whole: classes, productions and the tail
+module _ (g : List ℕ) where
+  pub no-middle : whileKind g 1 (classEnd g) (recordCount g) 0 0 ≡ none → need false 0 ≡ grammarLayout g
+  unfolding grammarLayout layoutFault grammarEnd thenRead onFound
+  no-middle a = rw a
+
+  pub no-end : {m : ℕ} → whileKind g 1 (classEnd g) (recordCount g) 0 0 ≡ some m → whileKind g 3 (productionEnd g) (recordCount g) 0 m ≡ none → need false 0 ≡ grammarLayout g
+  unfolding grammarLayout layoutFault grammarEnd thenRead onFound
+  no-end a b = rw (a, b)
+
+  pub all-ends : {m e : ℕ} {r : Bool} → whileKind g 1 (classEnd g) (recordCount g) 0 0 ≡ some m → whileKind g 3 (productionEnd g) (recordCount g) 0 m ≡ some e
+      → r ≡ tailRight g e → need r 0 ≡ grammarLayout g
+  unfolding grammarLayout layoutFault grammarEnd thenRead onFound
+  all-ends a b t = rw (a, b, t)
+
+-- What the code answers
+pub got : {o : Option ℕ} {r : End} {p : ℕ} → endOf r ≡ o → r ≡ At p → o ≡ some p
+got e h = sym e ∙ ap endOf h
+
+pub lost : {o : Option ℕ} {r : End} → endOf r ≡ o → r ≡ Broken → o ≡ none
+lost e h = sym e ∙ ap endOf h

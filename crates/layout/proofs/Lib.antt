@@ -1,0 +1,4 @@
+pub mod CommonLaws
+pub mod GrammarLaws
+pub mod HeadsFillLaws
+pub mod HeadsRowLaws

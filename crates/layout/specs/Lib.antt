@@ -1,0 +1,3 @@
+pub mod Common
+pub mod Grammar
+pub mod Heads

@@ -1,0 +1,3 @@
+pub mod common;
+pub mod grammar;
+pub mod heads;
