@@ -1,0 +1,69 @@
+-- What is wrong in the classes from i on is what is wrong in all of them.
+use Prim.Native.Nat.{_-_, _≤_}
+use mathlib.Core.Path.{_≡_, ap}
+use native.Mathlib.Omega.{arith}
+use lib.ListN.{length, drop}
+use Rattle.rules.specs.Classes.{classBounds, grammarClasses}
+use Rattle.rules.specs.Faults.{every}
+use Rattle.limits.proofs.RowLaws.{found-at, found-none, every-next, every-stop, every-end, drop-more, drop-done}
+use borrow.Author.Needs.{needs}
+use Rattle.limits.proofs.classes.grammar_classes.Statement.{statement}
+use Rattle.limits.proofs.classes.grammar_classes.Tie as tie
+
+abbrev Inv-loop : tie.InvT-loop
+Inv-loop g classes i₀ i = (i ≤ length classes) × (every (classBounds g) (drop i classes) ≡ grammarClasses g)
+
+abbrev μ-loop : tie.MeasureT-loop
+μ-loop g classes i₀ i = length classes - i
+
+loop-holds : tie.Need-loop-holds Inv-loop μ-loop
+unfolding grammarClasses
+loop-holds c = (omega arith, ap (every (classBounds _)) (c .before .before .pre .classes-are))
+
+mul-class-bounds : tie.Need-mul-class-bounds Inv-loop μ-loop
+mul-class-bounds c = search needs
+
+shared-slice-read-class-bounds : tie.Need-shared-slice-read-class-bounds Inv-loop μ-loop
+shared-slice-read-class-bounds c = search needs
+
+class-bounds-requires : tie.Need-class-bounds-requires Inv-loop μ-loop
+class-bounds-requires c κs = search needs
+
+enum-known-fault : tie.Need-enum-known-fault Inv-loop μ-loop
+enum-known-fault c = search needs
+
+returns : tie.Need-returns Inv-loop μ-loop
+returns c = every-stop _ (c .before .before .before .before .before .before .loop .inv .1) (drop-more _ _ (c .before .before .before .before .before .loop-test .taken)) (found-at (c .before .before .before .class-bounds .ensures) (c .before .fault .given .1))
+
+enum-told : tie.Need-enum-told Inv-loop μ-loop
+enum-told c = search needs
+
+add-i : tie.Need-add-i Inv-loop μ-loop
+add-i c = search needs
+
+loop-less : tie.Need-loop-less Inv-loop μ-loop
+loop-less c = search needs
+
+loop-again : tie.Need-loop-again Inv-loop μ-loop
+loop-again c = (omega arith, every-next _ (c .before .before .before .before .before .loop .inv .1) (drop-more _ _ (c .before .before .before .before .loop-test .taken)) (found-none (c .before .before .class-bounds .ensures) (c .enum-told .given .1)))
+
+returns-2 : tie.Need-returns-2 Inv-loop μ-loop
+returns-2 c = every-end _ (c .before .loop .inv .1) (drop-done _ _ (c .loop-test .left))
+
+pub grammar-classes-spec : {M : Type 1} → statement M
+grammar-classes-spec =
+    tie.close
+    (tie.spec
+    Inv-loop
+    μ-loop
+    loop-holds
+    mul-class-bounds
+    shared-slice-read-class-bounds
+    class-bounds-requires
+    enum-known-fault
+    returns
+    enum-told
+    add-i
+    loop-less
+    loop-again
+    returns-2)

@@ -1,0 +1,70 @@
+-- What is wrong in the productions from i on is what is wrong in all of them.
+use Prim.Native.Nat.{_-_, _≤_}
+use mathlib.Core.Path.{_≡_, ap}
+use native.Mathlib.Omega.{arith}
+use lib.ListN.{length, drop}
+use Rattle.rules.specs.Faults.{every}
+use Rattle.rules.specs.Names.{grammarNames}
+use Rattle.limits.specs.Rows.{elementsNamed}
+use Rattle.limits.proofs.RowLaws.{found-at, found-none, every-next, every-stop, every-end, drop-more, drop-done}
+use borrow.Author.Needs.{needs}
+use Rattle.limits.proofs.grammar.grammar_names.Statement.{statement}
+use Rattle.limits.proofs.grammar.grammar_names.Tie as tie
+
+abbrev Inv-loop : tie.InvT-loop
+Inv-loop g classes productions nonterminals i₀ i = (i ≤ length productions) × (every (elementsNamed g) (drop i productions) ≡ grammarNames g)
+
+abbrev μ-loop : tie.MeasureT-loop
+μ-loop g classes productions nonterminals i₀ i = length productions - i
+
+loop-holds : tie.Need-loop-holds Inv-loop μ-loop
+unfolding grammarNames elementsNamed
+loop-holds c = (omega arith, ap (every (elementsNamed _)) (c .before .before .before .pre .productions-are))
+
+mul-elements-named : tie.Need-mul-elements-named Inv-loop μ-loop
+mul-elements-named c = search needs
+
+shared-slice-read-elements-named : tie.Need-shared-slice-read-elements-named Inv-loop μ-loop
+shared-slice-read-elements-named c = search needs
+
+elements-named-requires : tie.Need-elements-named-requires Inv-loop μ-loop
+elements-named-requires c κs = record { classes-are = ap length (c .before .before .before .before .before .before .pre .classes-are); nonterminals-are = c .before .before .before .before .before .before .pre .nonterminals-are }
+
+enum-known-fault : tie.Need-enum-known-fault Inv-loop μ-loop
+enum-known-fault c = search needs
+
+returns : tie.Need-returns Inv-loop μ-loop
+returns c = every-stop _ (c .before .before .before .before .before .before .loop .inv .1) (drop-more _ _ (c .before .before .before .before .before .loop-test .taken)) (found-at (c .before .before .before .elements-named .ensures) (c .before .fault .given .1))
+
+enum-told : tie.Need-enum-told Inv-loop μ-loop
+enum-told c = search needs
+
+add-i : tie.Need-add-i Inv-loop μ-loop
+add-i c = search needs
+
+loop-less : tie.Need-loop-less Inv-loop μ-loop
+loop-less c = search needs
+
+loop-again : tie.Need-loop-again Inv-loop μ-loop
+loop-again c = (omega arith, every-next _ (c .before .before .before .before .before .loop .inv .1) (drop-more _ _ (c .before .before .before .before .loop-test .taken)) (found-none (c .before .before .elements-named .ensures) (c .enum-told .given .1)))
+
+returns-2 : tie.Need-returns-2 Inv-loop μ-loop
+returns-2 c = every-end _ (c .before .loop .inv .1) (drop-done _ _ (c .loop-test .left))
+
+pub grammar-names-spec : {M : Type 1} → statement M
+grammar-names-spec =
+    tie.close
+    (tie.spec
+    Inv-loop
+    μ-loop
+    loop-holds
+    mul-elements-named
+    shared-slice-read-elements-named
+    elements-named-requires
+    enum-known-fault
+    returns
+    enum-told
+    add-i
+    loop-less
+    loop-again
+    returns-2)

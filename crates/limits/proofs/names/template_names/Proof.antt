@@ -1,0 +1,62 @@
+-- What a template names: its nonterminal, its parameters, its body.
+use mathlib.Core.Path.{_∙_}
+use native.Mathlib.Omega.{arith}
+use borrow.Author.Tests.{not-true, not-false}
+use Rattle.limits.proofs.RowLaws.{found-at, found-none}
+use Rattle.limits.proofs.RuleLaws.{template-wrong, template-parameters, template-body}
+use borrow.Author.Needs.{needs}
+use Rattle.limits.proofs.names.template_names.Statement.{statement}
+use Rattle.limits.proofs.names.template_names.Tie as tie
+
+fetch-requires : tie.Need-fetch-requires
+fetch-requires c κs = search needs
+
+is-marked-requires : tie.Need-is-marked-requires
+is-marked-requires c κs = search needs
+
+returns : tie.Need-returns
+returns c = template-wrong _ _ _ _ _ (c .before .before .fetch .ensures .a) (c .before .before .fetch .ensures .b) _ (omega arith) (c .before .before .before .before .before .pre .nonterminals-are) _ (c .before .is-marked .ensures) (not-true _ (c .if1 .taken))
+
+parameters-named-requires : tie.Need-parameters-named-requires
+parameters-named-requires c κs = record { types-are = c .before .before .before .before .before .pre .counted .types-are }
+
+enum-known-fault : tie.Need-enum-known-fault
+enum-known-fault c = search needs
+
+returns-2 : tie.Need-returns-2
+returns-2 c = template-parameters _ _ _ _ _ (c .before .before .before .before .before .before .fetch .ensures .a) (c .before .before .before .before .before .before .fetch .ensures .b) _ (omega arith) (c .before .before .before .before .before .before .before .before .before .pre .nonterminals-are) _ (c .before .before .before .before .before .is-marked .ensures) (not-false _ (c .before .before .before .before .if1 .left)) (found-at (c .before .before .before .parameters-named .ensures) (c .before .fault .given .1))
+
+enum-told : tie.Need-enum-told
+enum-told c = search needs
+
+add-nodes-named : tie.Need-add-nodes-named
+add-nodes-named c = search needs
+
+cast-nodes-named : tie.Need-cast-nodes-named
+cast-nodes-named c = search needs
+
+add-nodes-named-2 : tie.Need-add-nodes-named-2
+add-nodes-named-2 c = search needs
+
+nodes-named-requires : tie.Need-nodes-named-requires
+nodes-named-requires c κs = record { near = record { place = omega arith; few = omega arith }; counted = c .before .before .before .before .before .before .before .before .before .pre .counted }
+
+returns-3 : tie.Need-returns-3
+returns-3 c = c .nodes-named .ensures ∙ template-body _ _ _ _ _ (c .before .before .before .before .before .before .before .fetch .ensures .a) (c .before .before .before .before .before .before .before .fetch .ensures .b) _ (omega arith) (c .before .before .before .before .before .before .before .before .before .before .pre .nonterminals-are) _ (c .before .before .before .before .before .before .is-marked .ensures) (not-false _ (c .before .before .before .before .before .if1 .left)) (found-none (c .before .before .before .before .parameters-named .ensures) (c .before .before .enum-told .given .1))
+
+pub template-names-spec : {M : Type 1} → statement M
+template-names-spec =
+    tie.close
+    (tie.spec
+    fetch-requires
+    is-marked-requires
+    returns
+    parameters-named-requires
+    enum-known-fault
+    returns-2
+    enum-told
+    add-nodes-named
+    cast-nodes-named
+    add-nodes-named-2
+    nodes-named-requires
+    returns-3)

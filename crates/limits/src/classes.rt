@@ -1,0 +1,64 @@
+// Refusal 6: the bounds of classes and of their ranges.
+ghost use mathlib.Core.Path.{_≡_};
+ghost use Rattle.rules.specs.Classes.{rangeRight, classBounds, grammarClasses};
+ghost use Rattle.stream.specs.Fault.{faultOf};
+ghost use Rattle.limits.specs.Tables.{ClassTable};
+ghost use Rattle.limits.specs.Rows.{rangesRight};
+use stream::Fault;
+use stream::record::fetch;
+
+// Whether the range at r has lowest at most highest, and that within Unicode. Both have three bytes: a and b; c and the low byte of d.
+fn is_right(g: &[u8], r: usize) -> bool
+    ensures { λ b. ⌜ b ≡ rangeRight (now (g .entry)) r ⌝ }
+{
+    let range = fetch(g, r);
+    let lowest = range.a as usize + 256 * (range.b as usize);
+    let highest = range.c as usize + 65536 * (range.d as usize % 256);
+    if highest < lowest {
+        return false;
+    }
+    highest <= 0x10ffff
+}
+
+// The ranges of the class at p, so many.
+fn ranges_right(g: &[u8], p: u16, count: u16) -> Fault
+    ensures { λ r. ⌜ faultOf r ≡ rangesRight (now (g .entry)) count p ⌝ }
+{
+    let mut at = p as usize + 1;
+    let mut i = 0;
+    while i < count {
+        if !is_right(g, at) {
+            return Fault::At(at);
+        }
+        at += 1;
+        i += 1;
+    }
+    Fault::Nowhere
+}
+
+// The class at p: its least and most, then its ranges.
+fn class_bounds(g: &[u8], p: u16) -> Fault
+    ensures { λ r. ⌜ faultOf r ≡ classBounds (now (g .entry)) p ⌝ }
+{
+    let head = fetch(g, p as usize);
+    if head.c < head.b {
+        return Fault::At(p as usize);
+    }
+    ranges_right(g, p, head.d)
+}
+
+// The place of the first class with least above most, or range with lowest above highest or past U+10FFFF.
+pub fn grammar_classes(g: &[u8], classes: &[u16]) -> Fault
+    requires { ⌜ ClassTable (now g) (now classes) ⌝ }
+    ensures { λ r. ⌜ faultOf r ≡ grammarClasses (now (g .entry)) ⌝ }
+{
+    let mut i = 0;
+    while i < classes.len() {
+        let fault = class_bounds(g, classes[i]);
+        if let Fault::At(p) = fault {
+            return Fault::At(p);
+        }
+        i += 1;
+    }
+    Fault::Nowhere
+}

@@ -1,0 +1,210 @@
+// Refusal 5 of a template set: the classes, nonterminals, productions, types and templates that its records name.
+ghost use mathlib.Core.Path.{_≡_};
+ghost use Rattle.rules.specs.Names.{typeNamed, typeNames, nodeNamed, templateNames, templatesNames};
+ghost use Rattle.rules.specs.Templates.{typeAt};
+ghost use Rattle.stream.specs.Fault.{faultOf};
+ghost use Rattle.limits.specs.Tables.{TypeCount, TypeCounts, Counted, Naming, AllTables};
+ghost use Rattle.limits.specs.Rows.{NamingNode, NamingRow, fieldsEarlier, typesNamed, nodesNamed, parametersNamed, templatesNamed};
+use crate::node::BUILD;
+use crate::node::EXPAND;
+use crate::node::Node;
+use crate::node::node_at;
+use crate::nonterminals::is_marked;
+use stream::Fault;
+use stream::record::fetch;
+
+// How many there are of what a template set names by number.
+struct Counts {
+    classes: usize,
+    productions: usize,
+    types: usize,
+    templates: usize,
+}
+
+// A text type names a class, a list type any type. (The grammar is lent on only for the contracts, which speak of it.)
+fn type_named(g: &[u8], t: &[u8], classes: usize, types: usize, p: u16) -> bool
+    requires { ⌜ TypeCounts (now g) (now t) classes types ⌝ }
+    ensures { λ r. ⌜ r ≡ typeNamed (now (g .entry)) (now (t .entry)) (typeAt (now (t .entry)) p) ⌝ }
+{
+    let head = fetch(t, p as usize);
+    let a = head.a;
+    if a == 0 {
+        return (head.b as usize) < classes;
+    }
+    if a == 2 {
+        return (head.b as usize) < types;
+    }
+    true
+}
+
+// The fields of type n, whose head is at p: each names an earlier type.
+fn fields_earlier(t: &[u8], n: usize, p: u16) -> Fault
+    ensures { λ r. ⌜ faultOf r ≡ fieldsEarlier (now (t .entry)) n p ⌝ }
+{
+    let head = fetch(t, p as usize);
+    let count = head.d;
+    let mut at = p as usize + 1;
+    let mut i = 0;
+    while i < count {
+        let field = fetch(t, at);
+        if n <= field.b as usize {
+            return Fault::At(at);
+        }
+        at += 1;
+        i += 1;
+    }
+    Fault::Nowhere
+}
+
+// What type n names, its head first.
+fn type_names(g: &[u8], t: &[u8], counts: Counts, n: usize, p: u16) -> Fault
+    requires { ⌜ Counted (now g) (now t) counts ⌝ }
+    ensures { λ r. ⌜ faultOf r ≡ typeNames (now (g .entry)) (now (t .entry)) (n, p) ⌝ }
+{
+    if !type_named(g, t, counts.classes, counts.types, p) {
+        return Fault::At(p as usize);
+    }
+    fields_earlier(t, n, p)
+}
+
+// What all types name.
+fn types_named(g: &[u8], t: &[u8], types: &[u16], counts: Counts) -> Fault
+    requires { ⌜ Counted (now g) (now t) counts ⌝ }
+    ensures { λ r. ⌜ faultOf r ≡ typesNamed (now (g .entry)) (now (t .entry)) (now (types .entry)) ⌝ }
+{
+    let mut n = 0;
+    while n < types.len() {
+        let fault = type_names(g, t, counts, n, types[n]);
+        if let Fault::At(p) = fault {
+            return Fault::At(p);
+        }
+        n += 1;
+    }
+    Fault::Nowhere
+}
+
+// A build names a production, an expand a template.
+fn is_named(g: &[u8], t: &[u8], counts: Counts, p: usize, node: Node) -> bool
+    requires { ⌜ NamingNode (now g) (now t) counts p node ⌝ }
+    ensures { λ r. ⌜ r ≡ nodeNamed (now (g .entry)) (now (t .entry)) p ⌝ }
+{
+    let form = node.form;
+    if form == BUILD {
+        return node.names < counts.productions;
+    }
+    if form == EXPAND {
+        return node.names < counts.templates;
+    }
+    true
+}
+
+// What a row of nodes and all below them name, where left levels may follow each other.
+fn nodes_named(g: &[u8], t: &[u8], counts: Counts, first: usize, count: usize, left: usize) -> Fault
+    requires { ⌜ NamingRow (now g) (now t) counts left first count ⌝ }
+    ensures { λ r. ⌜ faultOf r ≡ nodesNamed (now (g .entry)) (now (t .entry)) left count first ⌝ }
+{
+    if count == 0 {
+        return Fault::Nowhere;
+    }
+    if left == 0 {
+        return Fault::At(first);
+    }
+    let mut at = first;
+    let mut i = 0;
+    while i < count {
+        let node = node_at(t, at);
+        if !is_named(g, t, counts, at, node) {
+            return Fault::At(at);
+        }
+        let below = node.below;
+        let fault = nodes_named(g, t, counts, below.first, below.count, left - 1);
+        if let Fault::At(p) = fault {
+            return Fault::At(p);
+        }
+        at += node.size;
+        i += 1;
+    }
+    Fault::Nowhere
+}
+
+// The parameters of the template at p, so many: each names a type.
+fn parameters_named(t: &[u8], types: usize, p: u16, count: u8) -> Fault
+    requires { ⌜ TypeCount (now t) types ⌝ }
+    ensures { λ r. ⌜ faultOf r ≡ parametersNamed (now (t .entry)) count p ⌝ }
+{
+    let mut at = p as usize + 1;
+    let mut i = 0;
+    while i < count {
+        let parameter = fetch(t, at);
+        if types <= parameter.b as usize {
+            return Fault::At(at);
+        }
+        at += 1;
+        i += 1;
+    }
+    Fault::Nowhere
+}
+
+// What the template at p names: its nonterminal, the types of its parameters, what its body names.
+fn template_names(g: &[u8], t: &[u8], counts: Counts, nonterminals: &[u64; 1024], p: u16) -> Fault
+    requires { ⌜ Naming (now g) (now t) counts (now nonterminals) ⌝ }
+    ensures { λ r. ⌜ faultOf r ≡ templateNames (now (g .entry)) (now (t .entry)) p ⌝ }
+{
+    let head = fetch(t, p as usize);
+    if !is_marked(nonterminals, head.b) {
+        return Fault::At(p as usize);
+    }
+    let fault = parameters_named(t, counts.types, p, head.a);
+    if let Fault::At(a) = fault {
+        return Fault::At(a);
+    }
+    nodes_named(g, t, counts, p as usize + 1 + head.a as usize, 1, 200)
+}
+
+// What all templates name.
+fn templates_named(
+    g: &[u8],
+    t: &[u8],
+    templates: &[u16],
+    counts: Counts,
+    nonterminals: &[u64; 1024],
+) -> Fault
+    requires { ⌜ Naming (now g) (now t) counts (now nonterminals) ⌝ }
+    ensures { λ r. ⌜ faultOf r ≡ templatesNamed (now (g .entry)) (now (t .entry)) (now (templates .entry)) ⌝ }
+{
+    let mut i = 0;
+    while i < templates.len() {
+        let fault = template_names(g, t, counts, nonterminals, templates[i]);
+        if let Fault::At(p) = fault {
+            return Fault::At(p);
+        }
+        i += 1;
+    }
+    Fault::Nowhere
+}
+
+// The place of the first head that names what isn't there, or field that names no earlier type: types first.
+pub fn templates_names(
+    g: &[u8],
+    t: &[u8],
+    classes: &[u16],
+    productions: &[u16],
+    types: &[u16],
+    templates: &[u16],
+    nonterminals: &[u64; 1024],
+) -> Fault
+    requires { ⌜ AllTables (now g) (now t) (now classes) (now productions) (now types) (now templates) (now nonterminals) ⌝ }
+    ensures { λ r. ⌜ faultOf r ≡ templatesNames (now (g .entry)) (now (t .entry)) ⌝ }
+{
+    let counts = Counts {
+        classes: classes.len(),
+        productions: productions.len(),
+        types: types.len(),
+        templates: templates.len(),
+    };
+    let fault = types_named(g, t, types, counts);
+    if let Fault::At(p) = fault {
+        return Fault::At(p);
+    }
+    templates_named(g, t, templates, counts, nonterminals)
+}
