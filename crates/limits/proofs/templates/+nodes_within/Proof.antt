@@ -52,7 +52,7 @@ nodes-within-returns-2 t c = row-first _ _ _ _ (c .before .if1 .left) (node-deep
 
 nodes-within-returns-3 : (t : ℕ) → nodes-within-lts.Need-returns-3 (nodes-within-claims t) (nodes-within-at t) nodes-within.Post nodes-within-Inv-loop nodes-within-μ-loop
 unfolding nodesWithin
-nodes-within-returns-3 t c = row-first _ _ _ _ (c .before .before .if1 .left) (node-many _ _ _ _ (omega arith) (c .if3 .taken))
+nodes-within-returns-3 t c = row-first _ _ _ _ (c .before .before .if1 .left) (node-many _ _ _ _ (omega arith) (omega arith))
 
 nodes-within-loop-holds : (t : ℕ) → nodes-within-lts.Need-loop-holds (nodes-within-claims t) (nodes-within-at t) nodes-within.Post nodes-within-Inv-loop nodes-within-μ-loop
 unfolding nodesWithin

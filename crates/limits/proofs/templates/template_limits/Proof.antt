@@ -10,7 +10,7 @@ fetch-requires : tie.Need-fetch-requires
 fetch-requires c κs = search needs
 
 returns : tie.Need-returns
-returns c = template-many _ _ _ (c .before .before .fetch .ensures .a) (c .if1 .taken)
+returns c = template-many _ _ _ (c .before .before .fetch .ensures .a) (omega arith)
 
 add-nodes-within : tie.Need-add-nodes-within
 add-nodes-within c = search needs
@@ -25,7 +25,7 @@ nodes-within-requires : tie.Need-nodes-within-requires
 nodes-within-requires c κs = record { place = omega arith; few = omega arith }
 
 returns-2 : tie.Need-returns-2
-returns-2 c = c .nodes-within .ensures ∙ template-within _ _ _ (c .before .before .before .before .fetch .ensures .a) (c .before .before .if1 .left)
+returns-2 c = c .nodes-within .ensures ∙ template-within _ _ _ (c .before .before .before .before .fetch .ensures .a) (omega arith)
 
 pub template-limits-spec : {M : Type 1} → statement M
 template-limits-spec =
