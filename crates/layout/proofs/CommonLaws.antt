@@ -1,5 +1,5 @@
 -- Zero bytes: of a record that was fetched, of a text's last unit, and of the records after the last thing. And places inside a stream.
-use Prim.Native.Nat.{ℕ, zero, suc, _+_, _-_, _*_, _/_, _%_, _^_, min, _≤_, _<_}
+use Prim.Native.Nat.{ℕ, zero, suc, _+_, _-_, _*_, _/_, _%_, _^_, _≤_, _<_}
 use mathlib.Core.Path.{_≡_, refl, ap, sym, _∙_}
 use mathlib.Core.List.{List, [], _∷_, _++_, append-nil}
 use mathlib.Core.Bool.{Bool, true, false, _&&_}
@@ -7,9 +7,9 @@ use native.Mathlib.Omega.{arith}
 use native.Mathlib.Nat.{add-zero, add-assoc, add-mul-div-left, div-eq-of-lt, div-one, zero-div, zero-add}
 use native.Mathlib.Numerals.{add-one}
 use lib.ListN.{length, getD, take, drop, length-take, length-drop, length-append, drop-of-length-le, List·getD-eq-default}
-use lib.Seq.{getD-take, getD-drop, drop-append-add, drop-nil, drop-append-le}
-use lib.Pow.{pow-add, shr-shr}
-use lib.Dec.{eqb, leb, ltb}
+use lib.Seq.{getD-take, getD-drop, drop-append-add, drop-nil}
+use lib.Pow.{shr-shr}
+use lib.Dec.{eqb, ltb}
 use borrow.Author.Tests.{eq-eqb, ne-eqb, eqb-true, eqb-false, ltb-true, ltb-false, lt-ltb, le-ltb, le-leb, lt-leb}
 use Rattle.rules.specs.Records.{base, word, byteOf, kindOf, fieldA, fieldB, fieldC, fieldD, recordCount, recordsFrom, units, paddingOf, zeros}
 use Rattle.rules.specs.Layout.{tailRight}
@@ -17,6 +17,14 @@ use Rattle.stream.specs.declared.record.Record.{Record}
 use Rattle.stream.specs.declared.record.Place.{Place}
 use Rattle.stream.specs.Record.{Fetched, placeOf, Reach}
 use Rattle.layout.specs.Common.{bytesOf, numberOf}
+
+-- Tests in a row, as code that returns at the first that fails
+
+pub and-stop : (a b : Bool) → a ≡ false → false ≡ a && b
+and-stop a b e = rw e
+
+pub and-go : (a b c : Bool) → a ≡ true → c ≡ b → c ≡ a && b
+and-go a b c e h = rw e h
 
 -- Bytes as a number
 

@@ -2,3 +2,9 @@ pub mod CommonLaws
 pub mod GrammarLaws
 pub mod HeadsFillLaws
 pub mod HeadsRowLaws
+pub mod TemplateHeads
+pub mod TemplateLaws
+pub mod TreeLaws
+pub mod TreeThings
+pub mod TreeTurns
+pub mod ValueLaws

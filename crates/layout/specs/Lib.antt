@@ -1,3 +1,5 @@
 pub mod Common
 pub mod Grammar
 pub mod Heads
+pub mod Template
+pub mod Tree

@@ -127,6 +127,15 @@ pub fn fetch_at(s: &[u8], p: Place) -> Record
     cut(s, at)
 }
 
+// The record at a place whose 8 bytes lie in the stream: nothing is tested.
+pub fn fetch_in(s: &[u8], p: Place) -> Record
+    requires { ⌜ p .at + 8 ≤ length (now s) ⌝ }
+    ensures { λ r. ⌜ ((i : ℕ) → p ≡ placeOf i → Fetched (now (s .entry)) i r) ⌝ }
+{
+    let at = p.at;
+    inside(s, at)
+}
+
 // The place of record i: where a scan starts.
 pub fn place_of(i: usize) -> Place
     requires { ⌜ i < 2 ^ 60 ⌝ }

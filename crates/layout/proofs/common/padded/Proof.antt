@@ -1,4 +1,4 @@
-use mathlib.Core.Path.{sym, _∙_}
+use mathlib.Core.Path.{_∙_}
 use Rattle.layout.proofs.CommonLaws.{padding-none, padding-is}
 use borrow.Author.Needs.{needs}
 use Rattle.layout.proofs.common.padded.Statement.{statement}

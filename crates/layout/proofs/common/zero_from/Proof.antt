@@ -1,5 +1,3 @@
-use mathlib.Core.Path.{_∙_, sym, ap}
-use native.Mathlib.Omega.{arith}
 use Rattle.layout.proofs.CommonLaws.{zero-number, bytes-small, zeros-past}
 use borrow.Author.Needs.{needs}
 use Rattle.layout.proofs.common.zero_from.Statement.{statement}

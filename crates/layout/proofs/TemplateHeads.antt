@@ -1,0 +1,280 @@
+-- The records of templates, by the tests of the code: rows of one kind, heads of nodes, types.
+use Prim.Native.Nat.{ℕ, zero, suc, _+_, _-_, _%_, _≤_, _<_}
+use mathlib.Core.Path.{_≡_, refl, ap, sym, _∙_}
+use mathlib.Core.List.{List, append-nil}
+use mathlib.Core.Bool.{Bool, true, false, _&&_}
+use mathlib.Core.Option.{Option, none, some}
+use mathlib.Core.Logic.{_⊎_, ⊎-elim, inl, inr}
+use native.Mathlib.Omega.{arith}
+use native.Mathlib.Nat.{add-assoc}
+use borrow.Author.Tests.{eqb-true, eq-eqb, ne-eqb}
+use lib.ListN.{drop}
+use lib.Dec.{eqb, leb}
+use Rattle.rules.specs.Faults.{onFound, onlyIf}
+use Rattle.rules.specs.Records.{byteOf, kindOf, fieldA, fieldB, fieldC, fieldD, recordsFrom, zeros}
+use Rattle.rules.specs.Templates.{formNumbered, formOf}
+use Rattle.rules.specs.Layout.{thenRead, inRow, namingEnd, pathEnd, typeFormEnd, typeEnd}
+use Rattle.rules.specs.declared.Form.{Form}
+use Rattle.rules.specs.declared.Form.the-variants.{Unknown}
+use Rattle.stream.specs.declared.record.Record.{Record}
+use Rattle.stream.specs.declared.record.Place.{Place}
+use Rattle.stream.specs.Record.{Fetched, placeOf}
+use Rattle.layout.specs.declared.tree.Head.{Head}
+use Rattle.layout.specs.declared.tree.Head.the-variants.{Right, Wrong}
+use Rattle.layout.specs.declared.tree.Thing.the-variants.{Node}
+use Rattle.layout.specs.Common.{bytesOf}
+use Rattle.layout.specs.Tree.{textHead, pathHead, formHead, formBelow, headEnd, below, Headed, Near, Room}
+use Rattle.layout.specs.Template.{naming, pathRecord, recordEnd}
+use Rattle.layout.proofs.CommonLaws.{recordBytes, low-b, fetched-zeros}
+use Rattle.layout.proofs.GrammarLaws.{row-go, row-broken, row-all}
+use Rattle.layout.proofs.TreeTurns.{wrong, right, as-head}
+
+-- One record of a kind
+
+module _ (t : List ℕ) (p : ℕ) (r : Record) (f : Fetched t p r) where
+  path-zeros : zeros (drop (3 + r .b % 256) (bytesOf r)) ≡ zeros (drop (3 + byteOf t p 2) (recordsFrom t 1 p))
+  unfolding recordsFrom recordBytes
+  path-zeros =
+      ap (λ (j : ℕ). zeros (drop (3 + j) (bytesOf r))) (low-b t p r f)
+      ∙ fetched-zeros t p r f (3 + byteOf t p 2)
+      ∙ ap (λ (xs : List ℕ). zeros (drop (3 + byteOf t p 2) xs)) (sym (append-nil (recordBytes t p)))
+
+  path-is : pathRecord r ≡ eqb (kindOf t p) 6 && (leb (byteOf t p 2) 5 && zeros (drop (3 + byteOf t p 2) (recordsFrom t 1 p)))
+  unfolding pathRecord
+  path-is = rw (path-zeros, f .kind, low-b t p r f)
+
+  pub a-path : (z : Bool) → z ≡ pathRecord r → onlyIf z (p + 1) ≡ pathEnd t p
+  unfolding pathEnd
+  a-path z e = ap (λ (b : Bool). onlyIf b (p + 1)) (e ∙ path-is)
+
+  pub a-naming : (kind : ℕ) (z : Bool) → z ≡ naming r kind → onlyIf z (p + 1) ≡ namingEnd t kind p
+  unfolding naming namingEnd
+  a-naming kind z e = rw (e, f .kind, f .a, f .c, f .d)
+
+  pub one-path : (kind : ℕ) → kind ≡ 6 → (z : Bool) → z ≡ pathRecord r → onlyIf z (p + 1) ≡ recordEnd t kind p
+  unfolding recordEnd
+  one-path kind k z e = a-path z e ∙ rw k
+
+  pub one-naming : (kind : ℕ) → (kind ≡ 6 → ⊥) → (z : Bool) → z ≡ naming r kind → onlyIf z (p + 1) ≡ recordEnd t kind p
+  unfolding recordEnd
+  one-naming kind k z e = a-naming kind z e ∙ rw (ne-eqb kind 6 k)
+
+-- Rows: k of n records are passed
+
+module _ (one : ℕ → Option ℕ) (n k p : ℕ) (l : k < n) (z : Bool) (e : onlyIf z (p + k + 1) ≡ one (p + k)) where
+  pub record-wrong : z ≡ false → onlyIf false (p + n) ≡ inRow one (n - k) (p + k)
+  unfolding onlyIf
+  record-wrong w = sym (row-broken one n k (p + k) l (sym e ∙ rw w))
+
+  pub record-right : z ≡ true → inRow one (n - (k + 1)) (p + (k + 1)) ≡ inRow one (n - k) (p + k)
+  unfolding onlyIf
+  record-right w = rw (← add-assoc p k 1) (sym (row-go one n k (p + k) (p + k + 1) l (sym e ∙ rw w)))
+
+pub records-done : (one : ℕ → Option ℕ) (n k p : ℕ) → k ≤ n → n ≤ k → onlyIf true (p + n) ≡ inRow one (n - k) (p + k)
+unfolding onlyIf
+records-done one n k p l m = sym (row-all one n k p l m)
+
+pub place-next : (at : Place) (p k : ℕ) → at ≡ placeOf (p + k + 1) → at ≡ placeOf (p + (k + 1))
+place-next at p k e = e ∙ ap placeOf (add-assoc p k 1)
+
+-- places that heads are read from
+pub near-next : {at next : Place} (a : Near at 65536) → next ≡ placeOf (a .index + 1) → (n : ℕ) → n < 65536 → Near next n
+near-next a e n l = record { index = a .index + 1; place-is = e; near = omega (arith, a .near) }
+
+pub room-near : {s : List ℕ} {at : Place} {r : Record} {n : ℕ} → Room s at r n → Near at 65536
+room-near a = record { index = a .within .index; place-is = a .within .place-is; near = omega (arith, a .within .near) }
+
+-- Heads of nodes
+
+-- a head that says nothing but that a path follows
+module _ (t : List ℕ) (p : ℕ) (r : Record) (f : Fetched t p r) (n : ℕ) where
+  path-not : eqb (fieldB t p) 0 && eqb (fieldD t p) 0 ≡ false → Headed p Wrong (pathHead t p) n
+  unfolding pathHead thenRead onFound onlyIf
+  path-not e = wrong p _ n (rw e)
+
+  pub path-b : (r .b ≡ 0 → ⊥) → Headed p Wrong (pathHead t p) n
+  path-b b = path-not (rw (ne-eqb (fieldB t p) 0 (λ e. b (f .b ∙ e))))
+
+  module _ (b : r .b ≡ 0) where
+    pub path-d : (r .d ≡ 0 → ⊥) → Headed p Wrong (pathHead t p) n
+    path-d d = path-not (rw (eq-eqb (fieldB t p) 0 (sym (f .b) ∙ b), ne-eqb (fieldD t p) 0 (λ e. d (f .d ∙ e))))
+
+    module _ (d : r .d ≡ 0) (z : Bool) (e : onlyIf z (p + 1 + 1) ≡ pathEnd t (p + 1)) where
+      head-is : pathHead t p ≡ onlyIf z (p + 1 + 1)
+      unfolding pathHead thenRead onFound onlyIf
+      head-is = rw (eq-eqb (fieldB t p) 0 (sym (f .b) ∙ b), eq-eqb (fieldD t p) 0 (sym (f .d) ∙ d)) (sym e)
+
+      pub path-right : z ≡ true → Headed p (Right 2 n) (pathHead t p) n
+      unfolding onlyIf
+      path-right w = right p _ 2 n n (head-is ∙ rw (w, add-assoc p 1 1)) refl
+
+      pub path-wrong : z ≡ false → Headed p Wrong (pathHead t p) n
+      unfolding onlyIf
+      path-wrong w = wrong p _ n (head-is ∙ rw w)
+
+-- a head and its d paths
+module _ (t : List ℕ) (p d : ℕ) (e : d ≡ fieldD t p) (z : Bool) (h : onlyIf z (p + 1 + d) ≡ inRow (recordEnd t 6) d (p + 1)) where
+  row-is : inRow (pathEnd t) (fieldD t p) (p + 1) ≡ onlyIf z (p + 1 + d)
+  unfolding recordEnd
+  row-is = rw (← e) (sym h)
+
+  pub expand-right : z ≡ true → Headed p (Right (1 + d) 0) (inRow (pathEnd t) (fieldD t p) (p + 1)) 0
+  unfolding onlyIf
+  expand-right w = right p _ (1 + d) 0 0 (row-is ∙ rw (w, add-assoc p 1 d)) refl
+
+  pub expand-wrong : z ≡ false → Headed p Wrong (inRow (pathEnd t) (fieldD t p) (p + 1)) 0
+  unfolding onlyIf
+  expand-wrong w = wrong p _ 0 (row-is ∙ rw w)
+
+-- a node by its form
+no-form : (a : ℕ) → (a ≡ 0 → ⊥) → (a ≡ 1 → ⊥) → (a ≡ 2 → ⊥) → (a ≡ 3 → ⊥) → (a ≡ 4 → ⊥) → (a ≡ 5 → ⊥) → (a ≡ 6 → ⊥) → formNumbered a ≡ Unknown
+unfolding formNumbered
+no-form zero z o u t f v s = absurd (z refl)
+no-form (suc zero) z o u t f v s = absurd (o refl)
+no-form (suc (suc zero)) z o u t f v s = absurd (u refl)
+no-form (suc (suc (suc zero))) z o u t f v s = absurd (t refl)
+no-form (suc (suc (suc (suc zero)))) z o u t f v s = absurd (f refl)
+no-form (suc (suc (suc (suc (suc zero))))) z o u t f v s = absurd (v refl)
+no-form (suc (suc (suc (suc (suc (suc zero)))))) z o u t f v s = absurd (s refl)
+no-form (suc (suc (suc (suc (suc (suc (suc a))))))) z o u t f v s = refl
+
+module _ (t : List ℕ) (p : ℕ) (r : Record) (f : Fetched t p r) where
+  pub no-node : (r .kind ≡ 5 → ⊥) → Headed p Wrong (headEnd Node t p) (below Node t p)
+  unfolding headEnd thenRead onFound onlyIf
+  no-node k = wrong p _ _ (rw (ne-eqb (kindOf t p) 5 (λ e. k (f .kind ∙ e))))
+
+  module _ (k : r .kind ≡ 5) where
+    at-form : (form : Form) → formNumbered (r .a) ≡ form → (headEnd Node t p ≡ formHead t form p) × (below Node t p ≡ formBelow t form p)
+    unfolding headEnd below formOf thenRead onFound onlyIf
+    at-form form e =
+        let z : formNumbered (fieldA t p) ≡ form = rw (f .a) at e in
+        (rw (eq-eqb (kindOf t p) 5 (sym (f .kind) ∙ k), z), rw z)
+
+    numbered : (a : ℕ) → r .a ≡ a → (headEnd Node t p ≡ formHead t (formNumbered a) p) × (below Node t p ≡ formBelow t (formNumbered a) p)
+    numbered a e = at-form (formNumbered a) (ap formNumbered e)
+
+    pub a-build : r .a ≡ 0 → Headed p (Right 1 (r .d)) (headEnd Node t p) (below Node t p)
+    unfolding formNumbered formHead formBelow
+    a-build a = right p _ 1 (r .d) _ (numbered 0 a .0) (f .d ∙ sym (numbered 0 a .1))
+
+    pub a-literal : r .a ≡ 1 → r .d ≡ 0 → (h : Head) → Headed p h (textHead t p) 0 → Headed p h (headEnd Node t p) (below Node t p)
+    unfolding formNumbered formHead formBelow thenRead onFound onlyIf
+    a-literal a d h is = as-head (numbered 1 a .0 ∙ rw (eq-eqb (fieldD t p) 0 (sym (f .d) ∙ d))) (numbered 1 a .1) is
+
+    pub not-literal : r .a ≡ 1 → (r .d ≡ 0 → ⊥) → Headed p Wrong (headEnd Node t p) (below Node t p)
+    unfolding formNumbered formHead thenRead onFound onlyIf
+    not-literal a d = wrong p _ _ (numbered 1 a .0 ∙ rw (ne-eqb (fieldD t p) 0 (λ e. d (f .d ∙ e))))
+
+    pub a-place : r .a ≡ 2 → (h : Head) → Headed p h (pathHead t p) 0 → Headed p h (headEnd Node t p) (below Node t p)
+    unfolding formNumbered formHead formBelow
+    a-place a h is = as-head (numbered 2 a .0) (numbered 2 a .1) is
+
+    pub an-expand : r .a ≡ 3 → (h : Head) → Headed p h (inRow (pathEnd t) (fieldD t p) (p + 1)) 0 → Headed p h (headEnd Node t p) (below Node t p)
+    unfolding formNumbered formHead formBelow
+    an-expand a h is = as-head (numbered 3 a .0) (numbered 3 a .1) is
+
+    pub an-if : r .a ≡ 4 → (h : Head) → Headed p h (pathHead t p) 2 → Headed p h (headEnd Node t p) (below Node t p)
+    unfolding formNumbered formHead formBelow
+    an-if a h is = as-head (numbered 4 a .0) (numbered 4 a .1) is
+
+    pub a-for : r .a ≡ 5 → (h : Head) → Headed p h (pathHead t p) 1 → Headed p h (headEnd Node t p) (below Node t p)
+    unfolding formNumbered formHead formBelow
+    a-for a h is = as-head (numbered 5 a .0) (numbered 5 a .1) is
+
+    pub a-sequence : r .a ≡ 6 → r .b ≡ 0 → Headed p (Right 1 (r .d)) (headEnd Node t p) (below Node t p)
+    unfolding formNumbered formHead formBelow onlyIf
+    a-sequence a b =
+        right p _ 1 (r .d) _ (numbered 6 a .0 ∙ rw (eq-eqb (fieldB t p) 0 (sym (f .b) ∙ b))) (f .d ∙ sym (numbered 6 a .1))
+
+    pub not-sequence : r .a ≡ 6 → (r .b ≡ 0 → ⊥) → Headed p Wrong (headEnd Node t p) (below Node t p)
+    unfolding formNumbered formHead onlyIf
+    not-sequence a b = wrong p _ _ (numbered 6 a .0 ∙ rw (ne-eqb (fieldB t p) 0 (λ e. b (f .b ∙ e))))
+
+    pub unknown : (r .a ≡ 0 → ⊥) → (r .a ≡ 1 → ⊥) → (r .a ≡ 2 → ⊥) → (r .a ≡ 3 → ⊥) → (r .a ≡ 4 → ⊥) → (r .a ≡ 5 → ⊥) → (r .a ≡ 6 → ⊥)
+        → Headed p Wrong (headEnd Node t p) (below Node t p)
+    unfolding formHead
+    unknown z o u w v x y = wrong p _ _ (at-form Unknown (no-form (r .a) z o u w v x y) .0)
+
+-- A type, by its form: it has one record, and one for each field
+
+only-same : (b : Bool) (x y : ℕ) → (b ≡ true → x ≡ y) → onlyIf b x ≡ onlyIf b y
+unfolding onlyIf
+only-same true x y h = ap some (h refl)
+only-same false x y h = refl
+
+used-c : (t : List ℕ) (p form : ℕ) → eqb (fieldC t p) 0 ≡ false → typeFormEnd t form p ≡ none
+unfolding typeFormEnd onlyIf thenRead onFound
+used-c t p zero e = rw e
+used-c t p (suc zero) e = rw e (and-none (eqb (fieldB t p) 0) (p + 1))
+  where
+    and-none : (b : Bool) (q : ℕ) → onlyIf (b && false) q ≡ none
+    and-none true q = refl
+    and-none false q = refl
+used-c t p (suc (suc zero)) e = rw e
+used-c t p (suc (suc (suc zero))) e = rw e (and-none (eqb (fieldB t p) 0) (p + 1))
+  where
+    and-none : (b : Bool) (q : ℕ) → thenRead (onlyIf (b && false) q) (inRow (namingEnd t 2) (fieldD t p)) ≡ none
+    and-none true q = refl
+    and-none false q = refl
+used-c t p (suc (suc (suc (suc form)))) e = refl
+
+other-type : (t : List ℕ) (p form : ℕ) → ((form ≡ 0) ⊎ (form ≡ 2) → ⊥) → (form ≡ 1 → ⊥) → (form ≡ 3 → ⊥) → typeFormEnd t form p ≡ none
+unfolding typeFormEnd
+other-type t p zero s o f = absurd (s (inl refl))
+other-type t p (suc zero) s o f = absurd (o refl)
+other-type t p (suc (suc zero)) s o f = absurd (s (inr refl))
+other-type t p (suc (suc (suc zero))) s o f = absurd (f refl)
+other-type t p (suc (suc (suc (suc form)))) s o f = refl
+
+module _ (t : List ℕ) (p : ℕ) (r : Record) (f : Fetched t p r) where
+  -- where the type ends: after its record and its d fields
+  abbrev end : ℕ
+  end = p + 1 + fieldD t p
+
+  type-at : (form : ℕ) → r .a ≡ form → typeEnd t p ≡ typeFormEnd t form p
+  unfolding typeEnd
+  type-at form e = rw (sym (f .a) ∙ e)
+
+  not-type : (form : ℕ) → r .a ≡ form → typeFormEnd t form p ≡ none → onlyIf false end ≡ typeEnd t p
+  unfolding onlyIf
+  not-type form e z = sym (type-at form e ∙ z)
+
+  pub type-c : (r .c ≡ 0 → ⊥) → onlyIf false end ≡ typeEnd t p
+  type-c c = not-type (r .a) refl (used-c t p (r .a) (ne-eqb (fieldC t p) 0 (λ e. c (f .c ∙ e))))
+
+  pub type-other : ((r .a ≡ 0) ⊎ (r .a ≡ 2) → ⊥) → (r .a ≡ 1 → ⊥) → (r .a ≡ 3 → ⊥) → onlyIf false end ≡ typeEnd t p
+  type-other s o u = not-type (r .a) refl (other-type t p (r .a) s o u)
+
+  -- with no fields
+  no-fields : onlyIf (eqb (r .d) 0) end ≡ onlyIf (eqb (fieldD t p) 0) (p + 1)
+  no-fields =
+      ap (λ (d : ℕ). onlyIf (eqb d 0) end) (f .d)
+      ∙ only-same (eqb (fieldD t p) 0) end (p + 1) (λ e. let z : fieldD t p ≡ 0 = eqb-true (fieldD t p) 0 e in omega arith)
+
+  module _ (c : r .c ≡ 0) where
+    zero-c : eqb (fieldC t p) 0 ≡ true
+    zero-c = eq-eqb (fieldC t p) 0 (sym (f .c) ∙ c)
+
+    pub type-named : (r .a ≡ 0) ⊎ (r .a ≡ 2) → onlyIf (eqb (r .d) 0) end ≡ typeEnd t p
+    unfolding typeFormEnd
+    type-named e = no-fields ∙ ⊎-elim (λ a. sym (type-at 0 a ∙ rw zero-c)) (λ a. sym (type-at 2 a ∙ rw zero-c)) e
+
+    pub type-used-b : (r .a ≡ 1) ⊎ (r .a ≡ 3) → (r .b ≡ 0 → ⊥) → onlyIf false end ≡ typeEnd t p
+    unfolding typeFormEnd onlyIf thenRead onFound
+    type-used-b e b =
+        let z : eqb (fieldB t p) 0 ≡ false = ne-eqb (fieldB t p) 0 (λ e. b (f .b ∙ e)) in
+        ⊎-elim (λ a. not-type 1 a (rw z)) (λ a. not-type 3 a (rw z)) e
+
+    module _ (b : r .b ≡ 0) where
+      zero-b : eqb (fieldB t p) 0 ≡ true
+      zero-b = eq-eqb (fieldB t p) 0 (sym (f .b) ∙ b)
+
+      pub type-yes-no : r .a ≡ 1 → onlyIf (eqb (r .d) 0) end ≡ typeEnd t p
+      unfolding typeFormEnd
+      type-yes-no a = no-fields ∙ sym (type-at 1 a ∙ rw (zero-b, zero-c))
+
+      pub type-record : r .a ≡ 3 → (z : Bool) → onlyIf z (p + 1 + r .d) ≡ inRow (recordEnd t 2) (r .d) (p + 1) → onlyIf z end ≡ typeEnd t p
+      unfolding typeFormEnd recordEnd thenRead onFound onlyIf
+      type-record a z h =
+          let e : onlyIf z end ≡ inRow (namingEnd t 2) (fieldD t p) (p + 1) = rw (← f .d) h in
+          e ∙ sym (type-at 3 a ∙ rw (zero-b, zero-c))

@@ -1,0 +1,241 @@
+// The templates' layout: types, then templates, each with its parameters and one body node, then zero records.
+ghost use mathlib.Core.Path.{_≡_};
+ghost use Prim.Native.Nat.{ℕ, _+_};
+ghost use mathlib.Core.List.{List};
+ghost use Rattle.rules.specs.Faults.{need, onlyIf};
+ghost use Rattle.rules.specs.Records.{fieldD};
+ghost use Rattle.rules.specs.Layout.{inRow, pathEnd, typeEnd, templateEnd, templatesLayout};
+ghost use Rattle.stream.specs.Record.{Fetched, placeOf};
+ghost use Rattle.layout.specs.declared.tree.Thing.{Thing};
+ghost use Rattle.theorems.specs.Streams.{WellSized};
+ghost use Rattle.layout.specs.Grammar.{endOf};
+ghost use Rattle.layout.specs.Tree.{pathHead, headEnd, below, Headed, Near, Room};
+ghost use Rattle.layout.specs.Template.{naming, pathRecord, recordEnd, typesEnd, restRight, within, Ready};
+use crate::common::tail_right;
+use crate::common::zero_from;
+use crate::grammar::End;
+use crate::tree::Head;
+use crate::tree::Thing;
+use crate::tree::one_thing;
+use crate::tree::text_head;
+use stream::record::Place;
+use stream::record::Record;
+use stream::record::fetch;
+use stream::record::fetch_at;
+use stream::record::forward;
+use stream::record::place_of;
+
+// A field or a parameter: it names a type, and nothing else.
+fn names_type(r: Record, kind: u8) -> bool
+    ensures { λ z. ⌜ z ≡ naming r kind ⌝ }
+{
+    if r.kind != kind {
+        return false;
+    }
+    if r.a != 0 {
+        return false;
+    }
+    if r.c != 0 {
+        return false;
+    }
+    r.d == 0
+}
+
+// A path: at most 5 steps, and no field numbers past them.
+fn is_path(r: Record) -> bool
+    ensures { λ z. ⌜ z ≡ pathRecord r ⌝ }
+{
+    if r.kind != 6 {
+        return false;
+    }
+    let steps = (r.b % 256) as usize;
+    if 5 < steps {
+        return false;
+    }
+    zero_from(r, 3 + steps)
+}
+
+// A record of a kind that stands in rows: a path, or else a field or a parameter.
+fn is_one(r: Record, kind: u8) -> bool
+    ensures { λ z. ⌜ ((t : List ℕ) → (p : ℕ) → Fetched t p r → onlyIf z (p + 1) ≡ recordEnd t kind p) ⌝ }
+{
+    if kind == 6 {
+        return is_path(r);
+    }
+    names_type(r, kind)
+}
+
+// n records of a kind from a place on.
+fn in_row(t: &[u8], kind: u8, at: Place, n: u16) -> bool
+    requires { ⌜ Near at n ⌝ }
+    ensures { λ z. ⌜ ((p : ℕ) → at ≡ placeOf p → onlyIf z (p + n) ≡ inRow (recordEnd (now (t .entry)) kind) n p) ⌝ }
+{
+    let mut here = at;
+    let mut k = 0;
+    while k < n {
+        if !is_one(fetch_at(t, here), kind) {
+            return false;
+        }
+        here = forward(here, 1);
+        k += 1;
+    }
+    true
+}
+
+// The head of a place, an if or a for: a path follows it, and then n nodes.
+fn path_head(t: &[u8], at: Place, r: Record, n: u32) -> Head
+    requires { ⌜ Near at 65536 ⌝ }
+    ensures { λ h. ⌜ ((p : ℕ) → at ≡ placeOf p → Fetched (now (t .entry)) p r → Headed p h (pathHead (now (t .entry)) p) n) ⌝ }
+{
+    if r.b != 0 {
+        return Head::Wrong;
+    }
+    if r.d != 0 {
+        return Head::Wrong;
+    }
+    if is_path(fetch_at(t, forward(at, 1))) {
+        Head::Right(2, n)
+    } else {
+        Head::Wrong
+    }
+}
+
+// The head of an expand, with its d paths.
+fn expand_head(t: &[u8], at: Place, r: Record) -> Head
+    requires { ⌜ Near at 65536 ⌝ }
+    ensures { λ h. ⌜ ((p : ℕ) → at ≡ placeOf p → Fetched (now (t .entry)) p r → Headed p h (inRow (pathEnd (now (t .entry))) (fieldD (now (t .entry)) p) (p + 1)) 0) ⌝ }
+{
+    if in_row(t, 6, forward(at, 1), r.d) {
+        Head::Right(1 + r.d as u32, 0)
+    } else {
+        Head::Wrong
+    }
+}
+
+// A node's head, by its form.
+pub fn node_head(t: &[u8], at: Place, r: Record, size: usize) -> Head
+    requires { ⌜ Room (now t) at r size ⌝ }
+    ensures { λ h. ⌜ ((p : ℕ) → at ≡ placeOf p → Fetched (now (t .entry)) p r → Headed p h (headEnd Thing.Node (now (t .entry)) p) (below Thing.Node (now (t .entry)) p)) ⌝ }
+{
+    if r.kind != 5 {
+        return Head::Wrong;
+    }
+    let form = r.a;
+    match form {
+        0 => Head::Right(1, r.d as u32),
+        1 => {
+            if r.d == 0 {
+                text_head(t, at, r, size)
+            } else {
+                Head::Wrong
+            }
+        }
+        2 => path_head(t, at, r, 0),
+        3 => expand_head(t, at, r),
+        4 => path_head(t, at, r, 2),
+        5 => path_head(t, at, r, 1),
+        6 => {
+            if r.b == 0 {
+                Head::Right(1, r.d as u32)
+            } else {
+                Head::Wrong
+            }
+        }
+        _ => Head::Wrong,
+    }
+}
+
+// The type at a place: its fields by its form. It has one record and one for each field, of which only a record type has any.
+fn type_right(t: &[u8], at: Place, r: Record) -> bool
+    requires { ⌜ Near at 65536 ⌝ }
+    ensures { λ z. ⌜ ((p : ℕ) → at ≡ placeOf p → Fetched (now (t .entry)) p r → onlyIf z (p + 1 + fieldD (now (t .entry)) p) ≡ typeEnd (now (t .entry)) p) ⌝ }
+{
+    if r.c != 0 {
+        return false;
+    }
+    let form = r.a;
+    match form {
+        0 | 2 => r.d == 0,
+        1 => {
+            if r.b != 0 {
+                return false;
+            }
+            r.d == 0
+        }
+        3 => {
+            if r.b != 0 {
+                return false;
+            }
+            in_row(t, 2, forward(at, 1), r.d)
+        }
+        _ => false,
+    }
+}
+
+// The types, from the first record on: where they end.
+fn types_end(t: &[u8]) -> End
+    requires { ⌜ WellSized (now t) ⌝ }
+    ensures { λ r. ⌜ endOf r ≡ typesEnd (now (t .entry)) ⌝ }
+{
+    let mut p: usize = 0;
+    let mut at = place_of(0);
+    loop {
+        let r = fetch_at(t, at);
+        if r.kind != 1 {
+            return End::At(p);
+        }
+        if !type_right(t, at, r) {
+            return End::Broken;
+        }
+        let size = 1 + r.d as usize;
+        p += size;
+        at = forward(at, size);
+    }
+}
+
+// The template at record p, whose head is r: it ends by its size, within the stream.
+fn template_right(t: &[u8], p: usize, r: Record) -> bool
+    requires { ⌜ Ready (now t) p r ⌝ }
+    ensures { λ z. ⌜ z ≡ within (now (t .entry)) (templateEnd (now (t .entry)) p) ⌝ }
+{
+    if r.d != 0 {
+        return false;
+    }
+    let e = p + r.c as usize;
+    if t.len() / 512 * 63 < e {
+        return false;
+    }
+    if !in_row(t, 4, place_of(p + 1), r.a as u16) {
+        return false;
+    }
+    one_thing(t, Thing::Node, p + 1 + r.a as usize, e)
+}
+
+// The templates from record p on, and the zero records after the last.
+fn templates_from(t: &[u8], p: usize) -> bool
+    requires { ⌜ WellSized (now t) ⌝ }
+    ensures { λ r. ⌜ r ≡ restRight (now (t .entry)) p ⌝ }
+{
+    let mut q = p;
+    loop {
+        let r = fetch(t, q);
+        if r.kind != 3 {
+            return tail_right(t, q);
+        }
+        if !template_right(t, q, r) {
+            return false;
+        }
+        q += r.c as usize;
+    }
+}
+
+// The records of a template set are laid out: refusal 3 where they are not.
+pub fn templates_layout(t: &[u8]) -> bool
+    requires { ⌜ WellSized (now t) ⌝ }
+    ensures { λ r. ⌜ need r 0 ≡ templatesLayout (now (t .entry)) ⌝ }
+{
+    let End::At(p) = types_end(t) else {
+        return false;
+    };
+    templates_from(t, p)
+}

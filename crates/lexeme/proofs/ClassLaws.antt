@@ -1,0 +1,176 @@
+-- The ranges of a class, one after the other: searched for a code point, and put into a set. And the sets of all classes, one after the other.
+use Prim.Native.Nat.{ℕ, zero, suc, _+_, _-_, _*_, _/_, _%_, min, _≤_, _<_, _^_}
+use mathlib.Core.Path.{_≡_, refl, ap, ap₂, sym, _∙_}
+use mathlib.Core.List.{List, [], _∷_, _++_}
+use mathlib.Core.Bool.{Bool, true, false, _||_, or-false, or-assoc}
+use mathlib.Core.Option.{Option, none, some}
+use native.Mathlib.Omega.{arith}
+use native.Mathlib.Nat.{sub-zero, add-zero, add-assoc}
+use lib.ListN.{length, getD, take, drop, length-append, length-take, length-drop, replicate, take-append-drop}
+use lib.Seq.{length-take-le, take-append-le, drop-append-le, take-at, drop-at}
+use lib.Dec.{ltb, leb}
+use borrow.Author.Tests.{ltb-true, ltb-false, le-leb, lt-leb}
+use borrow.Rule.Slice.PartMut.{putMid, same-len-mid}
+use Rattle.rules.specs.Records.{fieldD, heads, row, nth}
+use Rattle.rules.specs.Grammar.{classes, class}
+use Rattle.rules.specs.Lexeme.{within, lowest, highest, ranges, inSome}
+use Rattle.stream.specs.declared.record.Record.{Record}
+use Rattle.stream.specs.Record.{Fetched}
+use Rattle.stream.proofs.RecordLaws.{eight-bytes}
+use Rattle.lexeme.specs.declared.class.Range.{Range}
+use Rattle.lexeme.specs.Ranges.{RangeAt}
+use Rattle.lexeme.specs.Sets.{isIn, SetOf, setOf, Compiled, Lent}
+use Rattle.lexeme.proofs.SetLaws.{none-in}
+
+-- both ends of a range from the fields of its record
+pub range-low : (g : List ℕ) (i : ℕ) (r : Record) → Fetched g i r → r .a + 256 * r .b ≡ lowest g i
+unfolding lowest
+range-low g i r f = let e = eight-bytes g i r f in omega (arith, e .byte1, e .byte2, e .byte3)
+
+pub range-high : (g : List ℕ) (i : ℕ) (r : Record) → Fetched g i r → r .c + 65536 * (r .d % 256) ≡ highest g i
+unfolding highest
+range-high g i r f = let e = eight-bytes g i r f in omega (arith, e .byte4, e .byte5, e .byte6)
+
+-- the ranges that are left
+row-more : (n k q : ℕ) → k < n → row (n - k) (q + k) ≡ (q + k) ∷ row (n - (k + 1)) (q + (k + 1))
+unfolding row heads
+row-more n k q l =
+    let e : n - k ≡ suc (n - (k + 1)) = omega arith in
+    rw (e, heads, add-assoc q k 1)
+
+row-none : (n k q : ℕ) → n ≤ k → row (n - k) q ≡ []
+unfolding row heads
+row-none n k q l = let e : n - k ≡ 0 = omega arith in rw e
+
+pub left-start : (g : List ℕ) (p count x : ℕ) → count ≡ fieldD g p → inSome g (row (count - 0) (p + 1 + 0)) x ≡ inSome g (ranges g p) x
+unfolding ranges
+left-start g p count x e = rw (sub-zero, add-zero, e)
+
+left-turn : (g : List ℕ) (q count k x : ℕ) (r : Range) → k < count → RangeAt g (q + k) r
+    → inSome g (row (count - k) (q + k)) x ≡ (within (r .lowest) (r .highest) x || inSome g (row (count - (k + 1)) (q + (k + 1))) x)
+unfolding inSome
+left-turn g q count k x r l e = rw (row-more count k q l, e .from, e .to)
+
+-- the search
+module _ (g : List ℕ) (p q count k x : ℕ) (inv : inSome g (row (count - k) (q + k)) x ≡ inSome g (ranges g p) x) where
+  pub search-found : (r : Range) → k < count → RangeAt g (q + k) r → (b : Bool) → b ≡ within (r .lowest) (r .highest) x → b ≡ true → true ≡ inSome g (ranges g p) x
+  search-found r l e b f h = sym (left-turn g q count k x r l e ∙ ap (λ (y : Bool). y || inSome g (row (count - (k + 1)) (q + (k + 1))) x) (sym f ∙ h)) ∙ inv
+
+  pub search-turn : (r : Range) → k < count → RangeAt g (q + k) r → (b : Bool) → b ≡ within (r .lowest) (r .highest) x → b ≡ false
+      → inSome g (row (count - (k + 1)) (q + (k + 1))) x ≡ inSome g (ranges g p) x
+  search-turn r l e b f h = sym (left-turn g q count k x r l e ∙ ap (λ (y : Bool). y || inSome g (row (count - (k + 1)) (q + (k + 1))) x) (sym f ∙ h)) ∙ inv
+
+  pub search-end : count ≤ k → false ≡ inSome g (ranges g p) x
+  unfolding inSome
+  search-end l = sym (ap (λ (rs : List ℕ). inSome g rs x) (row-none count k (q + k) l)) ∙ inv
+
+-- the set, and the ranges that are not in it yet
+pub record Filling (g : List ℕ) (p count q k : ℕ) (set₁ : List ℕ) : Type 0 where
+  pub size : length set₁ ≡ 32
+  pub same : (x : ℕ) → x < 2048 → (isIn set₁ x || inSome g (row (count - k) (q + k)) x) ≡ inSome g (ranges g p) x
+
+pub fill-start : (g : List ℕ) (p count : ℕ) (set₁ : List ℕ) → count ≡ fieldD g p → length set₁ ≡ 32 → set₁ ≡ replicate 32 0 → Filling g p count (p + 1) 0 set₁
+fill-start g p count set₁ e l f = record {
+  size = l;
+  same = λ x m. ap (λ (b : Bool). b || inSome g (row (count - 0) (p + 1 + 0)) x) (ap (λ (s : List ℕ). isIn s x) f ∙ none-in 32 x) ∙ left-start g p count x e;
+}
+
+pub fill-turn : (g : List ℕ) (p count q k : ℕ) (set₁ set₂ : List ℕ) (r : Range) → Filling g p count q k set₁ → k < count → RangeAt g (q + k) r → length set₂ ≡ length set₁
+    → ((x : ℕ) → x < 2048 → isIn set₂ x ≡ (isIn set₁ x || within (r .lowest) (r .highest) x)) → Filling g p count q (k + 1) set₂
+fill-turn g p count q k set₁ set₂ r f l e s h = record {
+  size = s ∙ f .size;
+  same = λ x m.
+      ap (λ (b : Bool). b || inSome g (row (count - (k + 1)) (q + (k + 1))) x) (h x m)
+      ∙ or-assoc (isIn set₁ x) (within (r .lowest) (r .highest) x) (inSome g (row (count - (k + 1)) (q + (k + 1))) x)
+      ∙ ap (λ (b : Bool). isIn set₁ x || b) (sym (left-turn g q count k x r l e))
+      ∙ f .same x m;
+}
+
+pub fill-end : (g : List ℕ) (p count q k : ℕ) (set₁ : List ℕ) → Filling g p count q k set₁ → count ≤ k → SetOf g p set₁
+unfolding inSome
+fill-end g p count q k set₁ f l = record {
+  size = f .size;
+  same = λ x m.
+      sym (or-false (isIn set₁ x))
+      ∙ ap (λ (rs : List ℕ). isIn set₁ x || inSome g rs x) (sym (row-none count k (q + k) l))
+      ∙ f .same x m;
+}
+
+-- entry n of a list
+pub nth-at : (xs : List ℕ) (n : ℕ) → n < length xs → nth xs n ≡ some (getD xs n 0)
+unfolding nth
+nth-at [] n l = absurd (omega arith)
+nth-at (x ∷ xs) zero l = refl
+nth-at (x ∷ xs) (suc n) l = nth-at xs n (omega arith)
+
+pub nth-past : (xs : List ℕ) (n : ℕ) → length xs ≤ n → nth xs n ≡ none
+unfolding nth
+nth-past [] n l = refl
+nth-past (x ∷ xs) zero l = absurd (omega arith)
+nth-past (x ∷ xs) (suc n) l = nth-past xs n (omega arith)
+
+nth-below : (xs : List ℕ) (n p : ℕ) → nth xs n ≡ some p → n < length xs
+nth-below xs n p e = go (ltb n (length xs)) refl
+  where
+    go : (b : Bool) → ltb n (length xs) ≡ b → n < length xs
+    go true f = ltb-true n (length xs) f
+    go false f = absurd (mathlib.Core.Option.Option·none-ne-some p (sym (nth-past xs n (ltb-false n (length xs) f)) ∙ e))
+
+-- the sets of the first n classes
+pub record Compiling (g list sets₀ sets₁ : List ℕ) (n : ℕ) : Type 0 where
+  pub near : n ≤ length list
+  pub size : length sets₁ ≡ length sets₀
+  pub done : (m p : ℕ) → m < n → nth list m ≡ some p → SetOf g p (setOf sets₁ m)
+
+pub compile-start : (g list sets₀ : List ℕ) → Compiling g list sets₀ sets₀ 0
+compile-start g list sets₀ = record { near = omega arith; size = refl; done = λ m p l e. absurd (omega arith) }
+
+-- a set put in its place is there, and those before it stay
+module _ (sets₁ ys : List ℕ) (n : ℕ) (room : 32 * n + 32 ≤ length sets₁) (size : length ys ≡ 32) where
+  front : length (take (32 * n) sets₁) ≡ 32 * n
+  front = length-take-le (32 * n) sets₁ (omega arith)
+
+  put-here : setOf (putMid (32 * n) (32 * n + 32 - 32 * n) sets₁ ys) n ≡ ys
+  unfolding setOf
+  put-here =
+      ap (take 32) (drop-at (take (32 * n) sets₁) (ys ++ drop (32 * n + 32 - 32 * n) (drop (32 * n) sets₁)) (32 * n) front)
+      ∙ take-at ys (drop (32 * n + 32 - 32 * n) (drop (32 * n) sets₁)) 32 size
+
+  before : (m : ℕ) (rest : List ℕ) → m < n → take 32 (drop (32 * m) (take (32 * n) sets₁ ++ rest)) ≡ take 32 (drop (32 * m) (take (32 * n) sets₁))
+  before m rest l =
+      ap (take 32) (drop-append-le (32 * m) (take (32 * n) sets₁) rest (omega (arith, front)))
+      ∙ take-append-le 32 (drop (32 * m) (take (32 * n) sets₁)) rest (rw length-drop (omega (arith, front)))
+
+  put-other : (m : ℕ) → m < n → setOf (putMid (32 * n) (32 * n + 32 - 32 * n) sets₁ ys) m ≡ setOf sets₁ m
+  unfolding setOf
+  put-other m l =
+      before m (ys ++ drop (32 * n + 32 - 32 * n) (drop (32 * n) sets₁)) l
+      ∙ sym (before m (drop (32 * n) sets₁) l)
+      ∙ ap (λ (xs : List ℕ). take 32 (drop (32 * m) xs)) (take-append-drop (32 * n) sets₁)
+
+pub compile-turn : (g list sets₀ sets₁ ys : List ℕ) (n : ℕ) → Compiling g list sets₀ sets₁ n → n < length list → 32 * n + 32 ≤ length sets₁
+    → SetOf g (getD list n 0) ys → Compiling g list sets₀ (putMid (32 * n) (32 * n + 32 - 32 * n) sets₁ ys) (n + 1)
+compile-turn g list sets₀ sets₁ ys n c l room s = record {
+  near = omega arith;
+  size = same-len-mid (32 * n) (32 * n + 32 - 32 * n) sets₁ ys (s .size ∙ sym part) ∙ c .size;
+  done = λ m p k e. go m p k e (ltb m n) refl;
+}
+  where
+    part : length (take (32 * n + 32 - 32 * n) (drop (32 * n) sets₁)) ≡ 32
+    part = simp (length-take, length-drop) (omega arith)
+
+    go : (m p : ℕ) → m < n + 1 → nth list m ≡ some p → (b : Bool) → ltb m n ≡ b → SetOf g p (setOf (putMid (32 * n) (32 * n + 32 - 32 * n) sets₁ ys) m)
+    go m p k e true f =
+        let q : m < n = ltb-true m n f in
+        rw (put-other sets₁ ys n room (s .size) m q) (c .done m p q e)
+    go m p k e false f =
+        let q : n ≤ m = ltb-false m n f in
+        let z : m ≡ n = omega arith in
+        let h : getD list n 0 ≡ p = mathlib.Core.Option.Option·some-injective (getD list n 0) p (sym (nth-at list n l) ∙ (rw z at e)) in
+        rw (z, put-here sets₁ ys n room (s .size), ← h) s
+
+pub compile-end : (g list sets₀ sets₁ : List ℕ) (n : ℕ) → Compiling g list sets₀ sets₁ n → length list ≤ n → list ≡ classes g → Compiled g sets₁
+unfolding class
+compile-end g list sets₀ sets₁ n c l e = record {
+  each = λ m p f. c .done m p (omega (arith, nth-below list m p (rw e f))) (rw e f);
+}

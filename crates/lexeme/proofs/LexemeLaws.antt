@@ -1,0 +1,110 @@
+-- A text, part by part, to the verdict.
+use Prim.Native.Nat.{ℕ, zero, suc, _+_, _-_, _*_, min, _≤_, _<_, _^_}
+use mathlib.Core.Path.{_≡_, refl, ap, sym, _∙_}
+use mathlib.Core.List.{List, [], _∷_, _++_}
+use mathlib.Core.Bool.{Bool, true, false, and-true}
+use mathlib.Core.Option.{Option, none, some}
+use native.Mathlib.Omega.{arith}
+use lib.ListN.{length, getD, take, drop, length-take, length-drop, List·getD-eq-default}
+use lib.Seq.{getD-take, getD-drop}
+use lib.Dec.{eqb, leb, ltb}
+use borrow.Author.Tests.{le-leb, lt-leb, ne-eqb, ltb-true, ltb-false}
+use Rattle.rules.specs.Records.{fieldB, fieldC, nth}
+use Rattle.rules.specs.Grammar.{classes, class}
+use Rattle.rules.specs.Lexeme.{ranges, isLexeme}
+use Rattle.stream.specs.declared.text.Text.{Text}
+use Rattle.stream.specs.Text.{textIn, payloadFrom, room, partOf, Rest}
+use Rattle.lexeme.specs.declared.scan.Scan.{Scan}
+use Rattle.lexeme.specs.Sets.{SetOf, setOf, Compiled, Ready}
+use Rattle.lexeme.specs.Scan.{midway, clean, scanned, passes, Tidy}
+use Rattle.lexeme.proofs.ScanLaws.{scanned-append, lexeme-scan, lexeme-none}
+use Rattle.lexeme.proofs.PartLaws.{tidy-scanned, passes-bad, passes-past}
+use Rattle.lexeme.proofs.ClassLaws.{nth-at, nth-past}
+
+tidy-clean : (n : ℕ) → Tidy (clean n)
+unfolding clean midway
+tidy-clean n = record { good = refl; fresh = λ e. refl; from = λ l. absurd (omega arith); to = λ l. absurd (omega arith); short = omega arith; few = omega arith }
+
+found : (g list : List ℕ) (n : ℕ) → list ≡ classes g → n < length list → class g n ≡ some (getD list n 0)
+unfolding class
+found g list n e l = rw (← e) (nth-at list n l)
+
+-- a part of bytes
+bytes-part : (xs : List ℕ) (m a : ℕ) → ((k : ℕ) → getD xs k 0 < 256) → (k : ℕ) → getD (take m (drop a xs)) k 0 < 256
+bytes-part xs m a l k = go (ltb k m) refl
+  where
+    go : (b : Bool) → ltb k m ≡ b → getD (take m (drop a xs)) k 0 < 256
+    go true e = rw (getD-take m (drop a xs) k 0 (ltb-true k m e), getD-drop a xs k 0) (l (a + k))
+    go false e =
+        let z : getD (take m (drop a xs)) k 0 ≡ 0 = List·getD-eq-default (take m (drop a xs)) 0 (rw length-take (omega (arith, ltb-false k m e))) in
+        omega arith
+
+-- what is left of a text, and the state after what went before
+pub record Reading (g : List ℕ) (p : ℕ) (s : List ℕ) (t : Text) (state : Scan) (rest : Text) : Type 0 where
+  pub tidy : Tidy state
+  pub most : state .count ≤ fieldC g p
+  pub same : scanned g (ranges g p) (clean 0) (textIn s t) ≡ scanned g (ranges g p) state (textIn s rest)
+
+pub read-start : (g : List ℕ) (p : ℕ) (s : List ℕ) (t : Text) (state : Scan) → state ≡ clean 0 → Reading g p s t state t
+read-start g p s t state e = rw e record { tidy = tidy-clean 0; most = none-yet; same = refl }
+  where
+    none-yet : clean 0 .count ≤ fieldC g p
+    none-yet = unfold clean midway in omega arith
+
+module _ (g : List ℕ) (p : ℕ) (s : List ℕ) (t : Text) (state next : Scan) (rest rest' : Text) (part : List ℕ)
+    (h : Reading g p s t state rest) (q : part ≡ partOf s rest) (f : next ≡ scanned g (ranges g p) state part) (r : Rest s rest rest') where
+  onward : scanned g (ranges g p) (clean 0) (textIn s t) ≡ scanned g (ranges g p) next (textIn s rest')
+  onward =
+      h .same
+      ∙ ap (scanned g (ranges g p) state) (r .text ∙ ap (λ (xs : List ℕ). xs ++ textIn s rest') (sym q))
+      ∙ scanned-append g (ranges g p) state part (textIn s rest')
+      ∙ ap (λ (x : Scan). scanned g (ranges g p) x (textIn s rest')) (sym f)
+
+  pub read-turn : ((k : ℕ) → getD s k 0 < 256) → next .good ≡ true → next .count ≤ fieldC g p → Reading g p s t next rest'
+  unfolding partOf
+  read-turn l o m = record {
+    tidy = rw f (tidy-scanned g (ranges g p) part state (h .tidy) (rw q (bytes-part s (min (rest .left) (room (rest .at))) (rest .at) l)) (rw f at o));
+    most = m;
+    same = onward;
+  }
+
+  pub read-bad : next .good ≡ false → false ≡ passes g p (scanned g (ranges g p) (clean 0) (textIn s t))
+  read-bad o = sym (ap (passes g p) onward ∙ passes-bad g p (ranges g p) (textIn s rest') next o)
+
+  pub read-past : fieldC g p < next .count → false ≡ passes g p (scanned g (ranges g p) (clean 0) (textIn s t))
+  read-past m = sym (ap (passes g p) onward ∙ passes-past g p (ranges g p) (textIn s rest') next m)
+
+-- at the end of the text
+module _ (g : List ℕ) (p : ℕ) (s : List ℕ) (t : Text) (state : Scan) (rest : Text) (h : Reading g p s t state rest) (l : rest .left ≤ 0) where
+  whole : scanned g (ranges g p) (clean 0) (textIn s t) ≡ state
+  unfolding textIn payloadFrom scanned
+  whole = let e : rest .left ≡ 0 = omega arith in h .same ∙ rw e
+
+  pub read-short : (state .due ≡ 0 → ⊥) → false ≡ passes g p (scanned g (ranges g p) (clean 0) (textIn s t))
+  unfolding passes
+  read-short d = sym (ap (passes g p) whole ∙ rw (h .tidy .good, ne-eqb (state .due) 0 d))
+
+  pub read-whole : state .due ≡ 0 → leb (fieldB g p) (state .count) ≡ passes g p (scanned g (ranges g p) (clean 0) (textIn s t))
+  unfolding passes
+  read-whole d = sym (ap (passes g p) whole ∙ rw (h .tidy .good, d, le-leb (state .count) (fieldC g p) (h .most)) (and-true (leb (fieldB g p) (state .count))))
+
+-- by the class's number
+pub set-room : (g list words : List ℕ) (n : ℕ) → Ready g list words → n < length list → 32 * n + 32 ≤ length words
+unfolding setOf class
+set-room g list words n r l =
+    let e : class g n ≡ some (getD list n 0) = found g list n (r .heads) l in
+    omega (arith, simp (length-take, length-drop) at (r .sets .each n (getD list n 0) e .size))
+
+pub set-there : (g list words : List ℕ) (n : ℕ) → Ready g list words → n < length list → SetOf g (getD list n 0) (take (32 * n + 32 - 32 * n) (drop (32 * n) words))
+unfolding setOf
+set-there g list words n r l =
+    let e : 32 * n + 32 - 32 * n ≡ 32 = omega arith in
+    rw e (r .sets .each n (getD list n 0) (found g list n (r .heads) l))
+
+pub lexeme-of : (g list words : List ℕ) (n : ℕ) (r : Bool) (read text : List ℕ) → Ready g list words → n < length list → read ≡ text
+    → r ≡ passes g (getD list n 0) (scanned g (ranges g (getD list n 0)) (clean 0) read) → r ≡ isLexeme g n text
+lexeme-of g list words n r read text q l e f = f ∙ rw e (sym (lexeme-scan g n (getD list n 0) text (found g list n (q .heads) l)))
+
+pub no-class : (g list words : List ℕ) (n : ℕ) (text : List ℕ) → Ready g list words → length list ≤ n → false ≡ isLexeme g n text
+unfolding class
+no-class g list words n text r l = sym (lexeme-none g n text (rw (← r .heads) (nth-past list n l)))

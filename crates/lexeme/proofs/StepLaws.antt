@@ -1,0 +1,184 @@
+-- One byte of a scan, one law for each way through the code.
+use Prim.Native.Nat.{ℕ, zero, suc, _+_, _-_, _*_, _≤_, _<_, _^_}
+use mathlib.Core.Path.{_≡_, refl, ap, ap₂, sym, _∙_, subst}
+use mathlib.Core.List.{List, [], _∷_, _++_}
+use mathlib.Core.Bool.{Bool, true, false, cond, not, _&&_, _||_}
+use native.Mathlib.Omega.{arith}
+use native.Mathlib.Nat.{add-zero, zero-add}
+use lib.ListN.{length}
+use lib.Dec.{eqb, leb}
+use borrow.Author.Tests.{le-leb, lt-leb, eq-eqb, ne-eqb, leb-true, leb-false, eqb-true, eqb-false}
+use Rattle.rules.specs.Lexeme.{Decoding, between, inside, broken, firstByte, laterByte, nextByte, inSome, allInSome, within}
+use Rattle.lexeme.specs.declared.scan.Scan.{Scan}
+use Rattle.lexeme.specs.Scan.{midway, clean, stopped, judged, resumed, seen, scanned, leastNext, mostNext}
+use Rattle.lexeme.proofs.ScanLaws.{seen-midway}
+
+-- the first byte of a character
+pub first-plain : (b : ℕ) → b < 0x80 → firstByte [] b ≡ between (b ∷ [])
+unfolding firstByte
+first-plain b l = rw (le-leb b 0x7f (omega arith))
+
+pub first-two : (b : ℕ) → 0xc2 ≤ b → b < 0xe0 → firstByte [] b ≡ inside [] 1 0x80 0xbf (b - 0xc0)
+unfolding firstByte
+first-two b l m = rw (lt-leb b 0x7f (omega arith), le-leb 0xc2 b l, le-leb b 0xdf (omega arith))
+
+pub first-three : (b : ℕ) → 0xe0 ≤ b → b < 0xf0 → firstByte [] b ≡ inside [] 2 (leastNext b) (mostNext b) (b - 0xe0)
+unfolding firstByte leastNext mostNext
+first-three b l m = go (eqb b 0xe0) refl (eqb b 0xed) refl (leb b 0xec) refl
+  where
+    go : (x : Bool) → eqb b 0xe0 ≡ x → (y : Bool) → eqb b 0xed ≡ y → (z : Bool) → leb b 0xec ≡ z → firstByte [] b ≡ inside [] 2 (leastNext b) (mostNext b) (b - 0xe0)
+    go true e y f z h = rw (eqb-true b 0xe0 e)
+    go false e true f z h = rw (eqb-true b 0xed f)
+    go false e false f true h =
+        let n : b ≡ 0xe0 → ⊥ = eqb-false b 0xe0 e in
+        simp (
+          lt-leb b 0x7f (omega arith),
+          le-leb 0xc2 b (omega arith),
+          lt-leb b 0xdf (omega arith),
+          e,
+          le-leb 0xe1 b (omega arith),
+          h,
+          f,
+          ne-eqb b 0xf0 (λ q. absurd (omega arith)),
+          ne-eqb b 0xf4 (λ q. absurd (omega arith)),
+        )
+    go false e false f false h =
+        let n : 0xec < b = leb-false b 0xec h in
+        let d : b ≡ 0xed → ⊥ = eqb-false b 0xed f in
+        simp (
+          lt-leb b 0x7f (omega arith),
+          le-leb 0xc2 b (omega arith),
+          lt-leb b 0xdf (omega arith),
+          e,
+          le-leb 0xe1 b (omega arith),
+          h,
+          f,
+          le-leb 0xee b (omega arith),
+          le-leb b 0xef (omega arith),
+          ne-eqb b 0xf0 (λ q. absurd (omega arith)),
+          ne-eqb b 0xf4 (λ q. absurd (omega arith)),
+        )
+
+pub first-four : (b : ℕ) → 0xf0 ≤ b → b ≤ 0xf4 → firstByte [] b ≡ inside [] 3 (leastNext b) (mostNext b) (b - 0xf0)
+unfolding firstByte leastNext mostNext
+first-four b l m = go (eqb b 0xf0) refl (eqb b 0xf4) refl
+  where
+    go : (x : Bool) → eqb b 0xf0 ≡ x → (y : Bool) → eqb b 0xf4 ≡ y → firstByte [] b ≡ inside [] 3 (leastNext b) (mostNext b) (b - 0xf0)
+    go true e y f = rw (eqb-true b 0xf0 e)
+    go false e true f = rw (eqb-true b 0xf4 f)
+    go false e false f =
+        let n : b ≡ 0xf0 → ⊥ = eqb-false b 0xf0 e in
+        let d : b ≡ 0xf4 → ⊥ = eqb-false b 0xf4 f in
+        simp (
+          lt-leb b 0x7f (omega arith),
+          le-leb 0xc2 b (omega arith),
+          lt-leb b 0xdf (omega arith),
+          ne-eqb b 0xe0 (λ q. absurd (omega arith)),
+          le-leb 0xe1 b (omega arith),
+          lt-leb b 0xec (omega arith),
+          ne-eqb b 0xed (λ q. absurd (omega arith)),
+          le-leb 0xee b (omega arith),
+          lt-leb b 0xef (omega arith),
+          e,
+          le-leb 0xf1 b (omega arith),
+          le-leb b 0xf3 (omega arith),
+          f,
+        )
+
+pub first-low : (b : ℕ) → 0x80 ≤ b → b < 0xc2 → firstByte [] b ≡ broken
+unfolding firstByte
+first-low b l m =
+    simp (
+      lt-leb b 0x7f (omega arith),
+      lt-leb 0xc2 b m,
+      ne-eqb b 0xe0 (λ q. absurd (omega arith)),
+      lt-leb 0xe1 b (omega arith),
+      ne-eqb b 0xed (λ q. absurd (omega arith)),
+      lt-leb 0xee b (omega arith),
+      ne-eqb b 0xf0 (λ q. absurd (omega arith)),
+      lt-leb 0xf1 b (omega arith),
+      ne-eqb b 0xf4 (λ q. absurd (omega arith)),
+    )
+
+pub first-high : (b : ℕ) → 0xf4 < b → firstByte [] b ≡ broken
+unfolding firstByte
+first-high b l =
+    simp (
+      lt-leb b 0x7f (omega arith),
+      le-leb 0xc2 b (omega arith),
+      lt-leb b 0xdf (omega arith),
+      ne-eqb b 0xe0 (λ q. absurd (omega arith)),
+      le-leb 0xe1 b (omega arith),
+      lt-leb b 0xec (omega arith),
+      ne-eqb b 0xed (λ q. absurd (omega arith)),
+      le-leb 0xee b (omega arith),
+      lt-leb b 0xef (omega arith),
+      ne-eqb b 0xf0 (λ q. absurd (omega arith)),
+      le-leb 0xf1 b (omega arith),
+      lt-leb b 0xf3 (omega arith),
+      ne-eqb b 0xf4 (λ q. absurd (omega arith)),
+    )
+
+-- a later byte
+module _ (due low high bits b : ℕ) where
+  pub later-low : b < low → laterByte (inside [] due low high bits) b ≡ broken
+  unfolding laterByte inside
+  later-low l = rw (lt-leb low b l)
+
+  pub later-high : high < b → laterByte (inside [] due low high bits) b ≡ broken
+  unfolding laterByte inside
+  later-high l = go (leb low b) refl
+    where
+      go : (x : Bool) → leb low b ≡ x → laterByte (inside [] due low high bits) b ≡ broken
+      go true e = rw (e, lt-leb b high l)
+      go false e = rw e
+
+  pub later-last : low ≤ b → b ≤ high → due ≡ 1 → laterByte (inside [] due low high bits) b ≡ between ((bits * 64 + (b - 0x80)) ∷ [])
+  unfolding laterByte inside
+  later-last l m e = rw (le-leb low b l, le-leb b high m, e)
+
+  pub later-more : low ≤ b → b ≤ high → (due ≡ 1 → ⊥) → laterByte (inside [] due low high bits) b ≡ inside [] (due - 1) 0x80 0xbf (bits * 64 + (b - 0x80))
+  unfolding laterByte inside
+  later-more l m e = rw (le-leb low b l, le-leb b high m, ne-eqb due 1 e)
+
+module _ (g rs : List ℕ) where
+  pub seen-first : (n b : ℕ) → seen g rs (clean n) b ≡ judged g rs n (firstByte [] b)
+  unfolding clean nextByte inside
+  seen-first n b = seen-midway g rs n 0 0 0 0 b
+
+  pub seen-later : (n due low high bits b : ℕ) → (due ≡ 0 → ⊥) → seen g rs (midway n due low high bits) b ≡ judged g rs n (laterByte (inside [] due low high bits) b)
+  unfolding nextByte inside
+  seen-later n due low high bits b l = seen-midway g rs n due low high bits b ∙ rw (ne-eqb due 0 l)
+
+  pub judge-char : (n x : ℕ) (v : Bool) → v ≡ inSome g rs x → judged g rs n (between (x ∷ [])) ≡ cond v (clean (n + 1)) stopped
+  unfolding judged between allInSome clean
+  judge-char n x true e = rw (sym e)
+  judge-char n x false e = rw (sym e)
+
+  pub judge-midway : (n due low high bits : ℕ) → judged g rs n (inside [] due low high bits) ≡ midway n due low high bits
+  unfolding judged inside allInSome
+  judge-midway n due low high bits = rw add-zero
+
+  pub judge-stop : (n : ℕ) → judged g rs n broken ≡ stopped
+  unfolding judged broken
+  judge-stop n = refl
+
+-- as the code has them
+module _ (n b : ℕ) (r : Scan) (g rs : List ℕ) where
+  pub lead-low : 0x80 ≤ b → b < 0xc2 → r ≡ stopped → r ≡ judged g rs n (firstByte [] b)
+  lead-low l m e = e ∙ sym (ap (judged g rs n) (first-low b l m) ∙ judge-stop g rs n)
+
+  pub lead-high : 0xf4 < b → r ≡ stopped → r ≡ judged g rs n (firstByte [] b)
+  lead-high l e = e ∙ sym (ap (judged g rs n) (first-high b l) ∙ judge-stop g rs n)
+
+  pub lead-two : 0xc2 ≤ b → b < 0xe0 → r ≡ midway n 1 0x80 0xbf (b - 0xc0) → r ≡ judged g rs n (firstByte [] b)
+  lead-two l m e = e ∙ sym (ap (judged g rs n) (first-two b l m) ∙ judge-midway g rs n 1 0x80 0xbf (b - 0xc0))
+
+  pub lead-three : 0xe0 ≤ b → b < 0xf0 → (low high : ℕ) → low ≡ leastNext b → high ≡ mostNext b → r ≡ midway n 2 low high (b - 0xe0) → r ≡ judged g rs n (firstByte [] b)
+  lead-three l m low high p q e = (rw (p, q) at e) ∙ sym (ap (judged g rs n) (first-three b l m) ∙ judge-midway g rs n 2 (leastNext b) (mostNext b) (b - 0xe0))
+
+  pub lead-four : 0xf0 ≤ b → b ≤ 0xf4 → (low high : ℕ) → low ≡ leastNext b → high ≡ mostNext b → r ≡ midway n 3 low high (b - 0xf0) → r ≡ judged g rs n (firstByte [] b)
+  lead-four l m low high p q e = (rw (p, q) at e) ∙ sym (ap (judged g rs n) (first-four b l m) ∙ judge-midway g rs n 3 (leastNext b) (mostNext b) (b - 0xf0))
+
+  pub plain-judged : b < 0x80 → (v : Bool) → v ≡ inSome g rs b → r ≡ cond v (clean (n + 1)) stopped → r ≡ judged g rs n (firstByte [] b)
+  plain-judged l v f e = e ∙ sym (ap (judged g rs n) (first-plain b l) ∙ judge-char g rs n b v f)

@@ -1,0 +1,4 @@
+pub mod Sets
+pub mod Ranges
+pub mod Scan
+pub mod Runs

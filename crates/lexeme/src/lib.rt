@@ -1,0 +1,61 @@
+// Lexemes: well-formed UTF-8 with a number of characters from least to most, each in some range of a class.
+ghost use mathlib.Core.Path.{_≡_};
+ghost use Rattle.rules.specs.Records.{textOf};
+ghost use Rattle.rules.specs.Lexeme.{ranges, isLexeme};
+ghost use Rattle.stream.specs.Text.{textIn};
+ghost use Rattle.lexeme.specs.Sets.{SetOf, Ready};
+ghost use Rattle.lexeme.specs.Scan.{clean, scanned, passes};
+
+pub mod class;
+pub mod runs;
+pub mod scan;
+pub mod sets;
+
+use scan::between;
+use scan::scan_part;
+use stream::record::fetch;
+use stream::text::Text;
+use stream::text::text_of;
+use stream::text::text_part;
+use stream::text::text_rest;
+
+// Whether a text is a lexeme of the class whose record is at p. It is read where it lies, block by block, up to the first byte that settles it.
+pub fn is_text_of(g: &[u8], p: u16, set: &[u64], s: &[u8], t: Text) -> bool
+    requires { ⌜ SetOf (now g) p (now set) ⌝ }
+    ensures { λ r. ⌜ r ≡ passes (now (g .entry)) p (scanned (now (g .entry)) (ranges (now (g .entry)) p) (clean 0) (textIn (now (s .entry)) t)) ⌝ }
+{
+    let head = fetch(g, p as usize);
+    let least = head.b as usize;
+    let most = head.c as usize;
+    let mut state = between(0);
+    let mut rest = t;
+    while 0 < rest.left {
+        let part = text_part(s, rest);
+        rest = text_rest(s, rest);
+        state = scan_part(g, p, set, part, state);
+        if !state.good {
+            return false;
+        }
+        if most < state.count {
+            return false;
+        }
+    }
+    if state.due != 0 {
+        return false;
+    }
+    least <= state.count
+}
+
+// Whether the text of the head at record i of s is a lexeme of class c. There are no lexemes of a class that doesn't exist.
+pub fn is_lexeme(g: &[u8], classes: &[u16], sets: &[u64], c: u16, s: &[u8], i: usize) -> bool
+    requires { ⌜ Ready (now g) (now classes) (now sets) ⌝ }
+    ensures { λ r. ⌜ r ≡ isLexeme (now (g .entry)) c (textOf (now (s .entry)) i) ⌝ }
+{
+    let n = c as usize;
+    if classes.len() <= n {
+        return false;
+    }
+    let from = 32 * n;
+    let to = from + 32;
+    is_text_of(g, classes[n], &sets[from..to], s, text_of(s, i))
+}
