@@ -28,3 +28,4 @@ pub mod Demands
 pub mod Packing
 pub mod Published
 pub mod Teeth
+pub mod Few
