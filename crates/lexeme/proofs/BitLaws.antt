@@ -3,11 +3,11 @@ use Prim.Native.Nat.{ℕ, zero, suc, _+_, _-_, _*_, _/_, _%_, min, max, _≤_, _
 use mathlib.Core.Path.{_≡_, refl, ap, ap₂, sym, _∙_}
 use mathlib.Core.Bool.{Bool, true, false, not, _&&_, _||_}
 use native.Mathlib.Omega.{arith}
-use native.Mathlib.Nat.{mod-lt, mul-add-mod-self-right, mod-eq-of-lt, div-eq-of-lt, pow-suc, zero-mod}
+use native.Mathlib.Nat.{div-eq-of-lt, pow-suc}
 use lib.Bits.{bitAnd, bitOr, bitXor, differ, or-shr, or-step, and-shr, and-step, xor-shr, xor-step}
 use lib.Dec.{eqb, ltb, leb}
 use lib.Pow.{pow-pos, pow-mono, ones-split, ones-lt, high}
-use borrow.Author.Tests.{eq-eqb, ne-eqb, lt-ltb, le-ltb, le-leb, lt-leb, ltb-true, ltb-false, leb-true, leb-false}
+use borrow.Author.Tests.{lt-ltb, le-ltb, ltb-true, ltb-false, leb-true, leb-false}
 use Rattle.rules.specs.Lexeme.{within}
 use Rattle.lexeme.specs.Sets.{bitAt}
 

@@ -1,15 +1,15 @@
 -- The ranges of a class, one after the other: searched for a code point, and put into a set. And the sets of all classes, one after the other.
-use Prim.Native.Nat.{ℕ, zero, suc, _+_, _-_, _*_, _/_, _%_, min, _≤_, _<_, _^_}
-use mathlib.Core.Path.{_≡_, refl, ap, ap₂, sym, _∙_}
+use Prim.Native.Nat.{ℕ, zero, suc, _+_, _-_, _*_, _%_, _≤_, _<_}
+use mathlib.Core.Path.{_≡_, refl, ap, sym, _∙_}
 use mathlib.Core.List.{List, [], _∷_, _++_}
-use mathlib.Core.Bool.{Bool, true, false, _||_, or-false, or-assoc}
-use mathlib.Core.Option.{Option, none, some}
+use mathlib.Core.Bool.{Bool, true, false, _||_, or-false, or-true, or-assoc}
+use mathlib.Core.Option.{none, some, Option·none-ne-some, Option·some-injective}
 use native.Mathlib.Omega.{arith}
 use native.Mathlib.Nat.{sub-zero, add-zero, add-assoc}
-use lib.ListN.{length, getD, take, drop, length-append, length-take, length-drop, replicate, take-append-drop}
-use lib.Seq.{length-take-le, take-append-le, drop-append-le, take-at, drop-at}
-use lib.Dec.{ltb, leb}
-use borrow.Author.Tests.{ltb-true, ltb-false, le-leb, lt-leb}
+use lib.ListN.{length, getD, take, drop, length-take, length-drop, replicate, take-append-drop}
+use lib.Seq.{length-take-le, take-append-le, drop-append-le, take-at, drop-at, take-take}
+use lib.Dec.{ltb}
+use borrow.Author.Tests.{ltb-true, ltb-false}
 use borrow.Rule.Slice.PartMut.{putMid, same-len-mid}
 use Rattle.rules.specs.Records.{fieldD, heads, row, nth}
 use Rattle.rules.specs.Grammar.{classes, class}
@@ -19,7 +19,7 @@ use Rattle.stream.specs.Record.{Fetched}
 use Rattle.stream.proofs.RecordLaws.{eight-bytes}
 use Rattle.lexeme.specs.declared.class.Range.{Range}
 use Rattle.lexeme.specs.Ranges.{RangeAt}
-use Rattle.lexeme.specs.Sets.{isIn, SetOf, setOf, Compiled, Lent}
+use Rattle.lexeme.specs.Sets.{isIn, ClassSet, setOf, Compiled}
 use Rattle.lexeme.proofs.SetLaws.{none-in}
 
 -- both ends of a range from the fields of its record
@@ -64,6 +64,23 @@ module _ (g : List ℕ) (p q count k x : ℕ) (inv : inSome g (row (count - k) (
   unfolding inSome
   search-end l = sym (ap (λ (rs : List ℕ). inSome g rs x) (row-none count k (q + k) l)) ∙ inv
 
+-- a range of the class that has the code point
+in-kth : (g : List ℕ) (n k q x : ℕ) → k < n → within (lowest g (q + k)) (highest g (q + k)) x ≡ true → inSome g (row n q) x ≡ true
+unfolding inSome row heads
+in-kth g zero k q x l e = absurd (omega arith)
+in-kth g (suc n) zero q x l e =
+    let f : within (lowest g q) (highest g q) x ≡ true = ap (λ (i : ℕ). within (lowest g i) (highest g i) x) (sym (add-zero q)) ∙ e in
+    ap (λ (b : Bool). b || inSome g (row n (q + 1)) x) f
+in-kth g (suc n) (suc k) q x l e =
+    let i : q + suc k ≡ q + 1 + k = omega arith in
+    let f : within (lowest g (q + 1 + k)) (highest g (q + 1 + k)) x ≡ true = ap (λ (j : ℕ). within (lowest g j) (highest g j) x) (sym i) ∙ e in
+    ap (λ (b : Bool). within (lowest g q) (highest g q) x || b) (in-kth g n k (q + 1) x (omega arith) f) ∙ or-true (within (lowest g q) (highest g q) x)
+
+pub kth-found : (g : List ℕ) (p k x : ℕ) (r : Range) → k < fieldD g p → RangeAt g (p + 1 + k) r → (b : Bool) → b ≡ within (r .lowest) (r .highest) x → b ≡ true
+    → inSome g (ranges g p) x ≡ true
+unfolding ranges
+kth-found g p k x r l e b f h = in-kth g (fieldD g p) k (p + 1) x l (rw (← e .from, ← e .to) (sym f ∙ h))
+
 -- the set, and the ranges that are not in it yet
 pub record Filling (g : List ℕ) (p count q k : ℕ) (set₁ : List ℕ) : Type 0 where
   pub size : length set₁ ≡ 32
@@ -86,7 +103,7 @@ fill-turn g p count q k set₁ set₂ r f l e s h = record {
       ∙ f .same x m;
 }
 
-pub fill-end : (g : List ℕ) (p count q k : ℕ) (set₁ : List ℕ) → Filling g p count q k set₁ → count ≤ k → SetOf g p set₁
+pub fill-end : (g : List ℕ) (p count q k : ℕ) (set₁ : List ℕ) → Filling g p count q k set₁ → count ≤ k → ClassSet g p set₁
 unfolding inSome
 fill-end g p count q k set₁ f l = record {
   size = f .size;
@@ -114,13 +131,13 @@ nth-below xs n p e = go (ltb n (length xs)) refl
   where
     go : (b : Bool) → ltb n (length xs) ≡ b → n < length xs
     go true f = ltb-true n (length xs) f
-    go false f = absurd (mathlib.Core.Option.Option·none-ne-some p (sym (nth-past xs n (ltb-false n (length xs) f)) ∙ e))
+    go false f = absurd (Option·none-ne-some p (sym (nth-past xs n (ltb-false n (length xs) f)) ∙ e))
 
 -- the sets of the first n classes
 pub record Compiling (g list sets₀ sets₁ : List ℕ) (n : ℕ) : Type 0 where
   pub near : n ≤ length list
   pub size : length sets₁ ≡ length sets₀
-  pub done : (m p : ℕ) → m < n → nth list m ≡ some p → SetOf g p (setOf sets₁ m)
+  pub done : (m p : ℕ) → m < n → nth list m ≡ some p → ClassSet g p (setOf sets₁ m)
 
 pub compile-start : (g list sets₀ : List ℕ) → Compiling g list sets₀ sets₀ 0
 compile-start g list sets₀ = record { near = omega arith; size = refl; done = λ m p l e. absurd (omega arith) }
@@ -149,7 +166,7 @@ module _ (sets₁ ys : List ℕ) (n : ℕ) (room : 32 * n + 32 ≤ length sets�
       ∙ ap (λ (xs : List ℕ). take 32 (drop (32 * m) xs)) (take-append-drop (32 * n) sets₁)
 
 pub compile-turn : (g list sets₀ sets₁ ys : List ℕ) (n : ℕ) → Compiling g list sets₀ sets₁ n → n < length list → 32 * n + 32 ≤ length sets₁
-    → SetOf g (getD list n 0) ys → Compiling g list sets₀ (putMid (32 * n) (32 * n + 32 - 32 * n) sets₁ ys) (n + 1)
+    → ClassSet g (getD list n 0) ys → Compiling g list sets₀ (putMid (32 * n) (32 * n + 32 - 32 * n) sets₁ ys) (n + 1)
 compile-turn g list sets₀ sets₁ ys n c l room s = record {
   near = omega arith;
   size = same-len-mid (32 * n) (32 * n + 32 - 32 * n) sets₁ ys (s .size ∙ sym part) ∙ c .size;
@@ -159,14 +176,14 @@ compile-turn g list sets₀ sets₁ ys n c l room s = record {
     part : length (take (32 * n + 32 - 32 * n) (drop (32 * n) sets₁)) ≡ 32
     part = simp (length-take, length-drop) (omega arith)
 
-    go : (m p : ℕ) → m < n + 1 → nth list m ≡ some p → (b : Bool) → ltb m n ≡ b → SetOf g p (setOf (putMid (32 * n) (32 * n + 32 - 32 * n) sets₁ ys) m)
+    go : (m p : ℕ) → m < n + 1 → nth list m ≡ some p → (b : Bool) → ltb m n ≡ b → ClassSet g p (setOf (putMid (32 * n) (32 * n + 32 - 32 * n) sets₁ ys) m)
     go m p k e true f =
         let q : m < n = ltb-true m n f in
         rw (put-other sets₁ ys n room (s .size) m q) (c .done m p q e)
     go m p k e false f =
         let q : n ≤ m = ltb-false m n f in
         let z : m ≡ n = omega arith in
-        let h : getD list n 0 ≡ p = mathlib.Core.Option.Option·some-injective (getD list n 0) p (sym (nth-at list n l) ∙ (rw z at e)) in
+        let h : getD list n 0 ≡ p = Option·some-injective (getD list n 0) p (sym (nth-at list n l) ∙ (rw z at e)) in
         rw (z, put-here sets₁ ys n room (s .size), ← h) s
 
 pub compile-end : (g list sets₀ sets₁ : List ℕ) (n : ℕ) → Compiling g list sets₀ sets₁ n → length list ≤ n → list ≡ classes g → Compiled g sets₁
@@ -174,3 +191,28 @@ unfolding class
 compile-end g list sets₀ sets₁ n c l e = record {
   each = λ m p f. c .done m p (omega (arith, nth-below list m p (rw e f))) (rw e f);
 }
+
+-- what goes behind the sets leaves them as they are
+pub front-kept : (xs rest : List ℕ) (end a : ℕ) → end ≤ a → a ≤ length xs → take end (take a xs ++ rest) ≡ take end xs
+front-kept xs rest end a l m = take-append-le end (take a xs) rest (omega (arith, length-take-le a xs m)) ∙ take-take end a xs l
+
+within-front : (xs : List ℕ) (e m : ℕ) → 32 * m + 32 ≤ e → length (take e xs) ≡ e → setOf xs m ≡ setOf (take e xs) m
+unfolding setOf
+within-front xs e m l f =
+    ap (λ (ys : List ℕ). take 32 (drop (32 * m) ys)) (sym (take-append-drop e xs))
+    ∙ ap (take 32) (drop-append-le (32 * m) (take e xs) (drop e xs) (omega arith))
+    ∙ take-append-le 32 (drop (32 * m) (take e xs)) (drop e xs) (rw length-drop (omega arith))
+
+pub compile-kept : (g list sets₁ sets₂ : List ℕ) → Compiled g sets₁ → list ≡ classes g → 32 * length list ≤ length sets₁
+    → take (32 * length list) sets₂ ≡ take (32 * length list) sets₁ → Compiled g sets₂
+unfolding class
+compile-kept g list sets₁ sets₂ c e l k = record { each = λ m p f. rw (same m (omega (arith, nth-below list m p (rw e f)))) (c .each m p f) }
+  where
+    full : length (take (32 * length list) sets₁) ≡ 32 * length list
+    full = length-take-le (32 * length list) sets₁ l
+
+    same : (m : ℕ) → m < length list → setOf sets₂ m ≡ setOf sets₁ m
+    same m n =
+        within-front sets₂ (32 * length list) m (omega arith) (ap length k ∙ full)
+        ∙ ap (λ (xs : List ℕ). setOf xs m) k
+        ∙ sym (within-front sets₁ (32 * length list) m (omega arith) full)

@@ -1,23 +1,23 @@
 -- A text, part by part, to the verdict.
-use Prim.Native.Nat.{ℕ, zero, suc, _+_, _-_, _*_, min, _≤_, _<_, _^_}
+use Prim.Native.Nat.{ℕ, _+_, _-_, _*_, min, _≤_, _<_}
 use mathlib.Core.Path.{_≡_, refl, ap, sym, _∙_}
-use mathlib.Core.List.{List, [], _∷_, _++_}
+use mathlib.Core.List.{List, _++_}
 use mathlib.Core.Bool.{Bool, true, false, and-true}
-use mathlib.Core.Option.{Option, none, some}
+use mathlib.Core.Option.{some}
 use native.Mathlib.Omega.{arith}
 use lib.ListN.{length, getD, take, drop, length-take, length-drop, List·getD-eq-default}
 use lib.Seq.{getD-take, getD-drop}
-use lib.Dec.{eqb, leb, ltb}
-use borrow.Author.Tests.{le-leb, lt-leb, ne-eqb, ltb-true, ltb-false}
-use Rattle.rules.specs.Records.{fieldB, fieldC, nth}
+use lib.Dec.{leb, ltb}
+use borrow.Author.Tests.{le-leb, ne-eqb, ltb-true, ltb-false}
+use Rattle.rules.specs.Records.{fieldB, fieldC}
 use Rattle.rules.specs.Grammar.{classes, class}
 use Rattle.rules.specs.Lexeme.{ranges, isLexeme}
 use Rattle.stream.specs.declared.text.Text.{Text}
 use Rattle.stream.specs.Text.{textIn, payloadFrom, room, partOf, Rest}
 use Rattle.lexeme.specs.declared.scan.Scan.{Scan}
-use Rattle.lexeme.specs.Sets.{SetOf, setOf, Compiled, Ready}
-use Rattle.lexeme.specs.Scan.{midway, clean, scanned, passes, Tidy}
-use Rattle.lexeme.proofs.ScanLaws.{scanned-append, lexeme-scan, lexeme-none}
+use Rattle.lexeme.specs.Sets.{ClassSet, setOf, Ready}
+use Rattle.lexeme.specs.Scan.{midway, clean, scanned, Tidy}
+use Rattle.lexeme.proofs.ScanLaws.{passes, scanned-append, lexeme-scan, lexeme-none}
 use Rattle.lexeme.proofs.PartLaws.{tidy-scanned, passes-bad, passes-past}
 use Rattle.lexeme.proofs.ClassLaws.{nth-at, nth-past}
 
@@ -38,6 +38,14 @@ bytes-part xs m a l k = go (ltb k m) refl
     go false e =
         let z : getD (take m (drop a xs)) k 0 ≡ 0 = List·getD-eq-default (take m (drop a xs)) 0 (rw length-take (omega (arith, ltb-false k m e))) in
         omega arith
+
+-- what the scan of the whole text says of it
+abbrev verdict : List ℕ → ℕ → List ℕ → Text → Bool
+verdict g p s t = passes g p (scanned g (ranges g p) (clean 0) (textIn s t))
+
+pub by-scan : (g : List ℕ) (p : ℕ) (s : List ℕ) (t : Text) (r : Bool) → r ≡ passes g p (scanned g (ranges g p) (clean 0) (textIn s t))
+    → (c : ℕ) → class g c ≡ some p → r ≡ isLexeme g c (textIn s t)
+by-scan g p s t r e c f = e ∙ sym (lexeme-scan g c p (textIn s t) f)
 
 -- what is left of a text, and the state after what went before
 pub record Reading (g : List ℕ) (p : ℕ) (s : List ℕ) (t : Text) (state : Scan) (rest : Text) : Type 0 where
@@ -68,10 +76,10 @@ module _ (g : List ℕ) (p : ℕ) (s : List ℕ) (t : Text) (state next : Scan) 
     same = onward;
   }
 
-  pub read-bad : next .good ≡ false → false ≡ passes g p (scanned g (ranges g p) (clean 0) (textIn s t))
+  pub read-bad : next .good ≡ false → false ≡ verdict g p s t
   read-bad o = sym (ap (passes g p) onward ∙ passes-bad g p (ranges g p) (textIn s rest') next o)
 
-  pub read-past : fieldC g p < next .count → false ≡ passes g p (scanned g (ranges g p) (clean 0) (textIn s t))
+  pub read-past : fieldC g p < next .count → false ≡ verdict g p s t
   read-past m = sym (ap (passes g p) onward ∙ passes-past g p (ranges g p) (textIn s rest') next m)
 
 -- at the end of the text
@@ -80,11 +88,11 @@ module _ (g : List ℕ) (p : ℕ) (s : List ℕ) (t : Text) (state : Scan) (rest
   unfolding textIn payloadFrom scanned
   whole = let e : rest .left ≡ 0 = omega arith in h .same ∙ rw e
 
-  pub read-short : (state .due ≡ 0 → ⊥) → false ≡ passes g p (scanned g (ranges g p) (clean 0) (textIn s t))
+  pub read-short : (state .due ≡ 0 → ⊥) → false ≡ verdict g p s t
   unfolding passes
   read-short d = sym (ap (passes g p) whole ∙ rw (h .tidy .good, ne-eqb (state .due) 0 d))
 
-  pub read-whole : state .due ≡ 0 → leb (fieldB g p) (state .count) ≡ passes g p (scanned g (ranges g p) (clean 0) (textIn s t))
+  pub read-whole : state .due ≡ 0 → leb (fieldB g p) (state .count) ≡ verdict g p s t
   unfolding passes
   read-whole d = sym (ap (passes g p) whole ∙ rw (h .tidy .good, d, le-leb (state .count) (fieldC g p) (h .most)) (and-true (leb (fieldB g p) (state .count))))
 
@@ -95,15 +103,15 @@ set-room g list words n r l =
     let e : class g n ≡ some (getD list n 0) = found g list n (r .heads) l in
     omega (arith, simp (length-take, length-drop) at (r .sets .each n (getD list n 0) e .size))
 
-pub set-there : (g list words : List ℕ) (n : ℕ) → Ready g list words → n < length list → SetOf g (getD list n 0) (take (32 * n + 32 - 32 * n) (drop (32 * n) words))
+pub set-there : (g list words : List ℕ) (n : ℕ) → Ready g list words → n < length list → ClassSet g (getD list n 0) (take (32 * n + 32 - 32 * n) (drop (32 * n) words))
 unfolding setOf
 set-there g list words n r l =
     let e : 32 * n + 32 - 32 * n ≡ 32 = omega arith in
     rw e (r .sets .each n (getD list n 0) (found g list n (r .heads) l))
 
 pub lexeme-of : (g list words : List ℕ) (n : ℕ) (r : Bool) (read text : List ℕ) → Ready g list words → n < length list → read ≡ text
-    → r ≡ passes g (getD list n 0) (scanned g (ranges g (getD list n 0)) (clean 0) read) → r ≡ isLexeme g n text
-lexeme-of g list words n r read text q l e f = f ∙ rw e (sym (lexeme-scan g n (getD list n 0) text (found g list n (q .heads) l)))
+    → ((c : ℕ) → class g c ≡ some (getD list n 0) → r ≡ isLexeme g c read) → r ≡ isLexeme g n text
+lexeme-of g list words n r read text q l e f = f n (found g list n (q .heads) l) ∙ ap (isLexeme g n) e
 
 pub no-class : (g list words : List ℕ) (n : ℕ) (text : List ℕ) → Ready g list words → length list ≤ n → false ≡ isLexeme g n text
 unfolding class

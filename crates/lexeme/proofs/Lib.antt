@@ -3,6 +3,7 @@ pub mod SetLaws
 pub mod ScanLaws
 pub mod StepLaws
 pub mod RunLaws
+pub mod MixedLaws
 pub mod ClassLaws
 pub mod PartLaws
 pub mod LexemeLaws

@@ -1,7 +1,7 @@
 -- The scan of a part: what its states are like, and one part behind another.
-use Prim.Native.Nat.{ℕ, zero, suc, _+_, _-_, _*_, _≤_, _<_, _^_}
-use mathlib.Core.Path.{_≡_, refl, ap, ap₂, sym, _∙_, subst}
-use mathlib.Core.List.{List, [], _∷_, _++_}
+use Prim.Native.Nat.{ℕ, suc, _+_, _-_, _*_, _≤_, _<_, _^_}
+use mathlib.Core.Path.{_≡_, refl, ap, sym, _∙_}
+use mathlib.Core.List.{List, [], _∷_}
 use mathlib.Core.Bool.{Bool, true, false, cond, not, _&&_, and-false, false≢true, true≢false}
 use native.Mathlib.Omega.{arith}
 use native.Mathlib.Numerals.{add-one}
@@ -10,15 +10,15 @@ use lib.ListN.{length, getD, drop, drop-of-length-le}
 use lib.Seq.{drop-cons}
 use lib.Dec.{eqb, leb}
 use lib.Pow.{pow-add, pow-mono}
-use borrow.Author.Tests.{le-leb, lt-leb, eqb-true, eqb-false, leb-true, leb-false}
+use borrow.Author.Tests.{lt-leb, eqb-true, eqb-false, leb-true}
 use Rattle.rules.specs.Records.{fieldB, fieldC}
 use Rattle.rules.specs.Lexeme.{Decoding, between, inside, broken, firstByte, laterByte, nextByte, inSome, allInSome, within, ranges}
 use Rattle.lexeme.specs.declared.scan.Scan.{Scan}
 use Rattle.lexeme.specs.declared.runs.Run.{Run}
-use Rattle.lexeme.specs.Sets.{SetOf}
-use Rattle.lexeme.specs.Scan.{midway, clean, stopped, further, judged, resumed, seen, scanned, passes, Tidy}
-use Rattle.lexeme.specs.Runs.{Ran, Ahead}
-use Rattle.lexeme.proofs.ScanLaws.{by-test, scanned-stopped, seen-stopped}
+use Rattle.lexeme.specs.Sets.{ClassSet}
+use Rattle.lexeme.specs.Scan.{midway, clean, stopped, further, judged, resumed, seen, scanned, Tidy}
+use Rattle.lexeme.specs.Runs.{Ahead}
+use Rattle.lexeme.proofs.ScanLaws.{passes, by-test, scanned-stopped}
 use Rattle.lexeme.proofs.StepLaws.{seen-first, seen-later, later-low, later-high, later-last, later-more, judge-stop, judge-char, judge-midway}
 
 -- a decoding after one byte of a text whose characters were forgotten
@@ -168,7 +168,7 @@ pub record Scanning (g rs part : List ℕ) (start s : Scan) (i : ℕ) : Type 0 w
 pub scan-start : (g rs part : List ℕ) (start : Scan) → Tidy start → Scanning g rs part start start 0
 scan-start g rs part start t = record { near = omega arith; state = t; few = omega arith; same = refl }
 
-pub scan-ahead : (g set part : List ℕ) (p i : ℕ) (start s : Scan) (r : Run) → SetOf g p set → Scanning g (ranges g p) part start s i → Ahead set part i (s .due) r
+pub scan-ahead : (g set part : List ℕ) (p i : ℕ) (start s : Scan) (r : Run) → ClassSet g p set → Scanning g (ranges g p) part start s i → Ahead set part i (s .due) r
     → Scanning g (ranges g p) part start (further s (r .count)) (r .at)
 scan-ahead g set part p i start s r c h a = record {
   near = a .ran .inside;

@@ -1,20 +1,18 @@
 -- The scan: it knows of a decoding what decides whether the text is a lexeme; and its steps, one law for each way through the code.
-use Prim.Native.Nat.{ℕ, zero, suc, _+_, _-_, _*_, _≤_, _<_, _^_}
-use mathlib.Core.Path.{_≡_, refl, ap, ap₂, sym, _∙_, subst}
+use Prim.Native.Nat.{ℕ, _+_, _-_, _*_}
+use mathlib.Core.Path.{_≡_, refl, ap, sym, _∙_}
 use mathlib.Core.List.{List, [], _∷_, _++_}
 use mathlib.Core.Bool.{Bool, true, false, cond, not, _&&_, and-true, and-false, and-assoc}
-use mathlib.Core.Option.{Option, none, some}
-use native.Mathlib.Omega.{arith}
+use mathlib.Core.Option.{none, some}
 use native.Mathlib.Nat.{add-zero, zero-add, add-assoc}
 use lib.ListN.{length, length-append}
 use lib.Dec.{eqb, leb}
-use borrow.Author.Tests.{le-leb, lt-leb, eq-eqb, ne-eqb, leb-true, leb-false, eqb-true, eqb-false}
 use Rattle.rules.specs.Faults.{onFound}
 use Rattle.rules.specs.Records.{fieldB, fieldC}
 use Rattle.rules.specs.Grammar.{class}
 use Rattle.rules.specs.Lexeme.{Decoding, between, inside, broken, firstByte, laterByte, nextByte, decode, decoded, charactersOf, inSome, allInSome, admits, ranges, within, isLexeme}
 use Rattle.lexeme.specs.declared.scan.Scan.{Scan}
-use Rattle.lexeme.specs.Scan.{midway, clean, stopped, judged, resumed, seen, scanned, passes}
+use Rattle.lexeme.specs.Scan.{midway, clean, stopped, judged, resumed, seen, scanned}
 
 -- ways through a test
 pub by-test : {A : Type 0} (P : A → Type 0) (b : Bool) {x y : A} → (b ≡ true → P x) → (b ≡ false → P y) → P (cond b x y)
@@ -165,7 +163,10 @@ module _ (g rs : List ℕ) where
   scanned-stopped [] = refl
   scanned-stopped (b ∷ bs) = ap (λ (s : Scan). scanned g rs s bs) (seen-stopped b) ∙ scanned-stopped bs
 
--- what the scan of a whole text says of it
+-- the scan of a whole text says that it is a lexeme of the class whose record is at p
+unfoldable pub passes : List ℕ → ℕ → Scan → Bool
+passes g p s = s .good && (eqb (s .due) 0 && within (fieldB g p) (fieldC g p) (s .count))
+
 judges : (g : List ℕ) (p : ℕ) (d : Decoding) → onFound (decoded d) false (admits g p) ≡ passes g p (judged g (ranges g p) 0 d)
 unfolding decoded onFound admits passes judged midway stopped
 judges g p d = go (d .valid) refl (eqb (d .due) 0) refl (allInSome g (ranges g p) (d .characters)) refl

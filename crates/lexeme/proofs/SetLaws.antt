@@ -1,16 +1,16 @@
 -- A set as it is filled: a range goes in word by word, the ranges of a class one after the other.
-use Prim.Native.Nat.{ℕ, zero, suc, _+_, _-_, _*_, _/_, _%_, min, _≤_, _<_, _^_}
+use Prim.Native.Nat.{ℕ, zero, suc, _+_, _-_, _*_, _/_, _%_, min, _≤_, _<_}
 use mathlib.Core.Path.{_≡_, refl, ap, ap₂, sym, _∙_}
-use mathlib.Core.List.{List, [], _∷_, _++_, append-nil}
+use mathlib.Core.List.{List, _++_, append-nil}
 use mathlib.Core.Bool.{Bool, true, false, _&&_, _||_, and-false, or-false}
 use native.Mathlib.Omega.{arith}
-use native.Mathlib.Nat.{zero-div, zero-mod, add-zero}
+use native.Mathlib.Nat.{zero-div}
 use borrow.Author.Fill.{fill-more}
-use lib.ListN.{length, getD, set, drop, replicate, length-set, getD-replicate, List·getD-eq-default}
+use lib.ListN.{length, getD, set, drop, replicate, length-set}
 use lib.Seq.{getD-set-same, getD-set-other, drop-length}
 use lib.Bits.{bitOr}
-use lib.Dec.{eqb, ltb, leb}
-use borrow.Author.Tests.{ltb-true, ltb-false, lt-leb, le-leb}
+use lib.Dec.{ltb, leb}
+use borrow.Author.Tests.{ltb-true, ltb-false, lt-leb}
 use Rattle.rules.specs.Lexeme.{within}
 use Rattle.lexeme.specs.Sets.{bitAt, isIn}
 use Rattle.lexeme.proofs.BitLaws.{bit-or}

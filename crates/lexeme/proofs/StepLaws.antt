@@ -1,16 +1,15 @@
 -- One byte of a scan, one law for each way through the code.
-use Prim.Native.Nat.{ℕ, zero, suc, _+_, _-_, _*_, _≤_, _<_, _^_}
-use mathlib.Core.Path.{_≡_, refl, ap, ap₂, sym, _∙_, subst}
-use mathlib.Core.List.{List, [], _∷_, _++_}
-use mathlib.Core.Bool.{Bool, true, false, cond, not, _&&_, _||_}
+use Prim.Native.Nat.{ℕ, _+_, _-_, _*_, _≤_, _<_}
+use mathlib.Core.Path.{_≡_, refl, ap, sym, _∙_}
+use mathlib.Core.List.{List, [], _∷_}
+use mathlib.Core.Bool.{Bool, true, false, cond}
 use native.Mathlib.Omega.{arith}
-use native.Mathlib.Nat.{add-zero, zero-add}
-use lib.ListN.{length}
+use native.Mathlib.Nat.{add-zero}
 use lib.Dec.{eqb, leb}
-use borrow.Author.Tests.{le-leb, lt-leb, eq-eqb, ne-eqb, leb-true, leb-false, eqb-true, eqb-false}
-use Rattle.rules.specs.Lexeme.{Decoding, between, inside, broken, firstByte, laterByte, nextByte, inSome, allInSome, within}
+use borrow.Author.Tests.{le-leb, lt-leb, ne-eqb, leb-false, eqb-true, eqb-false}
+use Rattle.rules.specs.Lexeme.{between, inside, broken, firstByte, laterByte, nextByte, inSome, allInSome}
 use Rattle.lexeme.specs.declared.scan.Scan.{Scan}
-use Rattle.lexeme.specs.Scan.{midway, clean, stopped, judged, resumed, seen, scanned, leastNext, mostNext}
+use Rattle.lexeme.specs.Scan.{midway, clean, stopped, judged, seen, leastNext, mostNext}
 use Rattle.lexeme.proofs.ScanLaws.{seen-midway}
 
 -- the first byte of a character

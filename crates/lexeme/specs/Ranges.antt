@@ -8,4 +8,5 @@ use Rattle.lexeme.specs.declared.class.Range.{Range}
 pub record RangeAt (g : List ℕ) (i : ℕ) (r : Range) : Type 0 where
   pub from : r .lowest ≡ lowest g i
   pub to : r .highest ≡ highest g i
+  pub near : r .lowest < 2 ^ 24
   pub small : r .highest < 2 ^ 24

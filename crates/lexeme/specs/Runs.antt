@@ -6,7 +6,7 @@ use mathlib.Core.Bool.{true}
 use lib.ListN.{length, getD, drop}
 use Rattle.rules.specs.Lexeme.{ranges}
 use Rattle.lexeme.specs.declared.runs.Run.{Run}
-use Rattle.lexeme.specs.Sets.{isIn, SetOf}
+use Rattle.lexeme.specs.Sets.{isIn, ClassSet}
 use Rattle.lexeme.specs.Scan.{clean, scanned}
 
 -- each byte of the part, from a place to another, is admitted by four words
@@ -19,7 +19,7 @@ pub record Plain (words part : List ℕ) (from to : ℕ) : Type 0 where
 pub record Ran (set part : List ℕ) (from to count : ℕ) : Type 0 where
   pub ahead : from + count ≤ to
   pub inside : to ≤ length part
-  pub same : (g : List ℕ) (p : ℕ) → SetOf g p set → (n : ℕ)
+  pub same : (g : List ℕ) (p : ℕ) → ClassSet g p set → (n : ℕ)
       → scanned g (ranges g p) (clean n) (drop from part) ≡ scanned g (ranges g p) (clean (n + count)) (drop to part)
 
 -- a run from a place, which is empty inside a character

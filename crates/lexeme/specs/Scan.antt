@@ -2,13 +2,12 @@
 use Prim.Native.Nat.{ℕ, _+_, _-_, _*_, _≤_, _<_, _^_}
 use mathlib.Core.Path.{_≡_}
 use mathlib.Core.List.{List, [], _∷_}
-use mathlib.Core.Bool.{Bool, true, false, cond, _&&_}
+use mathlib.Core.Bool.{true, false, cond, _&&_}
 use lib.ListN.{length}
 use lib.Dec.{eqb}
-use Rattle.rules.specs.Records.{fieldB, fieldC}
-use Rattle.rules.specs.Lexeme.{Decoding, nextByte, allInSome, within}
+use Rattle.rules.specs.Lexeme.{Decoding, nextByte, allInSome}
 use Rattle.lexeme.specs.declared.scan.Scan.{Scan}
-use Rattle.lexeme.specs.Sets.{SetOf}
+use Rattle.lexeme.specs.Sets.{ClassSet}
 
 -- n characters, and so many bytes of the next still due; n characters; not well-formed, or a character that the class doesn't admit
 unfoldable pub midway : ℕ → ℕ → ℕ → ℕ → ℕ → Scan
@@ -43,10 +42,6 @@ unfoldable pub scanned : List ℕ → List ℕ → Scan → List ℕ → Scan
 scanned g rs s [] = s
 scanned g rs s (b ∷ bs) = scanned g rs (seen g rs s b) bs
 
--- the whole text is a lexeme of the class whose record is at p
-unfoldable pub passes : List ℕ → ℕ → Scan → Bool
-passes g p s = s .good && (eqb (s .due) 0 && within (fieldB g p) (fieldC g p) (s .count))
-
 -- RFC 3629, section 4: the byte after the first, from this least to this most
 unfoldable pub leastNext : ℕ → ℕ
 leastNext b = cond (eqb b 0xe0) 0xa0 (cond (eqb b 0xf0) 0x90 0x80)
@@ -65,13 +60,13 @@ pub record Tidy (s : Scan) : Type 0 where
 
 -- what a step asks: the class's set, a state that steps have left, a byte, and room to count one character more
 pub record Steps (g : List ℕ) (p : ℕ) (set : List ℕ) (s : Scan) (b : ℕ) : Type 0 where
-  pub class : SetOf g p set
+  pub class : ClassSet g p set
   pub state : Tidy s
   pub byte : b < 256
   pub room : s .count + 1 < 2 ^ 64
 
 -- what the scan of a part asks: a part has less than 2^63 bytes
 pub record Scans (g : List ℕ) (p : ℕ) (set : List ℕ) (s : Scan) : Type 0 where
-  pub class : SetOf g p set
+  pub class : ClassSet g p set
   pub state : Tidy s
   pub room : s .count < 2 ^ 63

@@ -1,10 +1,12 @@
-// A code point against a class: by the class's set below 2,048, by its ranges above.
+// A code point against a class: by the class's set below 2,048, by its ranges above, which hints make fast to search.
 ghost use mathlib.Core.Path.{_≡_};
+ghost use mathlib.Core.Bool.{true};
 ghost use Prim.Native.Nat.{_<_};
 ghost use Rattle.rules.specs.Records.{fieldD};
 ghost use Rattle.rules.specs.Lexeme.{within, ranges, inSome};
-ghost use Rattle.lexeme.specs.Sets.{SetOf};
+ghost use Rattle.lexeme.specs.Sets.{ClassSet};
 ghost use Rattle.lexeme.specs.Ranges.{RangeAt};
+use crate::hints::guess;
 use crate::sets::has;
 use stream::record::fetch;
 
@@ -41,9 +43,8 @@ pub fn range_count(g: &[u8], p: u16) -> usize
     head.d as usize
 }
 
-// Whether x is in some range of the class whose record is at p. The ranges are read in their order; where a class has many, this is the place for a
-// faster way.
-pub fn in_ranges(g: &[u8], p: u16, x: usize) -> bool
+// Whether x is in some range of the class whose record is at p: all ranges, in their order.
+fn search(g: &[u8], p: u16, x: usize) -> bool
     ensures { λ r. ⌜ r ≡ inSome (now (g .entry)) (ranges (now (g .entry)) p) x ⌝ }
 {
     let count = range_count(g, p);
@@ -59,12 +60,35 @@ pub fn in_ranges(g: &[u8], p: u16, x: usize) -> bool
     false
 }
 
-pub fn in_class(g: &[u8], p: u16, set: &[u64], x: usize) -> bool
-    requires { ⌜ SetOf (now g) p (now set) ⌝ }
+// Whether range k of the class has x.
+fn is_kth(g: &[u8], p: u16, k: usize, x: usize) -> bool
+    ensures { λ r. ⌜ (r ≡ true → inSome (now (g .entry)) (ranges (now (g .entry)) p) x ≡ true) ⌝ }
+{
+    if range_count(g, p) <= k {
+        return false;
+    }
+    let r = range_at(g, p as usize + 1 + k);
+    is_between(r, x)
+}
+
+// First where a hint says, then everywhere. Only a code point of no range, or a table with no room for hints, costs more than the search for a hint.
+pub fn in_ranges(g: &[u8], p: u16, hints: &[u64], x: usize) -> bool
+    ensures { λ r. ⌜ r ≡ inSome (now (g .entry)) (ranges (now (g .entry)) p) x ⌝ }
+{
+    if 0 < hints.len() {
+        if is_kth(g, p, guess(hints, x), x) {
+            return true;
+        }
+    }
+    search(g, p, x)
+}
+
+pub fn in_class(g: &[u8], p: u16, set: &[u64], hints: &[u64], x: usize) -> bool
+    requires { ⌜ ClassSet (now g) p (now set) ⌝ }
     ensures { λ r. ⌜ r ≡ inSome (now (g .entry)) (ranges (now (g .entry)) p) x ⌝ }
 {
     if x < 2048 {
         return has(set[x / 64], x);
     }
-    in_ranges(g, p, x)
+    in_ranges(g, p, hints, x)
 }

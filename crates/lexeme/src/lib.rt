@@ -1,16 +1,20 @@
 // Lexemes: well-formed UTF-8 with a number of characters from least to most, each in some range of a class.
 ghost use mathlib.Core.Path.{_≡_};
+ghost use mathlib.Core.Option.{some};
+ghost use Prim.Native.Nat.{ℕ};
 ghost use Rattle.rules.specs.Records.{textOf};
-ghost use Rattle.rules.specs.Lexeme.{ranges, isLexeme};
+ghost use Rattle.rules.specs.Grammar.{class};
+ghost use Rattle.rules.specs.Lexeme.{isLexeme};
 ghost use Rattle.stream.specs.Text.{textIn};
-ghost use Rattle.lexeme.specs.Sets.{SetOf, Ready};
-ghost use Rattle.lexeme.specs.Scan.{clean, scanned, passes};
+ghost use Rattle.lexeme.specs.Sets.{ClassSet, Ready};
 
 pub mod class;
+mod hints;
 pub mod runs;
 pub mod scan;
 pub mod sets;
 
+use hints::area;
 use scan::between;
 use scan::scan_part;
 use stream::record::fetch;
@@ -19,10 +23,11 @@ use stream::text::text_of;
 use stream::text::text_part;
 use stream::text::text_rest;
 
-// Whether a text is a lexeme of the class whose record is at p. It is read where it lies, block by block, up to the first byte that settles it.
-pub fn is_text_of(g: &[u8], p: u16, set: &[u64], s: &[u8], t: Text) -> bool
-    requires { ⌜ SetOf (now g) p (now set) ⌝ }
-    ensures { λ r. ⌜ r ≡ passes (now (g .entry)) p (scanned (now (g .entry)) (ranges (now (g .entry)) p) (clean 0) (textIn (now (s .entry)) t)) ⌝ }
+// Whether a text is a lexeme of the class whose record is at p, by its number c. It is read where it lies, block by block, up to the part that
+// settles it.
+pub fn admits_text(g: &[u8], p: u16, set: &[u64], hints: &[u64], s: &[u8], t: Text) -> bool
+    requires { ⌜ ClassSet (now g) p (now set) ⌝ }
+    ensures { λ r. ⌜ ((c : ℕ) → class (now (g .entry)) c ≡ some p → r ≡ isLexeme (now (g .entry)) c (textIn (now (s .entry)) t)) ⌝ }
 {
     let head = fetch(g, p as usize);
     let least = head.b as usize;
@@ -32,7 +37,7 @@ pub fn is_text_of(g: &[u8], p: u16, set: &[u64], s: &[u8], t: Text) -> bool
     while 0 < rest.left {
         let part = text_part(s, rest);
         rest = text_rest(s, rest);
-        state = scan_part(g, p, set, part, state);
+        state = scan_part(g, p, set, hints, part, state);
         if !state.good {
             return false;
         }
@@ -55,7 +60,11 @@ pub fn is_lexeme(g: &[u8], classes: &[u16], sets: &[u64], c: u16, s: &[u8], i: u
     if classes.len() <= n {
         return false;
     }
+    let p = classes[n];
+    let a = area(g, p, sets.len());
+    let low = a.from;
+    let high = a.to;
     let from = 32 * n;
     let to = from + 32;
-    is_text_of(g, classes[n], &sets[from..to], s, text_of(s, i))
+    admits_text(g, p, &sets[from..to], &sets[low..high], s, text_of(s, i))
 }

@@ -1,5 +1,5 @@
-// Runs of characters of one and two bytes that a class admits: the hot loops. Each byte is tested by one bit of a word that is looked up by the
-// byte's two highest bits. No loop has to find the longest run: what stands behind a run is left to the scan.
+// Runs of characters of one and two bytes that a class admits: the hot loops. Each byte is tested by one bit of a word, which is looked up by
+// the byte's two highest bits. No loop has to find the longest run: what stands behind a run is left to the scan.
 ghost use mathlib.Core.Path.{_≡_};
 ghost use mathlib.Core.Bool.{true};
 ghost use Prim.Native.Nat.{_+_, _/_, _≤_, _<_};
@@ -20,6 +20,7 @@ pub fn wide(b: u8) -> usize
     b as usize
 }
 
+// Whether words 0 to 3, two of the class and two of zeros, admit the byte at i.
 fn is_in(part: &[u8], i: usize, words: &[u64; 4]) -> bool
     requires { ⌜ i < length (now part) ⌝ }
     ensures { λ r. ⌜ r ≡ isIn (now (words .entry)) (getD (now (part .entry)) i 0) ⌝ }
@@ -58,7 +59,7 @@ fn by_one(part: &[u8], from: usize, words: &[u64; 4]) -> usize
     i
 }
 
-// Four bytes a turn. The last turn goes back a little where fewer than four are left, and tests some bytes twice.
+// Four bytes a turn. Where fewer than four are left at the end, the last turn goes back and tests some bytes twice, so that it needs no loop.
 fn by_four(part: &[u8], from: usize, words: &[u64; 4]) -> usize
     requires { ⌜ from ≤ length (now part) ⌝ }
     ensures { λ r. ⌜ Plain (now (words .entry)) (now (part .entry)) from r ⌝ }
@@ -87,9 +88,9 @@ fn is_lead(b: usize) -> usize
     if b < 192 { 0 } else { 1 }
 }
 
-// Characters of one and two bytes. Words 0 to 3 test a byte that begins a character, by its two highest bits: two words of the class, none, and
-// the leads 0xc2 to 0xdf. Words 4 to 7 test the byte after a lead, which goes on from 0x80 to 0xbf: word 6 is the lead's word of the class. So one test serves both, and no branch depends on
-// how long a character is.
+// Characters of one and two bytes. Words 0 to 3 test a byte that begins a character: two words of the class for ASCII, none for 0x80 to 0xbf,
+// and the leads 0xc2 to 0xdf. Words 4 to 7 test the byte after a lead, which is from 0x80 to 0xbf: word 6 is the lead's word of the class. So no
+// branch depends on how long a character is, which no processor foresees in Greek text.
 fn mixed(part: &[u8], from: usize, set: &[u64]) -> Run
     requires { ⌜ (from ≤ length (now part)) × (length (now set) ≡ 32) ⌝ }
     ensures { λ r. ⌜ Ran (now (set .entry)) (now (part .entry)) from (r .at) (r .count) ⌝ }
@@ -117,7 +118,7 @@ fn mixed(part: &[u8], from: usize, set: &[u64]) -> Run
     }
 }
 
-// A run of plain ASCII goes first: it has the fastest loop.
+// A run from a place between two characters. Plain ASCII goes first: it has the faster loop.
 pub fn run_from(part: &[u8], from: usize, set: &[u64]) -> Run
     requires { ⌜ (from ≤ length (now part)) × (length (now set) ≡ 32) ⌝ }
     ensures { λ r. ⌜ Ran (now (set .entry)) (now (part .entry)) from (r .at) (r .count) ⌝ }

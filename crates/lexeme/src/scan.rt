@@ -5,13 +5,14 @@ ghost use mathlib.Core.List.{List, []};
 ghost use Prim.Native.Nat.{ℕ, _+_, _≤_, _<_, _^_};
 ghost use lib.ListN.{length};
 ghost use Rattle.rules.specs.Lexeme.{ranges, firstByte};
-ghost use Rattle.lexeme.specs.Sets.{SetOf};
-ghost use Rattle.lexeme.specs.Scan.{midway, clean, stopped, further, judged, seen, scanned, leastNext, mostNext, Tidy, Steps, Scans};
+ghost use Rattle.lexeme.specs.Sets.{ClassSet};
+ghost use Rattle.lexeme.specs.Scan.{midway, clean, stopped, further, judged, seen, scanned, leastNext, mostNext, Steps, Scans};
 ghost use Rattle.lexeme.specs.Runs.{Ahead};
 use crate::class::in_class;
 use crate::runs::Run;
 use crate::runs::run_from;
 use crate::runs::wide;
+use crate::sets::has;
 
 // Between two bytes: whether all was well so far; how many bytes of a character are still due, the next of them from low to high, and
 // its bits so far; and the characters before it.
@@ -69,8 +70,8 @@ fn judge(admitted: bool, count: usize) -> Scan
     stop()
 }
 
-// RFC 3629, section 4: some first bytes narrow the range of the second, so that no character has two spellings, none is a surrogate and none
-// is past U+10FFFF.
+// RFC 3629, section 4: some first bytes narrow the range of the second, so that no character has two spellings, none is a surrogate and none is
+// past U+10FFFF.
 fn least_next(b: usize) -> usize
     ensures { λ r. ⌜ r ≡ leastNext b ⌝ }
 {
@@ -112,18 +113,18 @@ fn lead(count: usize, b: usize) -> Scan
 }
 
 fn first(g: &[u8], p: u16, set: &[u64], count: usize, b: usize) -> Scan
-    requires { ⌜ SetOf (now g) p (now set) ⌝ }
+    requires { ⌜ ClassSet (now g) p (now set) ⌝ }
     requires { ⌜ count + 1 < 2 ^ 64 ⌝ }
     ensures { λ r. ⌜ r ≡ judged (now (g .entry)) (ranges (now (g .entry)) p) count (firstByte [] b) ⌝ }
 {
     if b < 0x80 {
-        return judge(in_class(g, p, set, b), count);
+        return judge(has(set[b / 64], b), count);
     }
     lead(count, b)
 }
 
 // A later byte of a character brings six bits.
-fn later(g: &[u8], p: u16, set: &[u64], s: Scan, b: usize) -> Scan
+fn later(g: &[u8], p: u16, set: &[u64], hints: &[u64], s: Scan, b: usize) -> Scan
     requires { ⌜ Steps (now g) p (now set) s b ⌝ }
     requires { ⌜ 0 < s .due ⌝ }
     ensures { λ r. ⌜ r ≡ seen (now (g .entry)) (ranges (now (g .entry)) p) s b ⌝ }
@@ -136,20 +137,20 @@ fn later(g: &[u8], p: u16, set: &[u64], s: Scan, b: usize) -> Scan
     }
     let bits = s.bits * 64 + (b - 0x80);
     if s.due == 1 {
-        return judge(in_class(g, p, set, bits), s.count);
+        return judge(in_class(g, p, set, hints, bits), s.count);
     }
     inside(s.count, s.due - 1, 0x80, 0xbf, bits)
 }
 
 // A byte more.
-fn step(g: &[u8], p: u16, set: &[u64], s: Scan, b: usize) -> Scan
+fn step(g: &[u8], p: u16, set: &[u64], hints: &[u64], s: Scan, b: usize) -> Scan
     requires { ⌜ Steps (now g) p (now set) s b ⌝ }
     ensures { λ r. ⌜ r ≡ seen (now (g .entry)) (ranges (now (g .entry)) p) s b ⌝ }
 {
     if s.due == 0 {
         return first(g, p, set, s.count, b);
     }
-    later(g, p, set, s, b)
+    later(g, p, set, hints, s, b)
 }
 
 // How far the hot loops get from here. They begin between two characters; a byte that begins a character of three or four isn't for them.
@@ -180,9 +181,9 @@ fn count_on(s: Scan, more: usize) -> Scan
     }
 }
 
-// One part of a text, from the state that the part before it left. Runs of characters of one and two bytes go through the hot loops; what they leave,
-// longer characters and the borders of blocks, goes byte by byte.
-pub fn scan_part(g: &[u8], p: u16, set: &[u64], part: &[u8], start: Scan) -> Scan
+// One part of a text, from the state that the part before it left. Runs of characters of one and two bytes go through the hot loops; what they
+// leave, longer characters and the borders of blocks, goes byte by byte.
+pub fn scan_part(g: &[u8], p: u16, set: &[u64], hints: &[u64], part: &[u8], start: Scan) -> Scan
     requires { ⌜ Scans (now g) p (now set) start ⌝ }
     ensures { λ r. ⌜ r ≡ scanned (now (g .entry)) (ranges (now (g .entry)) p) start (now (part .entry)) ⌝ }
 {
@@ -195,7 +196,7 @@ pub fn scan_part(g: &[u8], p: u16, set: &[u64], part: &[u8], start: Scan) -> Sca
         if part.len() <= at {
             return here;
         }
-        s = step(g, p, set, here, wide(part[at]));
+        s = step(g, p, set, hints, here, wide(part[at]));
         if !s.good {
             return s;
         }

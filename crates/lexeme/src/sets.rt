@@ -1,12 +1,14 @@
-// A table filled once per run: for each class the set of its code points below 2,048, one bit each, 32 words of 64 bits to a class.
+// A table filled once per run: for each class the set of its code points below 2,048, one bit each, 32 words of 64 bits to a class. What is
+// lent behind the sets takes hints for the code points above.
 ghost use mathlib.Core.Path.{_≡_};
 ghost use Prim.Native.Nat.{ℕ, _+_, _-_, _*_, _/_, _%_, min, _≤_, _<_, _^_};
 ghost use mathlib.Core.Bool.{_||_};
 ghost use lib.ListN.{length, replicate};
 ghost use Rattle.rules.specs.Lexeme.{within};
-ghost use Rattle.lexeme.specs.Sets.{bitAt, isIn, SetOf, Compiled, Lent};
+ghost use Rattle.lexeme.specs.Sets.{bitAt, isIn, ClassSet, Compiled, Lent};
 use crate::class::range_at;
 use crate::class::range_count;
+use crate::hints::all_hints;
 
 // Bit x of a word, counted modulo 64.
 pub fn has(word: u64, x: usize) -> bool
@@ -79,7 +81,7 @@ fn clear(set: &mut [u64])
 // The set of the class whose record is at p.
 fn class_set(g: &[u8], p: u16, set: &mut [u64])
     requires { ⌜ length (now set) ≡ 32 ⌝ }
-    ensures { λ _. ⌜ SetOf (now (g .entry)) p (now (set .exit)) ⌝ }
+    ensures { λ _. ⌜ ClassSet (now (g .entry)) p (now (set .exit)) ⌝ }
 {
     clear(set);
     let count = range_count(g, p);
@@ -105,4 +107,5 @@ pub fn class_sets(g: &[u8], classes: &[u16], sets: &mut [u64])
         class_set(g, p, &mut sets[from..to]);
         n += 1;
     }
+    all_hints(g, classes, sets);
 }

@@ -9,14 +9,14 @@ mul-has : tie.Need-mul-has
 mul-has c = omega (arith, c .if1 .taken)
 
 shared-slice-read-has : tie.Need-shared-slice-read-has
-shared-slice-read-has c = omega (arith, c .before .before .before .before .pre .size, c .before .if1 .taken)
+shared-slice-read-has c = omega (arith, c .before .before .before .before .before .pre .size, c .before .if1 .taken)
 
 has-requires : tie.Need-has-requires
 has-requires c κs = search needs
 
 returns : tie.Need-returns
 unfolding isIn
-returns c = c .has .ensures ∙ c .before .before .before .before .before .pre .same _ (c .before .before .if1 .taken)
+returns c = c .has .ensures ∙ c .before .before .before .before .before .before .pre .same _ (c .before .before .if1 .taken)
 
 in-ranges-requires : tie.Need-in-ranges-requires
 in-ranges-requires c κs = search needs

@@ -1,4 +1,3 @@
-use mathlib.Core.Bool.{_&&_}
 use borrow.Author.Tests.{le-leb, lt-leb}
 use Rattle.lexeme.proofs.class.is_between.Statement.{statement}
 use Rattle.lexeme.proofs.class.is_between.Tie as tie

@@ -32,7 +32,7 @@ add-t12 : tie.Need-add-t12
 add-t12 c = search needs
 
 returns : tie.Need-returns
-returns c = record { from = range-low _ _ _ (c .before .before .before .before .fetch .ensures); to = range-high _ _ _ (c .before .before .before .before .fetch .ensures); small = omega (arith, c .before .struct-known3 .given) }
+returns c = record { from = range-low _ _ _ (c .before .before .before .before .fetch .ensures); to = range-high _ _ _ (c .before .before .before .before .fetch .ensures); near = omega (arith, c .before .struct-known3 .given); small = omega (arith, c .before .struct-known3 .given) }
 
 pub range-at-spec : {M : Type 1} → statement M
 range-at-spec =

@@ -1,7 +1,6 @@
 use Prim.Native.Nat.{_-_}
 use native.Mathlib.Omega.{arith}
 use lib.ListN.{length}
-use mathlib.Core.Path.{_∙_, sym, refl}
 use borrow.Author.Tests.{not-false}
 use Rattle.lexeme.specs.Runs.{Plain}
 use Rattle.lexeme.proofs.RunLaws.{plain-none, plain-join, plain-back}

@@ -1,4 +1,3 @@
-use mathlib.Core.Path.{_∙_}
 use Rattle.lexeme.specs.Sets.{isIn}
 use borrow.Author.Needs.{needs}
 use Rattle.lexeme.proofs.runs.is_in.Statement.{statement}

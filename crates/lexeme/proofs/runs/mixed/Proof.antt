@@ -1,9 +1,9 @@
 use Prim.Native.Nat.{_-_}
 use native.Mathlib.Omega.{arith}
 use lib.ListN.{length}
-use mathlib.Core.Path.{_∙_, sym, refl}
+use mathlib.Core.Path.{_∙_, sym}
 use borrow.Author.Tests.{not-false}
-use Rattle.lexeme.proofs.RunLaws.{Mixing, mix-start, mix-turn}
+use Rattle.lexeme.proofs.MixedLaws.{Mixing, mix-start, mix-turn}
 use borrow.Author.Needs.{needs}
 use Rattle.lexeme.proofs.runs.mixed.Statement.{statement}
 use Rattle.lexeme.proofs.runs.mixed.Tie as tie

@@ -5,13 +5,13 @@ use Rattle.lexeme.proofs.scan.step.Statement.{statement}
 use Rattle.lexeme.proofs.scan.step.Tie as tie
 
 first-requires : tie.Need-first-requires
-first-requires c κs = (c .before .before .before .before .pre .class, c .before .before .before .before .pre .room)
+first-requires c κs = (c .before .before .before .before .before .pre .class, c .before .before .before .before .before .pre .room)
 
 returns : tie.Need-returns
-returns c = c .first .ensures ∙ sym (step-first _ _ _ _ (c .before .before .before .before .before .pre .state) (c .before .if1 .taken))
+returns c = c .first .ensures ∙ sym (step-first _ _ _ _ (c .before .before .before .before .before .before .pre .state) (c .before .if1 .taken))
 
 later-requires : tie.Need-later-requires
-later-requires c κs = (c .before .before .before .before .pre, omega (arith, c .if1 .left))
+later-requires c κs = (c .before .before .before .before .before .pre, omega (arith, c .if1 .left))
 
 returns-2 : tie.Need-returns-2
 returns-2 c = c .later .ensures

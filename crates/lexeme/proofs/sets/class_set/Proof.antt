@@ -1,5 +1,5 @@
 use Prim.Native.Nat.{_-_}
-use mathlib.Core.Path.{_≡_, _∙_, ap, sym}
+use mathlib.Core.Path.{_∙_, ap, sym}
 use native.Mathlib.Omega.{arith}
 use lib.ListN.{replicate}
 use Rattle.lexeme.proofs.ClassLaws.{Filling, fill-start, fill-turn, fill-end}

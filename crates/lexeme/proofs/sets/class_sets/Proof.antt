@@ -1,8 +1,8 @@
 use Prim.Native.Nat.{_-_}
-use mathlib.Core.Path.{_≡_, _∙_, ap, sym}
+use mathlib.Core.Path.{_∙_}
 use native.Mathlib.Omega.{arith}
 use lib.ListN.{length, length-take, length-drop}
-use Rattle.lexeme.proofs.ClassLaws.{Compiling, compile-start, compile-turn, compile-end}
+use Rattle.lexeme.proofs.ClassLaws.{Compiling, compile-start, compile-turn, compile-end, compile-kept}
 use borrow.Author.Needs.{needs}
 use Rattle.lexeme.proofs.sets.class_sets.Statement.{statement}
 use Rattle.lexeme.proofs.sets.class_sets.Tie as tie
@@ -52,11 +52,14 @@ loop-less c = search needs
 loop-again : tie.Need-loop-again Inv-loop μ-loop
 loop-again c = compile-turn _ _ _ _ _ _ (c .before .before .before .before .before .before .loop .inv) (c .before .before .before .before .before .loop-test .taken) (omega (arith, c .before .before .before .before .before .before .loop .inv .size, c .before .before .before .before .before .before .before .before .before .before .pre .room)) (c .before .before .class-set .ensures)
 
+all-hints-requires : tie.Need-all-hints-requires Inv-loop μ-loop
+all-hints-requires c κs = omega (arith, c .before .before .loop .inv .size, c .before .before .before .before .before .before .pre .room)
+
 same-length : tie.Need-same-length Inv-loop μ-loop
-same-length c = c .before .loop .inv .size
+same-length c = c .before .before .all-hints .kept .1 .1 .0 ∙ c .before .before .before .before .before .loop .inv .size
 
 returns : tie.Need-returns Inv-loop μ-loop
-returns c = compile-end _ _ _ _ _ (c .before .loop .inv) (c .loop-test .left) (c .before .before .before .before .before .pre .heads)
+returns c = compile-kept _ _ _ _ (compile-end _ _ _ _ _ (c .before .before .before .before .before .loop .inv) (c .before .before .before .before .loop-test .left) (c .before .before .before .before .before .before .before .before .before .pre .heads)) (c .before .before .before .before .before .before .before .before .before .pre .heads) (omega (arith, c .before .before .before .before .before .loop .inv .size, c .before .before .before .before .before .before .before .before .before .pre .room)) (c .before .before .all-hints .ensures)
 
 pub class-sets-spec : {M : Type 1} → statement M
 class-sets-spec =
@@ -77,5 +80,6 @@ class-sets-spec =
     add-n
     loop-less
     loop-again
+    all-hints-requires
     same-length
     returns)

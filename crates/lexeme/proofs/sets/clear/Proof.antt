@@ -1,8 +1,7 @@
-use Prim.Native.Nat.{_-_, _≤_}
-use mathlib.Core.Path.{_≡_, refl}
-use mathlib.Core.List.{_++_}
+use Prim.Native.Nat.{_-_}
+use mathlib.Core.Path.{refl}
 use native.Mathlib.Omega.{arith}
-use lib.ListN.{length, replicate, drop, length-set}
+use lib.ListN.{length}
 use borrow.Author.Fill.{fill-none}
 use Rattle.lexeme.proofs.SetLaws.{Clearing, clear-turn, clear-end}
 use borrow.Author.Needs.{needs}

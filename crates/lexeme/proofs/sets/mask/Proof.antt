@@ -1,7 +1,3 @@
-use Prim.Native.Nat.{ℕ}
-use mathlib.Core.Path.{_∙_, ap, ap₂}
-use lib.Bits.{bitAnd, bitXor}
-use Rattle.lexeme.specs.Sets.{bitAt}
 use Rattle.lexeme.proofs.BitLaws.{mask-made}
 use borrow.Author.Needs.{needs}
 use Rattle.lexeme.proofs.sets.mask.Statement.{statement}
