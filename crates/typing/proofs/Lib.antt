@@ -1,0 +1,9 @@
+pub mod AnswerLaws
+pub mod AskedLaws
+pub mod FillLaws
+pub mod KindLaws
+pub mod LimitLaws
+pub mod NodeLaws
+pub mod SuitsLaws
+pub mod TemplateLaws
+pub mod ValueLaws

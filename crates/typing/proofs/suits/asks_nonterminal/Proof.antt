@@ -1,0 +1,45 @@
+use Rattle.rules.specs.Typing.{asksNonterminal}
+use borrow.Author.Needs.{needs}
+use Rattle.typing.proofs.suits.asks_nonterminal.Statement.{statement}
+use Rattle.typing.proofs.suits.asks_nonterminal.Tie as tie
+
+enum-told : tie.Need-enum-told
+enum-told c = search needs
+
+enum-known-p : tie.Need-enum-known-p
+enum-known-p c = search needs
+
+enum-told-2 : tie.Need-enum-told-2
+enum-told-2 c = search needs
+
+enum-known-p-2 : tie.Need-enum-known-p-2
+enum-known-p-2 c = search needs
+
+returns : tie.Need-returns
+unfolding asksNonterminal
+returns c = cc
+
+returns-2 : tie.Need-returns-2
+unfolding asksNonterminal
+returns-2 c = cc
+
+returns-3 : tie.Need-returns-3
+unfolding asksNonterminal
+returns-3 c = cc
+
+returns-4 : tie.Need-returns-4
+unfolding asksNonterminal
+returns-4 c = cc
+
+pub asks-nonterminal-spec : {M : Type 1} → statement M
+asks-nonterminal-spec =
+    tie.close
+    (tie.spec
+    enum-told
+    enum-known-p
+    enum-told-2
+    enum-known-p-2
+    returns
+    returns-2
+    returns-3
+    returns-4)

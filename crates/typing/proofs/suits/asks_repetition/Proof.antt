@@ -1,0 +1,37 @@
+use Rattle.rules.specs.Typing.{asksRepetition}
+use borrow.Author.Needs.{needs}
+use Rattle.typing.proofs.suits.asks_repetition.Statement.{statement}
+use Rattle.typing.proofs.suits.asks_repetition.Tie as tie
+
+enum-told : tie.Need-enum-told
+enum-told c = search needs
+
+enum-told-2 : tie.Need-enum-told-2
+enum-told-2 c = search needs
+
+enum-known-p : tie.Need-enum-known-p
+enum-known-p c = search needs
+
+enum-told-3 : tie.Need-enum-told-3
+enum-told-3 c = search needs
+
+returns : tie.Need-returns
+unfolding asksRepetition
+returns c = cc
+
+returns-2 : tie.Need-returns-2
+unfolding asksRepetition
+returns-2 c = cc
+
+returns-3 : tie.Need-returns-3
+unfolding asksRepetition
+returns-3 c = cc
+
+returns-4 : tie.Need-returns-4
+unfolding asksRepetition
+returns-4 c = cc
+
+pub asks-repetition-spec : {M : Type 1} → statement M
+asks-repetition-spec =
+    tie.close
+    (tie.spec enum-told enum-told-2 enum-known-p enum-told-3 returns returns-2 returns-3 returns-4)

@@ -1,0 +1,62 @@
+use mathlib.Core.Path.{_∙_}
+use Rattle.typing.proofs.ValueLaws.{by-kind, text-is, text-other, yes-no-is, items-is, fields-is, fields-other, missing-is}
+use borrow.Author.Needs.{needs}
+use Rattle.typing.proofs.value.has_form.Statement.{statement}
+use Rattle.typing.proofs.value.has_form.Tie as tie
+
+enum-known-kind : tie.Need-enum-known-kind
+enum-known-kind c = search needs
+
+is-lexeme-requires : tie.Need-is-lexeme-requires
+is-lexeme-requires c κs = c .before .before .before .before .before .before .before .before .before .pre .0
+
+enum-told : tie.Need-enum-told
+enum-told c = search needs
+
+enum-told-2 : tie.Need-enum-told-2
+enum-told-2 c = search needs
+
+enum-known-kind-2 : tie.Need-enum-known-kind-2
+enum-known-kind-2 c = search needs
+
+enum-told-3 : tie.Need-enum-told-3
+enum-told-3 c = search needs
+
+returns : tie.Need-returns
+returns c = λ t. c .is-lexeme .ensures ∙ text-is _ _ t _ _ (c .before .before .before .before .before .before .before .before .before .before .pre .1) _ (c .before .if1 .taken) ∙ by-kind _ _ t _ (c .before .before .before .before .kind .given .1)
+
+returns-2 : tie.Need-returns-2
+returns-2 c = λ t. text-other _ _ t _ _ (c .before .before .before .before .before .before .before .before .before .pre .1) _ (c .if1 .left) ∙ by-kind _ _ t _ (c .before .before .before .kind .given .1)
+
+returns-3 : tie.Need-returns-3
+returns-3 c = λ t. yes-no-is _ _ t _ _ (c .before .before .before .before .before .before .before .pre .1) ∙ by-kind _ _ t _ (c .before .enum-told .given .1)
+
+returns-4 : tie.Need-returns-4
+returns-4 c = λ t. items-is _ _ t _ _ (c .before .before .before .before .before .before .before .pre .1) _ ∙ by-kind _ _ t _ (c .before .enum-told2 .given .1)
+
+returns-5 : tie.Need-returns-5
+returns-5 c = λ t. fields-is _ _ t _ _ (c .before .before .before .before .before .before .before .before .before .before .pre .1) _ _ (c .before .if2 .taken) ∙ by-kind _ _ t _ (c .before .before .before .before .kind2 .given .1)
+
+returns-6 : tie.Need-returns-6
+returns-6 c = λ t. fields-other _ _ t _ _ (c .before .before .before .before .before .before .before .before .before .pre .1) _ _ (c .if2 .left) ∙ by-kind _ _ t _ (c .before .before .before .kind2 .given .1)
+
+returns-7 : tie.Need-returns-7
+returns-7 c = λ t. missing-is _ _ t _ ∙ by-kind _ _ t _ (c .enum-told3 .given .1)
+
+pub has-form-spec : {M : Type 1} → statement M
+has-form-spec =
+    tie.close
+    (tie.spec
+    enum-known-kind
+    is-lexeme-requires
+    enum-told
+    enum-told-2
+    enum-known-kind-2
+    enum-told-3
+    returns
+    returns-2
+    returns-3
+    returns-4
+    returns-5
+    returns-6
+    returns-7)
