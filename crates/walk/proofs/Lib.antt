@@ -1,0 +1,9 @@
+pub mod HeldLaws
+pub mod PathLaws
+pub mod FrameLaws
+pub mod RunLaws
+pub mod HouseLaws
+pub mod FormLaws
+pub mod LoopLaws
+pub mod EnterLaws
+pub mod StartLaws

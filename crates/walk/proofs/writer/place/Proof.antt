@@ -1,0 +1,71 @@
+use Rattle.walk.proofs.PathLaws.{got, lost}
+use Rattle.walk.proofs.RunLaws.{ran-is, ran-stuck}
+use Rattle.walk.proofs.FormLaws.{place-lost, place-other, place-text}
+use borrow.Author.Needs.{needs}
+use Rattle.walk.proofs.writer.place.Statement.{statement}
+use Rattle.walk.proofs.writer.place.Tie as tie
+
+add-path-value : tie.Need-add-path-value
+add-path-value c = search needs
+
+path-value-requires : tie.Need-path-value-requires
+path-value-requires c κs = c .before .before .before .before .before .pre .0
+
+enum-known-w : tie.Need-enum-known-w
+enum-known-w c = search needs
+
+enum-told : tie.Need-enum-told
+enum-told c = search needs
+
+ended-requires : tie.Need-ended-requires
+ended-requires c κs = search needs
+
+returns : tie.Need-returns
+returns c = ran-stuck _ _ _ _ _ (c .before .before .before .before .before .before .before .before .before .pre .2) (c .ended .ensures) (place-lost _ _ _ _ _ (lost (c .before .before .before .path-value .ensures .is) (c .before .enum-told .given .1)))
+
+cast-i : tie.Need-cast-i
+cast-i c = search needs
+
+fetch-requires : tie.Need-fetch-requires
+fetch-requires c κs = search needs
+
+ended-requires-2 : tie.Need-ended-requires-2
+ended-requires-2 c κs = search needs
+
+returns-2 : tie.Need-returns-2
+returns-2 c = ran-stuck _ _ _ _ _ (c .before .before .before .before .before .before .before .before .before .before .before .before .before .pre .2) (c .ended2 .ensures) (place-other _ _ _ _ _ _ (got (c .before .before .before .before .before .before .before .path-value .ensures .is) (c .before .before .before .before .before .w .given .1)) _ (c .before .before .before .fetch .ensures .kind) (c .before .if1 .taken))
+
+cast-text-after : tie.Need-cast-text-after
+cast-text-after c = search needs
+
+text-after-requires : tie.Need-text-after-requires
+text-after-requires c κs = search needs
+
+write-requires : tie.Need-write-requires
+write-requires c κs = search needs
+
+same-length : tie.Need-same-length
+same-length c = search needs
+
+returns-3 : tie.Need-returns-3
+returns-3 c = ran-is (place-text _ _ _ _ _ _ (got (c .before .before .before .before .before .before .before .before .before .before .before .before .path-value .ensures .is) (c .before .before .before .before .before .before .before .before .before .before .w .given .1)) _ (c .before .before .before .before .before .before .before .before .fetch .ensures .kind) (c .before .before .before .before .before .before .if1 .left) _ _ (c .before .before .before .before .before .before .before .before .fetch .ensures .b) (c .before .before .before .before .text-after .ensures)) (c .before .before .write .ensures)
+
+pub place-spec : {M : Type 1} → statement M
+place-spec =
+    tie.close
+    (tie.spec
+    add-path-value
+    path-value-requires
+    enum-known-w
+    enum-told
+    ended-requires
+    returns
+    cast-i
+    fetch-requires
+    ended-requires-2
+    returns-2
+    cast-text-after
+    text-after-requires
+    write-requires
+    same-length
+    returns-3)
