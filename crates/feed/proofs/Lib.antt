@@ -1,0 +1,3 @@
+pub mod OrderLaws
+pub mod EndLaws
+pub mod SetLaws

@@ -1,0 +1,100 @@
+use mathlib.Core.Path.{_∙_}
+use Rattle.feed.proofs.OrderLaws.{offends, offends-not, tried, went-on, lengths-two, blocks-two, layouts-two, two-sized}
+use Rattle.rules.specs.Answers.{accept}
+use Rattle.feed.specs.Verdict.{streamsRefusal}
+use borrow.Author.Needs.{needs}
+use Rattle.feed.proofs.streams.judge_two.Statement.{statement}
+use Rattle.feed.proofs.streams.judge_two.Tie as tie
+
+length-fault-requires : tie.Need-length-fault-requires
+length-fault-requires c κs = search needs
+
+length-fault-requires-2 : tie.Need-length-fault-requires-2
+length-fault-requires-2 c κs = search needs
+
+first-requires : tie.Need-first-requires
+first-requires c κs = search needs
+
+enum-known-kind : tie.Need-enum-known-kind
+enum-known-kind c = search needs
+
+returns : tie.Need-returns
+unfolding streamsRefusal
+returns c = tried 1 _ _ _ _ (offends _ _ _ _ (c .before .before .before .first .ensures ∙ lengths-two _ _ _ _ (c .before .before .before .before .before .length-fault .ensures) (c .before .before .before .before .length-fault2 .ensures)) (c .before .kind .given .1))
+
+enum-told : tie.Need-enum-told
+enum-told c = search needs
+
+block-fault-requires : tie.Need-block-fault-requires
+block-fault-requires c κs = search needs
+
+block-fault-requires-2 : tie.Need-block-fault-requires-2
+block-fault-requires-2 c κs = search needs
+
+first-requires-2 : tie.Need-first-requires-2
+first-requires-2 c κs = search needs
+
+enum-known-kind-2 : tie.Need-enum-known-kind-2
+enum-known-kind-2 c = search needs
+
+returns-2 : tie.Need-returns-2
+unfolding streamsRefusal
+returns-2 c = tried 2 _ _ _ _ (offends _ _ _ _ (c .before .before .before .first2 .ensures ∙ blocks-two _ _ _ _ (c .before .before .before .before .before .block-fault .ensures) (c .before .before .before .before .block-fault2 .ensures)) (c .before .kind2 .given .1)) ∙ went-on 1 _ _ (offends-not _ _ (c .before .before .before .before .before .before .before .before .first .ensures ∙ lengths-two _ _ _ _ (c .before .before .before .before .before .before .before .before .before .before .length-fault .ensures) (c .before .before .before .before .before .before .before .before .before .length-fault2 .ensures)) (c .before .before .before .before .before .before .enum-told .given .1))
+
+enum-told-2 : tie.Need-enum-told-2
+enum-told-2 c = search needs
+
+grammar-layout-requires : tie.Need-grammar-layout-requires
+grammar-layout-requires c κs = two-sized _ _ (offends-not _ _ (c .before .before .before .before .before .before .before .first .ensures ∙ lengths-two _ _ _ _ (c .before .before .before .before .before .before .before .before .before .length-fault .ensures) (c .before .before .before .before .before .before .before .before .length-fault2 .ensures)) (c .before .before .before .before .before .enum-told .given .1)) .0
+
+at-first-requires : tie.Need-at-first-requires
+at-first-requires c κs = search needs
+
+templates-layout-requires : tie.Need-templates-layout-requires
+templates-layout-requires c κs = two-sized _ _ (offends-not _ _ (c .before .before .before .before .before .before .before .before .before .first .ensures ∙ lengths-two _ _ _ _ (c .before .before .before .before .before .before .before .before .before .before .before .length-fault .ensures) (c .before .before .before .before .before .before .before .before .before .before .length-fault2 .ensures)) (c .before .before .before .before .before .before .before .enum-told .given .1)) .1
+
+at-first-requires-2 : tie.Need-at-first-requires-2
+at-first-requires-2 c κs = search needs
+
+first-requires-3 : tie.Need-first-requires-3
+first-requires-3 c κs = search needs
+
+enum-known-kind-3 : tie.Need-enum-known-kind-3
+enum-known-kind-3 c = search needs
+
+returns-3 : tie.Need-returns-3
+unfolding streamsRefusal
+returns-3 c = tried 3 _ _ _ _ (offends _ _ _ _ (c .before .before .before .first3 .ensures ∙ layouts-two _ _ _ _ (c .before .before .before .before .before .before .at-first .ensures ∙ c .before .before .before .before .before .before .before .grammar-layout .ensures) (c .before .before .before .before .at-first2 .ensures ∙ c .before .before .before .before .before .templates-layout .ensures)) (c .before .kind3 .given .1)) ∙ went-on 2 _ _ (offends-not _ _ (c .before .before .before .before .before .before .before .before .before .before .first2 .ensures ∙ blocks-two _ _ _ _ (c .before .before .before .before .before .before .before .before .before .before .before .before .block-fault .ensures) (c .before .before .before .before .before .before .before .before .before .before .before .block-fault2 .ensures)) (c .before .before .before .before .before .before .before .before .enum-told2 .given .1)) ∙ went-on 1 _ _ (offends-not _ _ (c .before .before .before .before .before .before .before .before .before .before .before .before .before .before .before .first .ensures ∙ lengths-two _ _ _ _ (c .before .before .before .before .before .before .before .before .before .before .before .before .before .before .before .before .before .length-fault .ensures) (c .before .before .before .before .before .before .before .before .before .before .before .before .before .before .before .before .length-fault2 .ensures)) (c .before .before .before .before .before .before .before .before .before .before .before .before .before .enum-told .given .1))
+
+enum-told-3 : tie.Need-enum-told-3
+enum-told-3 c = search needs
+
+returns-4 : tie.Need-returns-4
+unfolding streamsRefusal accept
+returns-4 c = went-on 3 _ accept (offends-not _ _ (c .before .before .first3 .ensures ∙ layouts-two _ _ _ _ (c .before .before .before .before .before .at-first .ensures ∙ c .before .before .before .before .before .before .grammar-layout .ensures) (c .before .before .before .at-first2 .ensures ∙ c .before .before .before .before .templates-layout .ensures)) (c .enum-told3 .given .1)) ∙ went-on 2 _ _ (offends-not _ _ (c .before .before .before .before .before .before .before .before .before .first2 .ensures ∙ blocks-two _ _ _ _ (c .before .before .before .before .before .before .before .before .before .before .before .block-fault .ensures) (c .before .before .before .before .before .before .before .before .before .before .block-fault2 .ensures)) (c .before .before .before .before .before .before .before .enum-told2 .given .1)) ∙ went-on 1 _ _ (offends-not _ _ (c .before .before .before .before .before .before .before .before .before .before .before .before .before .before .first .ensures ∙ lengths-two _ _ _ _ (c .before .before .before .before .before .before .before .before .before .before .before .before .before .before .before .before .length-fault .ensures) (c .before .before .before .before .before .before .before .before .before .before .before .before .before .before .before .length-fault2 .ensures)) (c .before .before .before .before .before .before .before .before .before .before .before .before .enum-told .given .1))
+
+pub judge-two-spec : {M : Type 1} → statement M
+judge-two-spec =
+    tie.close
+    (tie.spec
+    length-fault-requires
+    length-fault-requires-2
+    first-requires
+    enum-known-kind
+    returns
+    enum-told
+    block-fault-requires
+    block-fault-requires-2
+    first-requires-2
+    enum-known-kind-2
+    returns-2
+    enum-told-2
+    grammar-layout-requires
+    at-first-requires
+    templates-layout-requires
+    at-first-requires-2
+    first-requires-3
+    enum-known-kind-3
+    returns-3
+    enum-told-3
+    returns-4)
