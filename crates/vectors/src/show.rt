@@ -23,14 +23,19 @@ fn field(n: u64) {
     io::print_decimal(STDOUT_FILENO, n);
 }
 
-// The five fields of an answer, and FNV-1a of the bytes that it counts.
-pub fn written(a: Answer, out: &[u8]) {
-    text(b" ->");
+// The five fields of an answer.
+pub fn fields(a: Answer) {
     field(a.number);
     field(a.kind);
     field(a.place);
     field(a.steps);
     field(a.bytes);
+}
+
+// The five fields of an answer, and FNV-1a of the bytes that it counts.
+pub fn written(a: Answer, out: &[u8]) {
+    text(b" ->");
+    fields(a);
     let n = a.bytes as usize;
     if n <= out.len() {
         text(b"  bytes-fnv=");

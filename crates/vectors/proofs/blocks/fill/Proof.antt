@@ -4,8 +4,8 @@ use mathlib.Core.Path.{_≡_, refl}
 use lib.ListN.{length, length-set}
 use native.Mathlib.Omega.{arith}
 use borrow.Author.Needs.{needs}
-use Rattle.vectors.proofs.fill.Statement.{statement}
-use Rattle.vectors.proofs.fill.Tie as tie
+use Rattle.vectors.proofs.blocks.fill.Statement.{statement}
+use Rattle.vectors.proofs.blocks.fill.Tie as tie
 
 abbrev Inv-loop : tie.InvT-loop
 Inv-loop s₀ i₀ s i = (i ≤ length s) × (length s ≡ length s₀)
