@@ -1,0 +1,58 @@
+//! The page machine for Rust: a safe wrapper over the static library of the Rattle crate `feed`,
+//! whose every function is proved to meet its contract.
+//!
+//! A grammar, a template set and a value go in, each as a stream of 512-byte blocks; a text that the
+//! grammar derives comes out, or one numbered refusal. Everything that a call writes to is lent by the
+//! caller: nothing here allocates. Any bytes of any length may be lent.
+//!
+//! | call | what it does |
+//! |---|---|
+//! | [`check`] | judges a grammar and a template set |
+//! | [`evaluate`] | writes the text of a value into a lent output |
+//! | [`pack`], [`unpack`] | turn records into blocks and back |
+//! | [`block_payload`] | gives the payload of a single block, where it lies |
+//!
+//! The first four give an [`Answer`]; [`Answer::finished`] turns it into a `Result` whose error is the
+//! [`Refusal`] in plain words.
+//!
+//! # Example
+//!
+//! ```
+//! # let folder = concat!(env!("CARGO_MANIFEST_DIR"), "/../../examples/harbour/");
+//! # let read = |name: &str| std::fs::read(format!("{folder}{name}")).unwrap();
+//! let (grammar, templates, value) = (read("grammar.blk"), read("template.blk"), read("value.blk"));
+//! let mut output = vec![0; 65_536];
+//! let mut scratch = [0; feed::SCRATCH];
+//!
+//! let answer = feed::evaluate(&grammar, &templates, &value, 1_000_000, &mut output, &mut scratch);
+//! match answer.finished() {
+//!     Ok(text) => assert_eq!(text.of(&output), "[<ab><αβγδ>]".as_bytes()),
+//!     Err(refusal) => panic!("{refusal}"),
+//! }
+//! ```
+
+#![deny(unsafe_code)]
+#![deny(unsafe_op_in_unsafe_fn)]
+#![deny(missing_docs)]
+
+mod answer;
+#[allow(unsafe_code)]
+mod calls;
+
+pub use answer::{Answer, Finished, Refusal, Stream};
+pub use calls::{block_payload, check, evaluate, pack, unpack};
+
+/// The bytes of a block.
+pub const BLOCK: usize = 512;
+
+/// The bytes of a block's payload: 63 records of 8 bytes.
+pub const PAYLOAD: usize = 504;
+
+/// Where the payload starts in its block.
+pub const PAYLOAD_START: usize = 4;
+
+/// The bytes of the longest stream: 128 blocks.
+pub const STREAM_MOST: usize = 65_536;
+
+/// The 16-bit numbers of scratch that [`evaluate`] needs: 24 for each of 200 depths.
+pub const SCRATCH: usize = 4_800;

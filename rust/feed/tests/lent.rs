@@ -1,0 +1,244 @@
+//! The wrapper against the paper's cases, with every lent byte looked at.
+
+use feed::{Answer, Refusal, Stream, SCRATCH};
+use std::path::Path;
+
+/// A byte that no call would write by chance where it must not.
+const GUARD: u8 = 0xA5;
+
+struct Set {
+    grammar: Vec<u8>,
+    templates: Vec<u8>,
+    value: Vec<u8>,
+}
+
+fn example() -> Set {
+    let folder = Path::new(env!("CARGO_MANIFEST_DIR")).join("../../examples/harbour");
+    let read = |name: &str| std::fs::read(folder.join(name)).expect("a stream of the example");
+    Set {
+        grammar: read("grammar.blk"),
+        templates: read("template.blk"),
+        value: read("value.blk"),
+    }
+}
+
+fn packed(kind: u8, records: &[[u8; 8]]) -> Vec<u8> {
+    let mut blocks = vec![0; feed::BLOCK];
+    assert_eq!(
+        feed::pack(kind, records.as_flattened(), &mut blocks).bytes,
+        512
+    );
+    blocks
+}
+
+/// Evaluates with guards, and sees that exactly the bytes that the paper names have changed.
+fn evaluate(set: &Set, fuel: u32, room: usize, numbers: usize) -> (Answer, Vec<u8>) {
+    let mut output = vec![GUARD; room + 16];
+    let mut scratch = vec![0xA5A5_u16; numbers + 8];
+    let answer = feed::evaluate(
+        &set.grammar,
+        &set.templates,
+        &set.value,
+        fuel,
+        &mut output[8..8 + room],
+        &mut scratch[4..4 + numbers],
+    );
+    let walked = matches!(answer.number, 0 | 10..=12);
+    let text = answer.written(&output[8..8 + room]).to_vec();
+    assert!(walked || text.is_empty());
+    assert!(output[..8]
+        .iter()
+        .chain(&output[8 + text.len()..])
+        .all(|&byte| byte == GUARD));
+    let lent = if walked { 0 } else { 0xA5A5 };
+    assert!(scratch[4..4 + numbers].iter().all(|&number| number == lent));
+    assert!(scratch[..4]
+        .iter()
+        .chain(&scratch[4 + numbers..])
+        .all(|&number| number == 0xA5A5));
+    (answer, text)
+}
+
+#[track_caller]
+fn case(set: &Set, fuel: u32, room: usize, fields: [u64; 5], text: &str) {
+    let (answer, written) = evaluate(set, fuel, room, SCRATCH);
+    assert_eq!(answer.fields(), fields);
+    assert_eq!(written, text.as_bytes());
+}
+
+fn with_value(records: &[[u8; 8]]) -> Set {
+    Set {
+        value: packed(3, records),
+        ..example()
+    }
+}
+
+/// The body is an expand of template 0 on variable 0 alone.
+fn endless() -> Set {
+    let templates = packed(
+        2,
+        &[
+            [1, 0, 0, 0, 0, 0, 0, 0],
+            [1, 2, 0, 0, 0, 0, 0, 0],
+            [3, 1, 0, 0, 4, 0, 0, 0],
+            [4, 0, 1, 0, 0, 0, 0, 0],
+            [5, 3, 0, 0, 2, 0, 1, 0],
+            [6, 0, 0, 0, 0, 0, 0, 0],
+        ],
+    );
+    Set {
+        templates,
+        ..example()
+    }
+}
+
+#[test]
+fn m1_to_m7_the_example() {
+    let set = example();
+    let whole = "[<ab><αβγδ>]";
+    case(&set, 1_000_000, 65_536, [0, 0, 0, 7, 16], whole);
+    case(&set, 7, 65_536, [0, 0, 0, 7, 16], whole);
+    case(&set, 6, 65_536, [10, 2, 9, 6, 6], "[<ab><");
+    case(&set, 0, 65_536, [10, 2, 4, 0, 0], "");
+    case(&set, 1_000_000, 16, [0, 0, 0, 7, 16], whole);
+    case(&set, 1_000_000, 15, [12, 2, 4, 7, 15], "[<ab><αβγδ>");
+    case(&set, 1_000_000, 13, [12, 2, 9, 7, 6], "[<ab><");
+}
+
+#[test]
+fn m8_to_m10_other_values() {
+    case(
+        &with_value(&[[3, 0, 0, 0, 1, 0, 0, 0]]),
+        1_000_000,
+        65_536,
+        [0, 0, 0, 3, 2],
+        "[]",
+    );
+    let five = [
+        [3, 0, 0, 0, 4, 0, 1, 0],
+        [1, 0, 10, 0, 3, 0, 0, 0],
+        [0xce, 0xb1, 0xce, 0xb2, 0xce, 0xb3, 0xce, 0xb4],
+        [0xce, 0xb5, 0, 0, 0, 0, 0, 0],
+    ];
+    case(&with_value(&five), 1_000_000, 65_536, [8, 3, 1, 0, 0], "");
+    let empty = [[3, 0, 0, 0, 2, 0, 1, 0], [1, 0, 0, 0, 1, 0, 0, 0]];
+    case(&with_value(&empty), 1_000_000, 65_536, [8, 3, 1, 0, 0], "");
+}
+
+#[test]
+fn m11_and_m12_a_set_that_expands_itself() {
+    case(&endless(), 201, 65_536, [11, 2, 4, 201, 0], "");
+    case(&endless(), 200, 65_536, [10, 2, 4, 200, 0], "");
+}
+
+#[test]
+fn the_scratch_is_judged_after_the_value() {
+    let short = |set: &Set| evaluate(set, 1_000_000, 100, SCRATCH - 1).0.fields();
+    assert_eq!(short(&example()), [9, 0, 0, 0, 0]);
+    assert_eq!(
+        short(&with_value(&[[2, 0, 0, 0, 0, 0, 0, 0]])),
+        [8, 3, 0, 0, 0]
+    );
+    let (answer, _) = evaluate(&example(), 1_000_000, 100, SCRATCH + 100);
+    assert_eq!(answer.number, 0);
+}
+
+#[test]
+fn empty_slices_are_lent_safely() {
+    let (grammar, templates) = (example().grammar, example().templates);
+    assert_eq!(feed::check(&[], &[]).fields(), [1, 1, 0, 0, 0]);
+    assert_eq!(feed::check(&grammar, &[]).fields(), [1, 2, 0, 0, 0]);
+    let value = example().value;
+    let nothing = |value: &[u8]| feed::evaluate(&grammar, &templates, value, 9, &mut [], &mut []);
+    assert_eq!(nothing(&[]).fields(), [1, 3, 0, 0, 0]);
+    assert_eq!(nothing(&value).refusal(), Some(Refusal::ScratchTooShort));
+    let answer = feed::evaluate(&grammar, &templates, &value, 9, &mut [], &mut [1; SCRATCH]);
+    assert_eq!(answer.refusal(), Some(Refusal::OutputFull { node: 4 }));
+    assert_eq!(feed::pack(1, &[], &mut []).fields(), [1, 0, 0, 0, 0]);
+    assert_eq!(
+        feed::pack(1, &[1; 8], &mut []).refusal(),
+        Some(Refusal::NoRoom)
+    );
+    assert_eq!(feed::unpack(1, &[], &mut []).fields(), [1, 0, 0, 0, 0]);
+    assert_eq!(
+        feed::unpack(1, &grammar, &mut []).refusal(),
+        Some(Refusal::NoRoom)
+    );
+    assert!(feed::block_payload(&[]).is_empty());
+}
+
+#[test]
+fn packing_leaves_what_follows_and_refused_all() {
+    let payload: Vec<u8> = (0..1008_u32).map(|i| (7 * i + 3) as u8).collect();
+    for length in [8_usize, 504, 512, 1008] {
+        let size = length.div_ceil(504) * 512;
+        let mut blocks = vec![GUARD; size + 8];
+        assert_eq!(
+            feed::pack(2, &payload[..length], &mut blocks).fields(),
+            [0, 0, 0, 0, size as u64]
+        );
+        assert_eq!(blocks[size..], [GUARD; 8]);
+        let mut back = vec![GUARD; 1016];
+        let answer = feed::unpack(2, &blocks[..size], &mut back);
+        let whole = size / 512 * 504;
+        assert_eq!(answer.fields(), [0, 0, 0, 0, whole as u64]);
+        assert_eq!(back[..length], payload[..length]);
+        assert!(back[length..whole].iter().all(|&byte| byte == 0));
+        assert!(back[whole..].iter().all(|&byte| byte == GUARD));
+    }
+    for (kind, length, room, number) in [
+        (2, 7, 512, 1),
+        (4, 8, 512, 2),
+        (0, 8, 0, 2),
+        (1, 8, 511, 12),
+    ] {
+        let mut blocks = vec![GUARD; room];
+        assert_eq!(
+            feed::pack(kind, &payload[..length], &mut blocks).fields(),
+            [number, 0, 0, 0, 0]
+        );
+        assert!(blocks.iter().all(|&byte| byte == GUARD));
+    }
+}
+
+#[test]
+fn unpacking_names_the_wrong_block() {
+    let mut blocks = [0; 1024];
+    assert_eq!(feed::pack(1, &[5; 1008], &mut blocks).number, 0);
+    let mut payload = [GUARD; 1008];
+    let other_kind = feed::unpack(2, &blocks, &mut payload).refusal();
+    assert_eq!(
+        other_kind,
+        Some(Refusal::Block {
+            stream: Stream::Lent,
+            block: 0
+        })
+    );
+    blocks[1023] ^= 0x80;
+    assert_eq!(
+        feed::unpack(1, &blocks, &mut payload).fields(),
+        [2, 0, 1, 0, 0]
+    );
+    assert_eq!(payload, [GUARD; 1008]);
+}
+
+#[test]
+fn a_payload_lies_in_its_block() {
+    let grammar = example().grammar;
+    let payload = feed::block_payload(&grammar);
+    assert_eq!(payload.as_ptr(), grammar[feed::PAYLOAD_START..].as_ptr());
+    assert_eq!(payload.len(), feed::PAYLOAD);
+    for byte in [0, 1, 2, 3, 100, 511] {
+        let mut damaged = grammar.clone();
+        damaged[byte] ^= 4;
+        assert!(feed::block_payload(&damaged).is_empty(), "byte {byte}");
+    }
+}
+
+#[test]
+fn the_number_of_a_single_block_is_not_judged() {
+    let mut blocks = [0; 1024];
+    assert_eq!(feed::pack(1, &[5; 1008], &mut blocks).number, 0);
+    assert_eq!(feed::block_payload(&blocks[512..]), [5; 504]);
+    assert!(feed::block_payload(&blocks).is_empty());
+}

@@ -1,0 +1,26 @@
+//! The kit: assembles, prints and explains the page machine's streams.
+//!
+//! - [`mod@assemble`] makes the three streams from a description in the format of `FORMAT.md`;
+//! - [`mod@dump`] prints a stream record by record;
+//! - [`mod@explain`] runs the proved library on three streams and shows what it refuses, and where.
+
+#![forbid(unsafe_code)]
+#![deny(missing_docs)]
+
+pub mod assemble;
+pub mod description;
+pub mod due;
+pub mod dump;
+pub mod explain;
+pub mod heads;
+pub mod layout;
+pub mod lexer;
+pub mod mistake;
+pub mod paper;
+pub mod parser;
+pub mod record;
+pub mod rows;
+pub mod words;
+
+pub use assemble::{assemble, Streams};
+pub use mistake::Mistake;

@@ -1,0 +1,98 @@
+//! The rules in document 01's own words.
+
+use feed::Refusal;
+
+/// The sentences that a refusal stands on; a refusal of typing also has the form of its node.
+pub fn quotes(refusal: Refusal, node_form: Option<u8>) -> Vec<&'static str> {
+    let mut found = vec![what_stops(refusal)];
+    found.extend(match refusal {
+        Refusal::Layout { .. } => LAYOUT,
+        Refusal::Typing { node: 0 } => &[],
+        Refusal::Typing { .. } => typing(node_form),
+        Refusal::ValueType { .. } => &[VALUE, LEXEME],
+        _ => &[],
+    });
+    found
+}
+
+/// A refusal's line in the list of what stops a run.
+fn what_stops(refusal: Refusal) -> &'static str {
+    match refusal {
+        Refusal::Length { .. } => "A stream's length is zero, above 65,536 or no multiple of 512.",
+        Refusal::Block { .. } => {
+            "A block has a wrong number, kind, byte 3 or check (place: block)."
+        }
+        Refusal::Layout { .. } => "The records break a layout above (place 0).",
+        Refusal::Limit { .. } => {
+            "A template node or value is over 200 deep (body and whole value count 1), \
+             or a template has over 8 parameters, or over 16 loops stand around a node."
+        }
+        Refusal::Name { .. } => {
+            "A class, nonterminal, production, template or type named doesn't exist, \
+             or a field names no earlier type."
+        }
+        Refusal::Class { .. } => {
+            "A class has least above most, \
+             or a range has lowest above highest or passes U+10FFFF."
+        }
+        Refusal::Typing { .. } => {
+            "A typing rule fails, or a path names a variable or field that isn't there \
+             (place of the node that holds the path or itself doesn't suit its position, \
+             never the one above it; 0, and tried first, if template 0 is missing \
+             or has not one parameter)."
+        }
+        Refusal::ValueType { .. } => "The value isn't of its declared type.",
+        Refusal::ScratchTooShort => {
+            "The scratch has fewer than 4,800 16-bit numbers, 24 for each depth."
+        }
+        Refusal::FuelSpent { .. } => {
+            "A node is reached with all fuel (32 bits) used; it isn't counted as a step."
+        }
+        Refusal::TooDeep { .. } => "A node is reached at depth 201; it is counted as a step.",
+        Refusal::OutputFull { .. } | Refusal::NoRoom => {
+            "A keyword or lexeme passes the end of the output."
+        }
+        _ => "(The kit has no words for this refusal.)",
+    }
+}
+
+/// The typing rules that a node of a form may break.
+fn typing(node_form: Option<u8>) -> &'static [&'static str] {
+    match node_form {
+        Some(0 | 3) => &[NONTERMINAL, COUNTS],
+        Some(1) => &[CLASS, LEXEME],
+        Some(2) => &[CLASS],
+        Some(4) => &[NONTERMINAL],
+        Some(5 | 6) => &[REPETITION],
+        _ => &[],
+    }
+}
+
+const LAYOUT: &[&str] = &[
+    "Unused fields are zero. Text follows its head in units of 8 bytes, the last zero-padded; \
+     length 0 has no unit. After the last thing come zero records only, fewer than 63.",
+    "Size is the number of records of a thing, head and all below it.",
+];
+
+const LEXEME: &str = "A lexeme of a class is well-formed UTF-8 (RFC 3629) with a character count \
+                      from least to most, each character in some range. \
+                      Counts are of characters, never bytes.";
+
+const CLASS: &str =
+    "Class: a literal that is a lexeme, or a place whose path has type text of that very class.";
+
+const NONTERMINAL: &str = "Nonterminal: a build of one of its productions, \
+                           an expand of a template with that nonterminal \
+                           and argument types equal by number, \
+                           or an if on yes/no with both branches in the same position.";
+
+const COUNTS: &str = "A build with another number of children, \
+                      or an expand with another number of paths, breaks the typing.";
+
+const REPETITION: &str = "Repetition: a sequence, whose items are nodes in the position \
+                          of its nonterminal or a for over a list, whose body is one such node.";
+
+const VALUE: &str = "A value is of type text if it is a 1 whose text is a lexeme of the class; \
+                     of yes/no if a 2; of a list if a 3 whose children are all of its item type; \
+                     of a record if a 4 with one child for each field, in order, \
+                     of that field's type.";

@@ -1,0 +1,174 @@
+//! The examples: their descriptions give their streams, and their streams their texts.
+
+use kit::{assemble, Streams};
+use std::fs;
+use std::io::Write;
+use std::path::{Path, PathBuf};
+use std::process::{Command, Stdio};
+
+/// A file of the repository.
+fn file(name: &str) -> PathBuf {
+    Path::new(env!("CARGO_MANIFEST_DIR"))
+        .join("../..")
+        .join(name)
+}
+
+fn read(name: &str) -> Vec<u8> {
+    let path = file(name);
+    fs::read(&path).unwrap_or_else(|error| panic!("{}: {error}", path.display()))
+}
+
+fn streams(example: &str) -> Streams {
+    let stream = |name: &str| read(&format!("examples/{example}/{name}.blk"));
+    Streams {
+        grammar: stream("grammar"),
+        templates: stream("template"),
+        value: stream("value"),
+    }
+}
+
+fn assembled(example: &str) -> Streams {
+    let description =
+        String::from_utf8(read(&format!("examples/{example}/feed.txt"))).expect("UTF-8");
+    assemble(&description).expect("a description without mistakes")
+}
+
+/// The steps and the text of an example, by the proved library.
+fn rendered(example: &str) -> (u64, Vec<u8>) {
+    let Streams {
+        grammar,
+        templates,
+        value,
+    } = streams(example);
+    let (mut output, mut scratch) = (vec![0; 65_536], [0; feed::SCRATCH]);
+    let answer = feed::evaluate(
+        &grammar,
+        &templates,
+        &value,
+        1_000_000,
+        &mut output,
+        &mut scratch,
+    );
+    let finished = answer.finished().expect("a finished text");
+    (finished.steps, finished.of(&output).to_vec())
+}
+
+#[test]
+fn the_papers_description_gives_its_streams() {
+    assert_eq!(assembled("harbour"), streams("harbour"));
+}
+
+/// The grammar of the paper's example, record by record.
+const GRAMMAR: [[u8; 8]; 15] = [
+    [1, 0, 1, 0, 4, 0, 2, 0],
+    [2, 0x61, 0, 0, 0x7a, 0, 0, 0],
+    [2, 0x70, 0x03, 0, 0xff, 0x03, 0, 0],
+    [3, 0, 0, 0, 0, 0, 3, 0],
+    [4, 0, 1, 0, 0, 0, 0, 0],
+    *b"[\0\0\0\0\0\0\0",
+    [4, 3, 1, 0, 0, 0, 0, 0],
+    [4, 0, 1, 0, 0, 0, 0, 0],
+    *b"]\0\0\0\0\0\0\0",
+    [3, 1, 1, 0, 0, 0, 3, 0],
+    [4, 0, 1, 0, 0, 0, 0, 0],
+    *b"<\0\0\0\0\0\0\0",
+    [4, 1, 0, 0, 0, 0, 0, 0],
+    [4, 0, 1, 0, 0, 0, 0, 0],
+    *b">\0\0\0\0\0\0\0",
+];
+
+/// Its templates.
+const TEMPLATES: [[u8; 8]; 11] = [
+    [1, 0, 0, 0, 0, 0, 0, 0],
+    [1, 2, 0, 0, 0, 0, 0, 0],
+    [3, 1, 0, 0, 9, 0, 0, 0],
+    [4, 0, 1, 0, 0, 0, 0, 0],
+    [5, 0, 0, 0, 7, 0, 1, 0],
+    [5, 6, 0, 0, 6, 0, 1, 0],
+    [5, 5, 0, 0, 5, 0, 0, 0],
+    [6, 0, 0, 0, 0, 0, 0, 0],
+    [5, 0, 1, 0, 3, 0, 1, 0],
+    [5, 2, 0, 0, 2, 0, 0, 0],
+    [6, 1, 0, 0, 0, 0, 0, 0],
+];
+
+/// Its value.
+const VALUE: [[u8; 8]; 5] = [
+    [3, 0, 0, 0, 5, 0, 2, 0],
+    [1, 0, 2, 0, 2, 0, 0, 0],
+    *b"ab\0\0\0\0\0\0",
+    [1, 0, 8, 0, 2, 0, 0, 0],
+    [0xce, 0xb1, 0xce, 0xb2, 0xce, 0xb3, 0xce, 0xb4],
+];
+
+#[track_caller]
+fn holds(kind: u8, stream: &[u8], records: &[[u8; 8]]) {
+    let mut payload = [1; feed::PAYLOAD];
+    assert_eq!(
+        feed::unpack(kind, stream, &mut payload).fields(),
+        [0, 0, 0, 0, 504]
+    );
+    let (found, tail) = payload.split_at(records.len() * 8);
+    assert_eq!(found, records.as_flattened());
+    assert!(tail.iter().all(|&byte| byte == 0));
+}
+
+#[test]
+fn the_papers_streams_hold_its_records() {
+    let Streams {
+        grammar,
+        templates,
+        value,
+    } = streams("harbour");
+    holds(1, &grammar, &GRAMMAR);
+    holds(2, &templates, &TEMPLATES);
+    holds(3, &value, &VALUE);
+}
+
+#[test]
+fn the_papers_text() {
+    let (steps, text) = rendered("harbour");
+    assert_eq!(steps, 7);
+    assert_eq!(text, "[<ab><αβγδ>]".as_bytes());
+    assert_eq!(text, read("examples/harbour/text.txt"));
+}
+
+#[test]
+fn the_podcast_description_gives_its_streams() {
+    assert_eq!(assembled("podcast"), streams("podcast"));
+}
+
+#[test]
+fn the_podcast_text() {
+    assert_eq!(rendered("podcast").1, read("examples/podcast/feed.xml"));
+}
+
+/// An XML parser that is not ours accepts the rendered podcast.
+#[test]
+fn the_podcast_text_is_well_formed() {
+    let mut parser = Command::new("python3")
+        .arg(file("rust/kit/tests/well_formed.py"))
+        .stdin(Stdio::piped())
+        .stdout(Stdio::piped())
+        .spawn()
+        .expect("python3, whose XML parser reads the podcast's text, can be run");
+    parser
+        .stdin
+        .take()
+        .expect("its input")
+        .write_all(&rendered("podcast").1)
+        .expect("written");
+    let output = parser.wait_with_output().expect("its end");
+    assert!(output.status.success());
+    assert_eq!(
+        String::from_utf8_lossy(&output.stdout),
+        "3 items, 6 chapters\n"
+    );
+}
+
+#[test]
+fn the_format_has_the_papers_description() {
+    let format = String::from_utf8(read("rust/kit/FORMAT.md")).expect("UTF-8");
+    let description = String::from_utf8(read("examples/harbour/feed.txt")).expect("UTF-8");
+    assert!(format.contains(&description));
+}

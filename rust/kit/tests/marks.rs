@@ -1,0 +1,104 @@
+//! The kit's marks against the proved library: a stream has a mark exactly when the library answers 3.
+
+use kit::layout::lines;
+use kit::record::{Found, Kind};
+use std::fs;
+use std::path::Path;
+
+const KINDS: [Kind; 3] = [Kind::Grammar, Kind::Templates, Kind::Value];
+
+fn stream(example: &str, kind: Kind) -> Vec<u8> {
+    let folder = Path::new(env!("CARGO_MANIFEST_DIR"))
+        .join("../../examples")
+        .join(example);
+    fs::read(folder.join(kind.file())).expect("a stream of the example")
+}
+
+fn is_marked(kind: Kind, payload: &[u8]) -> bool {
+    let found = Found::read(&packed(kind, payload), Some(kind));
+    assert_eq!(found.damaged(), 0);
+    lines(kind, &found.records)
+        .iter()
+        .any(|line| !line.odd.is_empty())
+}
+
+fn packed(kind: Kind, payload: &[u8]) -> Vec<u8> {
+    let mut blocks = vec![0; payload.len().div_ceil(feed::PAYLOAD) * feed::BLOCK];
+    assert!(feed::pack(kind.byte(), payload, &mut blocks)
+        .finished()
+        .is_ok());
+    blocks
+}
+
+/// Whether the library refuses the layout of this stream, the other two being sound.
+fn is_refused(kind: Kind, payload: &[u8]) -> bool {
+    let mut set = KINDS.map(|kind| stream("harbour", kind));
+    set[usize::from(kind.byte()) - 1] = packed(kind, payload);
+    let [grammar, templates, value] = &set;
+    feed::evaluate(grammar, templates, value, 0, &mut [], &mut []).number == 3
+}
+
+/// Changes each byte of an example's payloads in several ways.
+fn agree(example: &str, changes: &[fn(u8) -> u8]) {
+    for kind in KINDS {
+        let blocks = stream(example, kind);
+        let mut payload = vec![0; blocks.len() / feed::BLOCK * feed::PAYLOAD];
+        assert!(feed::unpack(kind.byte(), &blocks, &mut payload)
+            .finished()
+            .is_ok());
+        assert!(!is_marked(kind, &payload));
+        for index in 0..payload.len() {
+            let byte = payload[index];
+            for change in changes {
+                payload[index] = change(byte);
+                let (marked, refused) = (is_marked(kind, &payload), is_refused(kind, &payload));
+                assert_eq!(
+                    marked, refused,
+                    "{kind} of {example}, byte {index} is {}",
+                    payload[index]
+                );
+            }
+            payload[index] = byte;
+        }
+    }
+}
+
+#[test]
+fn marks_and_refusals_agree_on_the_papers_example() {
+    agree(
+        "harbour",
+        &[
+            |b| b ^ 1,
+            |b| b.wrapping_add(1),
+            |b| b.wrapping_sub(1),
+            |b| b ^ 0x80,
+            |_| 5,
+            |_| 0xff,
+        ],
+    );
+}
+
+#[test]
+fn marks_and_refusals_agree_on_the_podcast_example() {
+    agree("podcast", &[|b| b.wrapping_add(1)]);
+}
+
+#[test]
+fn marks_and_refusals_agree_on_tails() {
+    for kind in KINDS {
+        let blocks = stream("harbour", kind);
+        let payload = feed::block_payload(&blocks);
+        for length in (8..=payload.len()).step_by(8) {
+            let cut = &payload[..length];
+            assert_eq!(
+                is_marked(kind, cut),
+                is_refused(kind, cut),
+                "{kind} cut to {length} bytes"
+            );
+        }
+        let twice = [payload, &[0; feed::PAYLOAD]].concat();
+        assert!(is_marked(kind, &twice) && is_refused(kind, &twice));
+        let zeros = [0; feed::PAYLOAD];
+        assert!(is_marked(kind, &zeros) && is_refused(kind, &zeros));
+    }
+}
