@@ -1,0 +1,189 @@
+//! `bench [--rounds N]`: ratios of times as Markdown tables. No time is asserted.
+//!
+//! With the feature `proved` the proved library is measured against the reference.
+
+mod measure;
+mod podcast;
+mod sets;
+
+use std::hint::black_box;
+
+use build::fnv1a;
+use measure::{measure, Times};
+use sets::{Family, FAMILIES};
+use trials::generate::Streams;
+use trials::{Fields, Machine, Reference};
+
+fn main() {
+    let rounds = rounds().unwrap_or(41);
+    println!("Medians of {rounds} rounds, everything measured in turns within one run.");
+    println!("In brackets: the quartiles.\n");
+    speed_table(rounds);
+    growth_table(rounds);
+    noise_line(rounds);
+}
+
+/// The number behind `--rounds`.
+fn rounds() -> Option<usize> {
+    let mut words = std::env::args().skip_while(|word| word != "--rounds");
+    words.nth(1)?.parse().ok().filter(|&rounds| rounds > 0)
+}
+
+#[cfg(feature = "proved")]
+fn machines() -> Vec<Box<dyn Machine>> {
+    vec![Box::new(Reference), Box::new(trials::proved::Proved)]
+}
+
+#[cfg(not(feature = "proved"))]
+fn machines() -> Vec<Box<dyn Machine>> {
+    vec![Box::new(Reference)]
+}
+
+/// A thing to be measured.
+type Thing<'a> = Box<dyn FnMut() + 'a>;
+
+/// One evaluate call with all the room that it needs.
+fn evaluation<'a>(machine: &'a dyn Machine, streams: &'a Streams) -> Thing<'a> {
+    let mut out = vec![0; 1 << 20];
+    let mut scratch = vec![0; 4_800];
+    Box::new(move || {
+        black_box(machine.evaluate(black_box(streams.parts()), u32::MAX, &mut out, &mut scratch));
+    })
+}
+
+fn checking<'a>(machine: &'a dyn Machine, streams: &'a Streams) -> Thing<'a> {
+    Box::new(move || {
+        let [grammar, templates, _] = black_box(streams.parts());
+        black_box(machine.check(grammar, templates));
+    })
+}
+
+/// The pass that no evaluate call can do without: FNV-1a over the same bytes.
+fn hashing(streams: &Streams) -> Thing<'_> {
+    Box::new(move || {
+        for stream in black_box(streams.parts()) {
+            black_box(fnv1a(stream));
+        }
+    })
+}
+
+fn answer(streams: &Streams) -> Fields {
+    let mut out = vec![0; 1 << 20];
+    Reference.evaluate(streams.parts(), u32::MAX, &mut out, &mut [0; 4_800])
+}
+
+fn input(streams: &Streams) -> usize {
+    streams.parts().iter().map(|stream| stream.len()).sum()
+}
+
+fn with_quartiles([low, middle, high]: [f64; 3]) -> String {
+    format!("{middle:.2} ({low:.2} to {high:.2})")
+}
+
+/// A row of a Markdown table.
+fn row(cells: &[String]) {
+    println!("| {} |", cells.join(" | "));
+}
+
+fn header(cells: &[String]) {
+    row(cells);
+    println!("|{}", "---|".repeat(cells.len()));
+}
+
+fn speed_table(rounds: usize) {
+    let machines = machines();
+    let mut cells = vec![
+        "set".to_string(),
+        "bytes in".into(),
+        "bytes out".into(),
+        "steps".into(),
+        "FNV-1a pass, µs".into(),
+    ];
+    for machine in &machines {
+        cells.push(format!("evaluate / FNV, {}", machine.name()));
+    }
+    for machine in &machines[1..] {
+        cells.push(format!("evaluate, {} / reference", machine.name()));
+        cells.push(format!("check, {} / reference", machine.name()));
+    }
+    header(&cells);
+    for family in &FAMILIES {
+        row(&speed_row(family, &machines, rounds));
+    }
+    println!();
+}
+
+fn speed_row(family: &Family, machines: &[Box<dyn Machine>], rounds: usize) -> Vec<String> {
+    let streams = (family.set)(4);
+    let [number, .., steps, bytes] = answer(&streams);
+    assert_eq!(number, 0, "{} must finish", family.name);
+    let mut things = vec![hashing(&streams)];
+    for machine in machines {
+        things.push(evaluation(&**machine, &streams));
+        things.push(checking(&**machine, &streams));
+    }
+    let times = measure(&mut things, rounds);
+    let (hash, calls) = times.split_first().expect("a hash pass");
+    let calls: Vec<&[Times]> = calls.chunks(2).collect();
+    let mut cells = vec![
+        family.name.to_string(),
+        input(&streams).to_string(),
+        bytes.to_string(),
+        steps.to_string(),
+        format!("{:.1}", hash.median() * 1e6),
+    ];
+    cells.extend(calls.iter().map(|call| with_quartiles(call[0].ratio(hash))));
+    for call in &calls[1..] {
+        cells.extend([0, 1].map(|which| with_quartiles(call[which].ratio(&calls[0][which]))));
+    }
+    cells
+}
+
+fn growth_table(rounds: usize) {
+    let machines = machines();
+    println!("Growth from half size to full size; linear growth is a time of at most the input.\n");
+    let mut cells = vec!["set".to_string(), "input".into(), "steps".into()];
+    for machine in &machines {
+        cells.push(format!("evaluate, {}", machine.name()));
+        cells.push(format!("check, {}", machine.name()));
+    }
+    header(&cells);
+    for family in FAMILIES.iter().filter(|family| family.grows) {
+        row(&growth_row(family, &machines, rounds));
+    }
+    println!();
+}
+
+fn growth_row(family: &Family, machines: &[Box<dyn Machine>], rounds: usize) -> Vec<String> {
+    let (half, full) = ((family.set)(2), (family.set)(4));
+    let steps = |streams: &Streams| answer(streams)[3] as f64;
+    let mut cells = vec![
+        family.name.to_string(),
+        format!("{:.2}", input(&full) as f64 / input(&half) as f64),
+        format!("{:.2}", steps(&full) / steps(&half)),
+    ];
+    for machine in machines {
+        let mut things = vec![
+            evaluation(&**machine, &half),
+            evaluation(&**machine, &full),
+            checking(&**machine, &half),
+            checking(&**machine, &full),
+        ];
+        let times = measure(&mut things, rounds);
+        cells.push(with_quartiles(times[1].ratio(&times[0])));
+        cells.push(with_quartiles(times[3].ratio(&times[2])));
+    }
+    cells
+}
+
+/// The ratio of a thing to itself says how much a ratio is worth.
+fn noise_line(rounds: usize) {
+    let streams = podcast::feed(4);
+    let mut things = vec![
+        evaluation(&Reference, &streams),
+        evaluation(&Reference, &streams),
+    ];
+    let times = measure(&mut things, rounds);
+    let ratio = with_quartiles(times[0].ratio(&times[1]));
+    println!("Noise: the reference against itself on the podcast feed: {ratio}.");
+}

@@ -1,0 +1,203 @@
+//! A podcast feed: an RSS 2.0 channel with episodes and chapters, many of them with Greek titles.
+
+use build::{Element, Grammar, Node, Path, Templates, Value};
+use trials::generate::Streams;
+
+/// Records of a stream of 128 blocks.
+const FULL: usize = 128 * 63;
+
+/// Nonterminals of the feed's grammar.
+const CHANNEL: u16 = 0;
+const EPISODE: u16 = 1;
+const CHAPTER: u16 = 2;
+const RATING: u16 = 3;
+
+/// Classes: titles and notes, addresses, digits and colons, dates.
+const TITLE: u16 = 0;
+const ADDRESS: u16 = 1;
+const COUNT: u16 = 2;
+const DATE: u16 = 3;
+
+/// A feed whose value takes `scale` quarters of 128 blocks.
+pub fn feed(scale: usize) -> Streams {
+    Streams::of(&grammar(), &templates(), &value(FULL * scale / 4))
+}
+
+fn keyword(text: &str) -> Element {
+    Element::keyword(text)
+}
+
+fn grammar() -> Grammar {
+    let mut grammar = Grammar::new();
+    let plain = [
+        (0x20, 0x21),
+        (0x23, 0x25),
+        (0x27, 0x3B),
+        (0x3D, 0x3D),
+        (0x3F, 0x7E),
+    ];
+    let greek = [
+        (0xA0, 0xFF),
+        (0x370, 0x3FF),
+        (0x1F00, 0x1FFF),
+        (0x2010, 0x2027),
+    ];
+    grammar.class(1, 400, &[&plain[..], &greek[..]].concat());
+    grammar.class(
+        1,
+        200,
+        &[(0x2D, 0x3A), (0x41, 0x5A), (0x61, 0x7A), (0x5F, 0x5F)],
+    );
+    grammar.class(1, 12, &[(0x30, 0x3A)]);
+    grammar.class(
+        1,
+        40,
+        &[(0x20, 0x20), (0x2B, 0x3A), (0x41, 0x5A), (0x61, 0x7A)],
+    );
+    grammar.production(CHANNEL, channel());
+    grammar.production(EPISODE, episode_elements());
+    grammar.production(CHAPTER, chapter());
+    grammar.production(RATING, [keyword("<itunes:explicit>true</itunes:explicit>")]);
+    grammar.production(
+        RATING,
+        [keyword("<itunes:explicit>false</itunes:explicit>")],
+    );
+    grammar
+}
+
+/// The channel: its title, its address and its episodes.
+fn channel() -> Vec<Element> {
+    vec![
+        keyword("<?xml version=\"1.0\" encoding=\"UTF-8\"?>\n<rss version=\"2.0\""),
+        keyword(" xmlns:itunes=\"http://www.itunes.com/dtds/podcast-1.0.dtd\""),
+        keyword(" xmlns:psc=\"http://podlove.org/simple-chapters\"><channel>\n<title>"),
+        Element::Class(TITLE),
+        keyword("</title>\n<link>"),
+        Element::Class(ADDRESS),
+        keyword("</link>\n"),
+        Element::Repetition(EPISODE),
+        keyword("</channel></rss>\n"),
+    ]
+}
+
+/// An episode: texts, its recording, a rating and its chapters.
+fn episode_elements() -> Vec<Element> {
+    vec![
+        keyword("<item><title>"),
+        Element::Class(TITLE),
+        keyword("</title><description>"),
+        Element::Class(TITLE),
+        keyword("</description><guid isPermaLink=\"false\">"),
+        Element::Class(ADDRESS),
+        keyword("</guid><pubDate>"),
+        Element::Class(DATE),
+        keyword("</pubDate><enclosure url=\""),
+        Element::Class(ADDRESS),
+        keyword("\" length=\""),
+        Element::Class(COUNT),
+        keyword("\" type=\"audio/mpeg\"/>"),
+        Element::Nonterminal(RATING),
+        keyword("\n<psc:chapters>"),
+        Element::Repetition(CHAPTER),
+        keyword("</psc:chapters>\n</item>\n"),
+    ]
+}
+
+/// A chapter: when it starts and what it is called.
+fn chapter() -> Vec<Element> {
+    vec![
+        keyword("<psc:chapter start=\""),
+        Element::Class(COUNT),
+        keyword("\" title=\""),
+        Element::Class(TITLE),
+        keyword("\"/>"),
+    ]
+}
+
+fn templates() -> Templates {
+    let mut templates = Templates::new();
+    let [title, address, count, date] = [TITLE, ADDRESS, COUNT, DATE].map(|c| templates.text(c));
+    let yes_no = templates.yes_no();
+    let chapter = templates.record([count, title]);
+    let chapters = templates.list(chapter);
+    let episode = templates.record([
+        title, title, address, date, address, count, yes_no, chapters,
+    ]);
+    let episodes = templates.list(episode);
+    let channel = templates.record([title, address, episodes]);
+    let whole = Path::variable(0);
+    let place = |path: &Path, field| Node::place(path.clone().field(field));
+    let items = Node::each(whole.clone().field(2), Node::expand(1, [Path::variable(1)]));
+    let body = Node::build(
+        0,
+        [place(&whole, 0), place(&whole, 1), Node::sequence([items])],
+    );
+    templates.template(CHANNEL, [channel], body);
+    let entry = Path::variable(1);
+    let marks = Node::build(2, [place(&entry, 0), place(&entry, 1)]);
+    let marks = Node::sequence([Node::each(whole.clone().field(7), marks)]);
+    let rating = Node::either(
+        whole.clone().field(6),
+        Node::build(3, []),
+        Node::build(4, []),
+    );
+    let mut children: Vec<Node> = (0..6).map(|field| place(&whole, field)).collect();
+    children.extend([rating, marks]);
+    templates.template(EPISODE, [episode], Node::build(1, children));
+    templates
+}
+
+const TITLES: [&str; 6] = [
+    "Ὀδυσσεύς: ἡ ἐπιστροφὴ στὴν Ἰθάκη",
+    "Salt and rope, a night on the quay",
+    "Το λιμάνι του Πειραιά και οι άνθρωποί του",
+    "What the lighthouse keeper wrote down",
+    "Μια βραδιά με ρεμπέτικα στη Σύρο",
+    "An hour with the tide tables",
+];
+
+const NOTES: [&str; 4] = [
+    "Recorded on board; with thanks to the crew.",
+    "Ο καπετάνιος διηγείται τον πρώτο του χειμώνα.",
+    "Two guests, one map and a storm that never came.",
+    "Notes and links are on the page of the series.",
+];
+
+fn episode(number: usize) -> Value {
+    let chapter = |part: usize| {
+        let title = ["Opening", "Η θάλασσα", "Letters", "Το τέλος"][(number + part) % 4];
+        let start = format!("00:{:02}:{:02}", 9 * part, (7 * number + part) % 60);
+        Value::record([Value::text(start), Value::text(title)])
+    };
+    let day = ["Mon", "Tue", "Wed", "Thu", "Fri", "Sat", "Sun"][number % 7];
+    let date = format!("{day}, {:02} Mar 2025 06:30:00 +0000", 1 + number % 28);
+    Value::record([
+        Value::text(TITLES[number % TITLES.len()]),
+        Value::text(NOTES[number % NOTES.len()]),
+        Value::text(format!("series-7-episode-{number}")),
+        Value::text(date),
+        Value::text(format!("https://media.example/7/{number}/audio.mp3")),
+        Value::text(format!("{}", 10_000_000 + 7_919 * number)),
+        Value::YesNo(number.is_multiple_of(9)),
+        Value::list((0..2 + number % 3).map(chapter)),
+    ])
+}
+
+/// As many episodes as so many records hold.
+fn value(records: usize) -> Value {
+    let mut episodes = Vec::new();
+    let mut used = 12;
+    loop {
+        let episode = episode(episodes.len());
+        used += episode.records().len();
+        if used > records {
+            break;
+        }
+        episodes.push(episode);
+    }
+    Value::record([
+        Value::text("Ἡ θάλασσα, the sea"),
+        Value::text("https://feeds.example/7"),
+        Value::List(episodes),
+    ])
+}

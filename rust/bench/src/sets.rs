@@ -1,0 +1,278 @@
+//! The sets that are measured: the paper's example, a full-size feed, and sets made to be slow.
+
+use build::{Element, Grammar, Node, Path, Templates, Type, Value};
+use trials::generate::Streams;
+
+use crate::podcast;
+
+/// A family of sets by size: 4 fills the streams, 2 and 1 take a half and a quarter.
+pub struct Family {
+    /// What the table calls it.
+    pub name: &'static str,
+    /// Makes a set of a size.
+    pub set: fn(usize) -> Streams,
+    /// Whether growth is measured: the input and the steps grow with the size.
+    pub grows: bool,
+}
+
+/// All families.
+pub const FAMILIES: [Family; 11] = [
+    Family {
+        name: "the paper's example",
+        set: |_| example(),
+        grows: false,
+    },
+    Family {
+        name: "podcast feed, full size",
+        set: podcast::feed,
+        grows: true,
+    },
+    Family {
+        name: "256 classes of many ranges",
+        set: many_classes,
+        grows: true,
+    },
+    Family {
+        name: "one class of thousands of ranges",
+        set: many_ranges,
+        grows: true,
+    },
+    Family {
+        name: "256 productions of one nonterminal",
+        set: many_productions,
+        grows: true,
+    },
+    Family {
+        name: "last of 255 fields, five steps deep",
+        set: many_fields,
+        grows: true,
+    },
+    Family {
+        name: "thousands of one-character texts",
+        set: one_character_texts,
+        grows: true,
+    },
+    Family {
+        name: "200 levels of nodes",
+        set: deep_bodies,
+        grows: true,
+    },
+    Family {
+        name: "200 levels of values",
+        set: deep_values,
+        grows: true,
+    },
+    Family {
+        name: "thousands of items in one sequence",
+        set: wide_sequence,
+        grows: true,
+    },
+    Family {
+        name: "loops in loops, a small input",
+        set: |_| nested_loops(),
+        grows: false,
+    },
+];
+
+fn keyword(text: &str) -> Element {
+    Element::keyword(text)
+}
+
+/// Nonterminal 0: `[` 1* `]`. Nonterminal 1: `<` class 0 `>`.
+fn entries(least: u16, most: u16, ranges: &[(u32, u32)]) -> Grammar {
+    let mut grammar = Grammar::new();
+    grammar.class(least, most, ranges);
+    grammar.production(0, [keyword("["), Element::Repetition(1), keyword("]")]);
+    grammar.production(1, [keyword("<"), Element::Class(0), keyword(">")]);
+    grammar
+}
+
+/// Template 0 on a list of texts of class 0: every one of them as an entry.
+fn entries_templates() -> Templates {
+    let mut templates = Templates::new();
+    let title = templates.text(0);
+    let titles = templates.list(title);
+    let entry = Node::build(1, [Node::place(Path::variable(1))]);
+    let row = Node::sequence([Node::each(Path::variable(0), entry)]);
+    templates.template(0, [titles], Node::build(0, [row]));
+    templates
+}
+
+fn example() -> Streams {
+    let grammar = entries(1, 4, &[(0x61, 0x7A), (0x370, 0x3FF)]);
+    let value = Value::list([Value::text("ab"), Value::text("αβγδ")]);
+    Streams::of(&grammar, &entries_templates(), &value)
+}
+
+/// 64 to 256 classes, each of 28 ranges of one character from high to low, and texts of them.
+fn many_classes(scale: usize) -> Streams {
+    let count = 64 * scale as u16;
+    let mut grammar = Grammar::new();
+    let mut templates = Templates::new();
+    let code = |class: u16, range: u32| 0x4E00 + 64 * u32::from(class) + 2 * (28 - range);
+    for class in 0..count {
+        let ranges: Vec<(u32, u32)> = (0..28)
+            .map(|range| (code(class, range), code(class, range)))
+            .collect();
+        grammar.class(0, 40, &ranges);
+        templates.text(class);
+    }
+    let classes = (0..count).step_by(4).map(Element::Class);
+    grammar.production(0, classes);
+    let row = templates.record((0..count).step_by(4));
+    let fields = 0..(count / 4) as u8;
+    let places = fields.map(|field| Node::place(Path::variable(0).field(field)));
+    templates.template(0, [row], Node::build(0, places));
+    let text = |class: u16| {
+        let letters: String = (0..28)
+            .filter_map(|range| char::from_u32(code(class, range)))
+            .collect();
+        Value::text(letters)
+    };
+    let value = Value::record((0..count).step_by(4).map(text));
+    Streams::of(&grammar, &templates, &value)
+}
+
+/// One class of up to 7,800 ranges of one character each, from high to low, and texts of its lowest.
+fn many_ranges(scale: usize) -> Streams {
+    let count = 1_950 * scale as u32;
+    let ranges: Vec<(u32, u32)> = (0..count)
+        .map(|range| 0x10000 + 2 * (count - range))
+        .map(|code| (code, code))
+        .collect();
+    let letters: String = (1..=12)
+        .filter_map(|range| char::from_u32(0x10000 + 2 * range))
+        .collect();
+    let value = Value::list(vec![Value::text(letters); 260 * scale]);
+    Streams::of(&entries(1, 12, &ranges), &entries_templates(), &value)
+}
+
+/// 64 to 256 productions of nonterminal 1, each built many times.
+fn many_productions(scale: usize) -> Streams {
+    let count = 64 * scale;
+    let mut grammar = Grammar::new();
+    grammar.production(0, [keyword("{"), Element::Repetition(1), keyword("}")]);
+    for number in 1..count {
+        grammar.production(1, [keyword(&format!("<p{number:03}/>"))]);
+    }
+    let mut templates = Templates::new();
+    let yes_no = templates.yes_no();
+    let builds = (0..1_900 * scale).map(|number| Node::build((count - 1 - number % 50) as u16, []));
+    templates.template(0, [yes_no], Node::build(0, [Node::sequence(builds)]));
+    Streams::of(&grammar, &templates, &Value::YesNo(true))
+}
+
+/// Five records of 255 fields in one another, of which places read the last of the last.
+fn many_fields(scale: usize) -> Streams {
+    let grammar = entries(1, 4, &[(0x61, 0x7A), (0x370, 0x3FF)]);
+    let mut templates = Templates::new();
+    let yes_no = templates.yes_no();
+    let mut kind = templates.text(0);
+    let mut value = Value::text("αω");
+    for _ in 0..5 {
+        let mut fields = vec![yes_no; 254];
+        fields.push(kind);
+        kind = templates.add(Type::Record(fields));
+        let mut values = vec![Value::YesNo(false); 254];
+        values.push(value);
+        value = Value::Record(values);
+    }
+    let list = templates.list(kind);
+    let deep = Path {
+        variable: 1,
+        fields: vec![254; 5],
+    };
+    let entry = Node::build(1, [Node::place(deep)]);
+    let each = Node::each(Path::variable(0), entry);
+    let row = Node::sequence(vec![each; 300 * scale]);
+    templates.template(0, [list], Node::build(0, [row]));
+    let value = Value::list(vec![value; scale + 1]);
+    Streams::of(&grammar, &templates, &value)
+}
+
+fn one_character_texts(scale: usize) -> Streams {
+    let grammar = entries(1, 1, &[(0x61, 0x7A), (0x370, 0x3FF)]);
+    let letters = ["a", "β", "z", "ω"];
+    let texts = (0..1_000 * scale).map(|number| Value::text(letters[number % 4]));
+    Streams::of(&grammar, &entries_templates(), &Value::list(texts))
+}
+
+/// A body of 199 levels, entered for each item of a list, and more such bodies to check.
+fn deep_bodies(scale: usize) -> Streams {
+    let mut grammar = Grammar::new();
+    grammar.production(0, [keyword("("), Element::Nonterminal(0), keyword(")")]);
+    grammar.production(0, [keyword("{"), Element::Repetition(0), keyword("}")]);
+    grammar.production(0, []);
+    let chain = |levels: usize| {
+        let mut node = Node::build(2, []);
+        for _ in 1..levels {
+            node = Node::build(0, [node]);
+        }
+        node
+    };
+    let mut templates = Templates::new();
+    let yes_no = templates.yes_no();
+    let list = templates.list(yes_no);
+    let each = Node::each(Path::variable(0), chain(197));
+    templates.template(0, [list], Node::build(1, [Node::sequence([each])]));
+    for _ in 0..9 * scale {
+        templates.template(0, [yes_no], chain(200));
+    }
+    let value = Value::list(vec![Value::YesNo(true); 50 * scale]);
+    Streams::of(&grammar, &templates, &value)
+}
+
+/// Lists in lists, up to 200 deep, with leaves on the way; the first fifty levels are walked.
+fn deep_values(scale: usize) -> Streams {
+    let mut grammar = Grammar::new();
+    grammar.production(0, [keyword("("), Element::Repetition(0), keyword(")")]);
+    let mut templates = Templates::new();
+    let list = templates.list(0);
+    let again = Node::expand(1, [Path::variable(1)]);
+    let each = Node::each(Path::variable(0), again);
+    templates.template(0, [list], Node::build(0, [Node::sequence([each])]));
+    let leaf = Node::build(0, [Node::sequence([])]);
+    let each = Node::each(Path::variable(0), leaf);
+    templates.template(0, [list], Node::build(0, [Node::sequence([each])]));
+    let tower = || {
+        let mut value = Value::list([]);
+        for level in 0..198 {
+            let leaf = Value::list([]);
+            value = match level % 4 {
+                0 => Value::list([leaf.clone(), value, leaf]),
+                _ => Value::list([value]),
+            };
+        }
+        value
+    };
+    let value = Value::list((0..6 * scale).map(|_| tower()));
+    Streams::of(&grammar, &templates, &value)
+}
+
+fn wide_sequence(scale: usize) -> Streams {
+    let grammar = entries(1, 4, &[(0x61, 0x7A), (0x370, 0x3FF)]);
+    let mut templates = Templates::new();
+    let text = templates.text(0);
+    let entry = Node::build(1, [Node::place(Path::variable(0))]);
+    let row = Node::sequence(vec![entry; 640 * scale]);
+    templates.template(0, [text], Node::build(0, [row]));
+    Streams::of(&grammar, &templates, &Value::text("ψ"))
+}
+
+/// Three loops in one another over forty items: 64,000 innermost bodies.
+fn nested_loops() -> Streams {
+    let mut grammar = Grammar::new();
+    grammar.production(0, [Element::Repetition(0)]);
+    grammar.production(0, []);
+    let mut templates = Templates::new();
+    let yes_no = templates.yes_no();
+    let list = templates.list(yes_no);
+    let mut body = Node::build(1, []);
+    for _ in 0..3 {
+        let each = Node::each(Path::variable(0), body);
+        body = Node::build(0, [Node::sequence([each])]);
+    }
+    templates.template(0, [list], body);
+    let value = Value::list(vec![Value::YesNo(true); 40]);
+    Streams::of(&grammar, &templates, &value)
+}

@@ -1,0 +1,133 @@
+//! Grammars: classes with ranges, productions with elements.
+
+use crate::blocks::blocks;
+use crate::records::{record, text_units, word, Record};
+use crate::GRAMMAR;
+
+/// A grammar to be built. Classes and productions are numbered in the order they come in.
+#[derive(Clone, Debug, Default)]
+pub struct Grammar {
+    /// The classes by number.
+    pub classes: Vec<Class>,
+    /// The productions by number.
+    pub productions: Vec<Production>,
+}
+
+/// A class of lexemes.
+#[derive(Clone, Debug)]
+pub struct Class {
+    /// The least number of characters.
+    pub least: u16,
+    /// The greatest number of characters.
+    pub most: u16,
+    /// Ranges of code points, both ends included.
+    pub ranges: Vec<(u32, u32)>,
+}
+
+/// A production of a nonterminal.
+#[derive(Clone, Debug)]
+pub struct Production {
+    /// The nonterminal's number.
+    pub nonterminal: u16,
+    /// Its elements in order.
+    pub elements: Vec<Element>,
+}
+
+/// An element of a production.
+#[derive(Clone, Debug)]
+pub enum Element {
+    /// These very bytes.
+    Keyword(Vec<u8>),
+    /// A lexeme of a class.
+    Class(u16),
+    /// A text of a nonterminal.
+    Nonterminal(u16),
+    /// Any number of texts of a nonterminal.
+    Repetition(u16),
+}
+
+impl Element {
+    /// A keyword from a text.
+    pub fn keyword(text: impl Into<Vec<u8>>) -> Self {
+        Element::Keyword(text.into())
+    }
+}
+
+impl Grammar {
+    /// A grammar with nothing in it.
+    #[must_use]
+    pub fn new() -> Self {
+        Grammar::default()
+    }
+
+    /// Adds a class and answers its number.
+    pub fn class(&mut self, least: u16, most: u16, ranges: &[(u32, u32)]) -> u16 {
+        self.classes.push(Class {
+            least,
+            most,
+            ranges: ranges.to_vec(),
+        });
+        word(self.classes.len() - 1)
+    }
+
+    /// Adds a production of a nonterminal and answers the production's number.
+    pub fn production(
+        &mut self,
+        nonterminal: u16,
+        elements: impl IntoIterator<Item = Element>,
+    ) -> u16 {
+        self.productions.push(Production {
+            nonterminal,
+            elements: elements.into_iter().collect(),
+        });
+        word(self.productions.len() - 1)
+    }
+
+    /// The records in order. Numbers over 255 are cut to a byte, and so refused by the machine.
+    ///
+    /// # Panics
+    /// A count or a text's length over 65,535.
+    #[must_use]
+    pub fn records(&self) -> Vec<Record> {
+        let mut records = Vec::new();
+        for (number, class) in self.classes.iter().enumerate() {
+            let ranges = word(class.ranges.len());
+            records.push(record(1, number as u8, class.least, class.most, ranges));
+            records.extend(class.ranges.iter().map(range));
+        }
+        for (number, production) in self.productions.iter().enumerate() {
+            let elements = word(production.elements.len());
+            records.push(record(3, number as u8, production.nonterminal, 0, elements));
+            for element in &production.elements {
+                push_element(&mut records, element);
+            }
+        }
+        records
+    }
+
+    /// The packed stream.
+    ///
+    /// # Panics
+    /// A count or a text's length over 65,535.
+    #[must_use]
+    pub fn stream(&self) -> Vec<u8> {
+        blocks(GRAMMAR, &self.records())
+    }
+}
+
+fn range(&(lowest, highest): &(u32, u32)) -> Record {
+    let ([l0, l1, l2, _], [h0, h1, h2, _]) = (lowest.to_le_bytes(), highest.to_le_bytes());
+    [2, l0, l1, l2, h0, h1, h2, 0]
+}
+
+fn push_element(records: &mut Vec<Record>, element: &Element) {
+    match element {
+        Element::Keyword(text) => {
+            records.push(record(4, 0, word(text.len()), 0, 0));
+            records.extend(text_units(text));
+        }
+        Element::Class(number) => records.push(record(4, 1, *number, 0, 0)),
+        Element::Nonterminal(number) => records.push(record(4, 2, *number, 0, 0)),
+        Element::Repetition(number) => records.push(record(4, 3, *number, 0, 0)),
+    }
+}

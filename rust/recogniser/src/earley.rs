@@ -1,0 +1,153 @@
+//! Earley's method, with counted classes, repetitions and empty derivations.
+
+use std::collections::{HashMap, HashSet};
+
+use crate::grammar::{Element, Grammar};
+
+/// A production with a dot: before element `element`, with `count` characters of a class read, and
+/// begun at byte `origin`.
+#[derive(Clone, Copy, Debug, PartialEq, Eq, Hash)]
+struct Item {
+    production: usize,
+    element: usize,
+    count: u32,
+    origin: usize,
+}
+
+impl Item {
+    /// The dot behind the element.
+    fn advanced(self) -> Item {
+        Item {
+            element: self.element + 1,
+            count: 0,
+            ..self
+        }
+    }
+}
+
+/// What is known at one byte of the text.
+#[derive(Default)]
+struct Set {
+    items: Vec<Item>,
+    seen: HashSet<Item>,
+    /// What each item that asks for a nonterminal becomes once it is there.
+    waiting: HashMap<u16, Vec<Item>>,
+    /// Nonterminals that derive the empty text here.
+    empty: HashSet<u16>,
+}
+
+impl Set {
+    fn add(&mut self, item: Item) {
+        if self.seen.insert(item) {
+            self.items.push(item);
+        }
+    }
+}
+
+/// One run over a text.
+pub(crate) struct Run<'a> {
+    grammar: &'a Grammar,
+    text: &'a [u8],
+    sets: Vec<Set>,
+    budget: usize,
+}
+
+impl<'a> Run<'a> {
+    pub(crate) fn new(grammar: &'a Grammar, text: &'a [u8], budget: usize) -> Self {
+        let sets = (0..=text.len()).map(|_| Set::default()).collect();
+        Run {
+            grammar,
+            text,
+            sets,
+            budget,
+        }
+    }
+
+    /// Whether the nonterminal derives the whole text; `None` past the budget.
+    pub(crate) fn derives(mut self, nonterminal: u16) -> Option<bool> {
+        self.predict(nonterminal, 0);
+        for at in 0..=self.text.len() {
+            let mut next = 0;
+            while let Some(&item) = self.sets[at].items.get(next) {
+                self.budget = self.budget.checked_sub(1)?;
+                self.step(item, at);
+                next += 1;
+            }
+        }
+        let whole = |item: &Item| {
+            let production = &self.grammar.productions[item.production];
+            item.origin == 0
+                && production.nonterminal == nonterminal
+                && item.element == production.elements.len()
+        };
+        Some(self.sets[self.text.len()].items.iter().any(whole))
+    }
+
+    fn step(&mut self, item: Item, at: usize) {
+        let grammar = self.grammar;
+        let production = &grammar.productions[item.production];
+        match production.elements.get(item.element) {
+            None => self.complete(production.nonterminal, item.origin, at),
+            Some(Element::Keyword(text)) => {
+                if self.text[at..].starts_with(text) {
+                    self.sets[at + text.len()].add(item.advanced());
+                }
+            }
+            Some(Element::Class(class)) => self.read_character(item, *class, at),
+            Some(Element::Nonterminal(n)) => self.ask(*n, item.advanced(), at),
+            Some(Element::Repetition(n)) => {
+                self.sets[at].add(item.advanced());
+                self.ask(*n, item, at);
+            }
+        }
+    }
+
+    /// A class ends here, or takes one more character.
+    fn read_character(&mut self, item: Item, class: usize, at: usize) {
+        let Some(class) = self.grammar.classes.get(class) else {
+            return;
+        };
+        if class.may_end(item.count) {
+            self.sets[at].add(item.advanced());
+        }
+        if item.count < class.most {
+            if let Some(length) = class.character(&self.text[at..]) {
+                let count = item.count + 1;
+                self.sets[at + length].add(Item { count, ..item });
+            }
+        }
+    }
+
+    /// Asks for a nonterminal here, behind which `then` goes on.
+    fn ask(&mut self, nonterminal: u16, then: Item, at: usize) {
+        let set = &mut self.sets[at];
+        set.waiting.entry(nonterminal).or_default().push(then);
+        if set.empty.contains(&nonterminal) {
+            set.add(then);
+        }
+        self.predict(nonterminal, at);
+    }
+
+    fn predict(&mut self, nonterminal: u16, at: usize) {
+        let productions = self.grammar.by_nonterminal.get(&nonterminal);
+        for &production in productions.into_iter().flatten() {
+            self.sets[at].add(Item {
+                production,
+                element: 0,
+                count: 0,
+                origin: at,
+            });
+        }
+    }
+
+    /// A nonterminal derives the bytes from `origin` to here: who waited there goes on here.
+    fn complete(&mut self, nonterminal: u16, origin: usize, at: usize) {
+        if origin == at {
+            self.sets[at].empty.insert(nonterminal);
+        }
+        let waiting = self.sets[origin].waiting.get(&nonterminal);
+        for item in waiting.cloned().unwrap_or_default() {
+            self.sets[at].add(item);
+        }
+    }
+}

@@ -1,0 +1,113 @@
+//! Fixed examples: what is derived, and what is not once a byte is missing or added.
+
+use build::Element::{Class, Nonterminal, Repetition};
+use build::{Element, Grammar};
+use recogniser::BUDGET;
+
+fn keyword(text: &str) -> Element {
+    Element::keyword(text)
+}
+
+fn derives(grammar: &Grammar, nonterminal: u16, text: &[u8]) -> bool {
+    recogniser::Grammar::read(&grammar.stream())
+        .expect("a grammar")
+        .derives(nonterminal, text, BUDGET)
+        .expect("a verdict")
+}
+
+/// The paper's example: `[` and `<word>` again and again and `]`.
+fn entries() -> Grammar {
+    let mut grammar = Grammar::new();
+    grammar.class(1, 4, &[(0x61, 0x7A), (0x370, 0x3FF)]);
+    grammar.production(0, [keyword("["), Repetition(1), keyword("]")]);
+    grammar.production(1, [keyword("<"), Class(0), keyword(">")]);
+    grammar
+}
+
+#[test]
+fn the_papers_example_and_its_neighbours() {
+    let grammar = entries();
+    for text in ["[]", "[<ab>]", "[<ab><αβγδ>]", "[<a><b><c><dddd>]"] {
+        assert!(derives(&grammar, 0, text.as_bytes()), "{text}");
+    }
+    for text in [
+        "",
+        "[",
+        "[<>]",
+        "[<abcde>]",
+        "[<αβγδε>]",
+        "[<AB>]",
+        "[]]",
+        "<ab>",
+    ] {
+        assert!(!derives(&grammar, 0, text.as_bytes()), "{text}");
+    }
+    assert!(derives(&grammar, 1, "<ab>".as_bytes()));
+    assert!(!derives(&grammar, 0, &[b'[', b'<', 0xC0, 0x80, b'>', b']']));
+    assert!(!derives(&grammar, 7, b"[]"));
+}
+
+/// A little XML with nested lists.
+fn markup() -> Grammar {
+    let mut grammar = Grammar::new();
+    grammar.class(
+        1,
+        40,
+        &[(0x20, 0x3B), (0x3D, 0x3D), (0x3F, 0x7E), (0x370, 0x3FF)],
+    );
+    grammar.production(0, [keyword("<list>"), Repetition(1), keyword("</list>")]);
+    grammar.production(1, [keyword("<item>"), Class(0), keyword("</item>")]);
+    grammar.production(1, [Nonterminal(0)]);
+    grammar
+}
+
+#[test]
+fn every_byte_deleted_or_inserted_in_a_keyword_is_noticed() {
+    let grammar = markup();
+    let text = "<list><item>α β</item><list></list><item>x</item></list>".as_bytes();
+    assert!(derives(&grammar, 0, text));
+    // Bytes of the items' own texts: a character may go, half of one may not.
+    let free = |at: usize| (12..17).contains(&at) || (41..42).contains(&at);
+    let mut noticed = 0;
+    for at in 0..text.len() {
+        let mut shorter = text.to_vec();
+        shorter.remove(at);
+        let mut longer = text.to_vec();
+        longer.insert(at, b'<');
+        assert!(!derives(&grammar, 0, &longer), "< at {at}");
+        let derived = derives(&grammar, 0, &shorter);
+        assert!(!derived || free(at), "without byte {at}");
+        noticed += usize::from(!derived);
+    }
+    assert!(noticed >= text.len() - 2, "{noticed} of {}", text.len());
+}
+
+#[test]
+fn empty_derivations_and_left_recursion() {
+    let mut grammar = Grammar::new();
+    grammar.class(0, 2, &[(0x61, 0x61)]);
+    grammar.production(0, [Nonterminal(0), Nonterminal(1)]);
+    grammar.production(0, []);
+    grammar.production(1, [Repetition(2), keyword("b")]);
+    grammar.production(2, [Class(0)]);
+    for text in ["", "b", "ab", "aaaaab", "bb", "abaabb"] {
+        assert!(derives(&grammar, 0, text.as_bytes()), "{text}");
+    }
+    for text in ["a", "ba", "c", "abc"] {
+        assert!(!derives(&grammar, 0, text.as_bytes()), "{text}");
+    }
+}
+
+#[test]
+fn a_nonterminal_that_never_ends_derives_nothing() {
+    let mut grammar = Grammar::new();
+    grammar.production(0, [keyword("("), Nonterminal(0), keyword(")")]);
+    assert!(!derives(&grammar, 0, b""));
+    assert!(!derives(&grammar, 0, b"(())"));
+}
+
+#[test]
+fn past_the_budget_there_is_no_verdict() {
+    let grammar = recogniser::Grammar::read(&entries().stream()).expect("a grammar");
+    assert_eq!(grammar.derives(0, b"[<ab>]", 5), None);
+}

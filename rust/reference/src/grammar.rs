@@ -1,0 +1,129 @@
+//! The grammar stream: classes with their ranges, then productions with their elements.
+
+use std::collections::HashSet;
+
+use crate::records::{ask, Broken, Reader, Record, Records};
+
+/// A grammar whose layout holds.
+pub(crate) struct Grammar<'a> {
+    pub(crate) classes: Vec<Class>,
+    pub(crate) productions: Vec<Production<'a>>,
+    nonterminals: HashSet<u16>,
+}
+
+/// A class record with its ranges.
+pub(crate) struct Class {
+    pub(crate) place: usize,
+    pub(crate) least: u16,
+    pub(crate) most: u16,
+    pub(crate) ranges: Vec<CodeRange>,
+}
+
+/// A range of code points, both ends included.
+pub(crate) struct CodeRange {
+    pub(crate) place: usize,
+    pub(crate) lowest: u32,
+    pub(crate) highest: u32,
+}
+
+/// A production record with its elements.
+pub(crate) struct Production<'a> {
+    pub(crate) nonterminal: u16,
+    pub(crate) elements: Vec<Element<'a>>,
+}
+
+/// One element of a production.
+pub(crate) struct Element<'a> {
+    pub(crate) place: usize,
+    pub(crate) symbol: Symbol<'a>,
+}
+
+/// What an element stands for.
+#[derive(Clone, Copy)]
+pub(crate) enum Symbol<'a> {
+    Keyword(&'a [u8]),
+    Class(u16),
+    Nonterminal(u16),
+    Repetition(u16),
+}
+
+impl<'a> Grammar<'a> {
+    /// Reads the layout of a grammar stream.
+    pub(crate) fn read(records: &'a Records) -> Result<Self, Broken> {
+        let mut reader = records.reader();
+        let mut classes = Vec::new();
+        while reader.next_kind() == Some(1) {
+            classes.push(read_class(&mut reader, classes.len())?);
+        }
+        let mut productions = Vec::new();
+        while reader.next_kind() == Some(3) {
+            productions.push(read_production(&mut reader, productions.len())?);
+        }
+        reader.finish()?;
+        let nonterminals = productions.iter().map(|p| p.nonterminal).collect();
+        Ok(Grammar {
+            classes,
+            productions,
+            nonterminals,
+        })
+    }
+
+    /// A nonterminal exists if it has a production.
+    pub(crate) fn has_nonterminal(&self, nonterminal: u16) -> bool {
+        self.nonterminals.contains(&nonterminal)
+    }
+}
+
+fn read_class(reader: &mut Reader<'_>, number: usize) -> Result<Class, Broken> {
+    let place = reader.place();
+    let head = reader.record_of(1)?;
+    ask(usize::from(head.a()) == number)?;
+    let mut ranges = Vec::new();
+    for _ in 0..head.d() {
+        ranges.push(read_range(reader)?);
+    }
+    Ok(Class {
+        place,
+        least: head.b(),
+        most: head.c(),
+        ranges,
+    })
+}
+
+fn read_range(reader: &mut Reader<'_>) -> Result<CodeRange, Broken> {
+    let place = reader.place();
+    let Record([_, l0, l1, l2, h0, h1, h2, unused]) = reader.record_of(2)?;
+    ask(unused == 0)?;
+    Ok(CodeRange {
+        place,
+        lowest: u32::from_le_bytes([l0, l1, l2, 0]),
+        highest: u32::from_le_bytes([h0, h1, h2, 0]),
+    })
+}
+
+fn read_production<'a>(reader: &mut Reader<'a>, number: usize) -> Result<Production<'a>, Broken> {
+    let head = reader.record_of(3)?;
+    ask(usize::from(head.a()) == number && head.c() == 0)?;
+    let mut elements = Vec::new();
+    for _ in 0..head.d() {
+        elements.push(read_element(reader)?);
+    }
+    Ok(Production {
+        nonterminal: head.b(),
+        elements,
+    })
+}
+
+fn read_element<'a>(reader: &mut Reader<'a>) -> Result<Element<'a>, Broken> {
+    let place = reader.place();
+    let head = reader.record_of(4)?;
+    ask(head.c() == 0 && head.d() == 0)?;
+    let symbol = match head.a() {
+        0 => Symbol::Keyword(reader.text(head.b())?),
+        1 => Symbol::Class(head.b()),
+        2 => Symbol::Nonterminal(head.b()),
+        3 => Symbol::Repetition(head.b()),
+        _ => return Err(Broken),
+    };
+    Ok(Element { place, symbol })
+}

@@ -1,0 +1,172 @@
+//! Damage to streams: every field, flipped bytes, cut and joined streams, odd lengths.
+
+use build::{blocks, mend, records_of, Record, BLOCK};
+
+use crate::generate::Streams;
+use crate::random::Random;
+
+/// Damages one of the streams, or puts them in the wrong places. `other` is a set to borrow from.
+pub fn damage(random: &mut Random, streams: &mut Streams, other: &Streams) {
+    let index = random.below(3);
+    let kind = index as u8 + 1;
+    let stream = streams.part_mut(index);
+    match random.below(20) {
+        0..=7 => change_field(random, stream, kind),
+        8 | 9 => move_records(random, stream, kind),
+        10 | 11 => flip(random, stream),
+        12 => {
+            flip(random, stream);
+            mend(stream);
+        }
+        13 | 14 => change_header(random, stream),
+        15 => move_blocks(random, stream, other.parts()[index]),
+        16 | 17 => change_length(random, stream),
+        18 => *stream = other.parts()[index].to_vec(),
+        _ => *stream = other.parts()[random.below(3)].to_vec(),
+    }
+}
+
+/// Gives one field of one record another value; the checks are mended.
+fn change_field(random: &mut Random, stream: &mut Vec<u8>, kind: u8) {
+    let mut records = records_of(stream);
+    let used = 1 + records.iter().rposition(|r| *r != [0; 8]).unwrap_or(0);
+    let end = (used + 2).min(records.len());
+    if end == 0 {
+        return;
+    }
+    let at = head_among(random, &records[..end]);
+    let record = &mut records[at];
+    match random.below(3) {
+        0 => {
+            let at = random.below(8);
+            record[at] = odd_byte(random, record[at]);
+        }
+        1 => {
+            let at = random.below(2);
+            record[at] = odd_byte(random, record[at]);
+        }
+        _ => {
+            let at = 2 * random.between(1, 3);
+            let word = u16::from_le_bytes([record[at], record[at + 1]]);
+            record[at..at + 2].copy_from_slice(&odd_word(random, word).to_le_bytes());
+        }
+    }
+    *stream = blocks(kind, &records);
+}
+
+/// A record of some of them, mostly one that isn't a unit of text.
+fn head_among(random: &mut Random, records: &[Record]) -> usize {
+    let mut at = random.below(records.len());
+    for _ in 0..6 {
+        if (1..=6).contains(&records[at][0]) {
+            break;
+        }
+        at = random.below(records.len());
+    }
+    at
+}
+
+fn odd_byte(random: &mut Random, byte: u8) -> u8 {
+    match random.below(5) {
+        0 => 0,
+        1 => byte.wrapping_add(1),
+        2 => byte.wrapping_sub(1),
+        3 => random.below(9) as u8,
+        _ => random.byte(),
+    }
+}
+
+fn odd_word(random: &mut Random, word: u16) -> u16 {
+    match random.below(6) {
+        0 => 0,
+        1 => word.wrapping_add(1),
+        2 => word.wrapping_sub(1),
+        3 => random.below(12) as u16,
+        4 => word ^ (1 << random.below(16)),
+        _ => random.number() as u16,
+    }
+}
+
+/// Takes a record away, doubles it, or lets two change places; the checks are mended.
+fn move_records(random: &mut Random, stream: &mut Vec<u8>, kind: u8) {
+    let mut records = records_of(stream);
+    let used = 1 + records.iter().rposition(|r| *r != [0; 8]).unwrap_or(0);
+    if records.is_empty() {
+        return;
+    }
+    let (one, two) = (random.below(used), random.below(used));
+    match random.below(4) {
+        0 => drop(records.remove(one)),
+        1 => records.insert(one, records[two]),
+        2 => records.swap(one, two),
+        _ => records[one] = [0; 8],
+    }
+    *stream = blocks(kind, &records);
+}
+
+/// Flips one bit or changes one byte anywhere; the checks stay as they were.
+fn flip(random: &mut Random, stream: &mut [u8]) {
+    if stream.is_empty() {
+        return;
+    }
+    let at = random.below(stream.len());
+    stream[at] ^= match random.below(2) {
+        0 => 1 << random.below(8),
+        _ => random.byte() | 1,
+    };
+}
+
+/// Gives a block another number, kind or byte 3; its check is mended.
+fn change_header(random: &mut Random, stream: &mut [u8]) {
+    let count = stream.len() / BLOCK;
+    if count == 0 {
+        return;
+    }
+    let start = random.below(count) * BLOCK;
+    let block = &mut stream[start..start + BLOCK];
+    let at = random.below(4);
+    block[at] = odd_byte(random, block[at]);
+    mend(block);
+}
+
+/// Swaps, doubles, drops or borrows a block.
+fn move_blocks(random: &mut Random, stream: &mut Vec<u8>, other: &[u8]) {
+    let mut rows: Vec<Vec<u8>> = stream.chunks(BLOCK).map(<[u8]>::to_vec).collect();
+    let foreign: Vec<&[u8]> = other.chunks(BLOCK).collect();
+    if rows.is_empty() || foreign.is_empty() {
+        return;
+    }
+    let (one, two) = (random.below(rows.len()), random.below(rows.len()));
+    match random.below(5) {
+        0 => rows.swap(one, two),
+        1 => rows.insert(one, rows[two].clone()),
+        2 => drop(rows.remove(one)),
+        3 => rows[one] = random.pick(&foreign).to_vec(),
+        _ => rows.extend(foreign.iter().map(|block| block.to_vec())),
+    }
+    *stream = rows.concat();
+}
+
+/// Cuts the stream or makes it longer, also by whole blocks and past 65,536 bytes.
+fn change_length(random: &mut Random, stream: &mut Vec<u8>) {
+    let length = stream.len();
+    match random.below(8) {
+        0 => stream.clear(),
+        1 => stream.truncate(random.below(length + 1)),
+        2 => stream.truncate(random.below(length / BLOCK + 1) * BLOCK),
+        3 => stream.push(0),
+        4 => stream.resize(length + BLOCK, 0),
+        5 => append_zero_block(stream),
+        6 => stream.resize(65_536 + BLOCK, 0),
+        _ => stream.resize(65_536 + random.below(3), 0),
+    }
+}
+
+/// Appends a sound block of zero records.
+fn append_zero_block(stream: &mut Vec<u8>) {
+    if let [_, _, kind, ..] = stream[..] {
+        let mut records = records_of(stream);
+        records.extend([[0; 8]; BLOCK / 8 - 1]);
+        *stream = blocks(kind, &records);
+    }
+}

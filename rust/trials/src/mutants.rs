@@ -1,0 +1,233 @@
+//! Machines with one fault each: the trials must tell every one of them from the reference.
+
+use build::{blocks, mend, records_of, BLOCK};
+
+use crate::machine::{Fields, Machine, Reference};
+
+/// A fault put on top of the reference.
+#[derive(Clone, Copy, Debug, PartialEq, Eq)]
+pub enum Mutant {
+    /// Tries 11 before 10 at a node.
+    DepthBeforeFuel,
+    /// Allows one step more than the fuel.
+    OneStepMore,
+    /// Counts the node that 10 keeps from being entered.
+    CountsTheUnreached,
+    /// Writes as much of a text as fits.
+    WritesInPart,
+    /// Ends a finished text with a zero byte, if there is room.
+    ClosesTheText,
+    /// Leaves the last number of the scratch as it was.
+    KeepsScratch,
+    /// Makes the scratch zero when the value isn't of its type, too.
+    ZeroesScratch,
+    /// Takes a scratch that is one number short.
+    TakesSmallScratch,
+    /// Doesn't look at checks.
+    ForgivesChecks,
+    /// Doesn't look at byte 3 of a block.
+    ForgivesByteThree,
+    /// Doesn't look at block numbers.
+    ForgivesNumbers,
+    /// Takes whole blocks of zeros at the end.
+    ForgivesTails,
+    /// Cuts a stream of more than 128 blocks.
+    CutsLongStreams,
+    /// Doesn't look at the unused fields of ifs, fors and places.
+    ForgivesUnusedFields,
+    /// Tries the blocks of grammar and templates before the value's length.
+    BlocksBeforeLengths,
+    /// Gives every refusal 8 the place 0.
+    NoPlaceForEight,
+    /// Refuses texts of classes by bytes instead of characters (here: all that aren't ASCII).
+    RefusesGreek,
+    /// Packs kind 4, too.
+    PacksKindFour,
+    /// Judges the number of a single block.
+    JudgesSingleNumber,
+}
+
+impl Mutant {
+    /// All of them.
+    pub const ALL: [Mutant; 19] = [
+        Mutant::DepthBeforeFuel,
+        Mutant::OneStepMore,
+        Mutant::CountsTheUnreached,
+        Mutant::WritesInPart,
+        Mutant::ClosesTheText,
+        Mutant::KeepsScratch,
+        Mutant::ZeroesScratch,
+        Mutant::TakesSmallScratch,
+        Mutant::ForgivesChecks,
+        Mutant::ForgivesByteThree,
+        Mutant::ForgivesNumbers,
+        Mutant::ForgivesTails,
+        Mutant::CutsLongStreams,
+        Mutant::ForgivesUnusedFields,
+        Mutant::BlocksBeforeLengths,
+        Mutant::NoPlaceForEight,
+        Mutant::RefusesGreek,
+        Mutant::PacksKindFour,
+        Mutant::JudgesSingleNumber,
+    ];
+
+    /// The stream as the faulty machine takes it.
+    fn taken(self, stream: &[u8]) -> Vec<u8> {
+        let mut taken = stream.to_vec();
+        match self {
+            Mutant::ForgivesChecks => mend(&mut taken),
+            Mutant::ForgivesByteThree => rewrite(&mut taken, |_, block| block[3] = 0),
+            Mutant::ForgivesNumbers => rewrite(&mut taken, |number, block| {
+                block[..2].copy_from_slice(&(number as u16).to_le_bytes());
+            }),
+            Mutant::ForgivesTails => while drop_zero_block(&mut taken) {},
+            Mutant::CutsLongStreams => taken.truncate(65_536),
+            Mutant::ForgivesUnusedFields => clear_unused_fields(&mut taken),
+            _ => {}
+        }
+        taken
+    }
+}
+
+/// Changes blocks whose checks hold, and mends them.
+fn rewrite(stream: &mut [u8], change: impl Fn(usize, &mut [u8])) {
+    for (number, block) in stream.chunks_exact_mut(BLOCK).enumerate() {
+        let mut sound = block.to_vec();
+        mend(&mut sound);
+        if sound == block {
+            change(number, block);
+            mend(block);
+        }
+    }
+}
+
+/// Drops the last block if it is one of several and holds zero records only.
+fn drop_zero_block(stream: &mut Vec<u8>) -> bool {
+    let Some(start) = stream.len().checked_sub(BLOCK).filter(|&start| start > 0) else {
+        return false;
+    };
+    let empty = stream[start + 4..start + 508].iter().all(|&byte| byte == 0);
+    if empty {
+        stream.truncate(start);
+    }
+    empty
+}
+
+/// Clears b and d of the nodes of form 2, 4 and 5 of a templates stream.
+fn clear_unused_fields(stream: &mut Vec<u8>) {
+    let mut records = records_of(stream);
+    if !stream.len().is_multiple_of(BLOCK) || stream.get(2) != Some(&2) {
+        return;
+    }
+    for record in &mut records {
+        if record[0] == 5 && [2, 4, 5].contains(&record[1]) {
+            (record[2], record[3], record[6], record[7]) = (0, 0, 0, 0);
+        }
+    }
+    let cleared = blocks(2, &records);
+    if records_of(stream) != records && Reference.unpack(2, stream, &mut vec![0; 65_536])[0] == 0 {
+        *stream = cleared;
+    }
+}
+
+impl Machine for Mutant {
+    fn name(&self) -> String {
+        format!("mutant {self:?}")
+    }
+
+    fn check(&self, grammar: &[u8], templates: &[u8]) -> Fields {
+        Reference.check(&self.taken(grammar), &self.taken(templates))
+    }
+
+    fn evaluate(
+        &self,
+        streams: [&[u8]; 3],
+        fuel: u32,
+        out: &mut [u8],
+        scratch: &mut [u16],
+    ) -> Fields {
+        let taken = streams.map(|stream| self.taken(stream));
+        let parts = [&taken[0][..], &taken[1][..], &taken[2][..]];
+        let last = scratch.last().copied();
+        match self {
+            Mutant::DepthBeforeFuel => depth_before_fuel(parts, fuel, out, scratch),
+            Mutant::OneStepMore => Reference.evaluate(parts, fuel.saturating_add(1), out, scratch),
+            Mutant::BlocksBeforeLengths => match Reference.check(parts[0], parts[1]) {
+                refused if refused[0] == 2 => refused,
+                _ => Reference.evaluate(parts, fuel, out, scratch),
+            },
+            Mutant::TakesSmallScratch if scratch.len() == 4_799 => {
+                let fields = Reference.evaluate(parts, fuel, out, &mut [0; 4_800]);
+                if fields[0] == 0 || fields[0] >= 10 {
+                    scratch.fill(0);
+                }
+                fields
+            }
+            _ => {
+                let fields = Reference.evaluate(parts, fuel, out, scratch);
+                self.altered(fields, out, scratch, last)
+            }
+        }
+    }
+
+    fn pack(&self, kind: u8, payload: &[u8], out: &mut [u8]) -> Fields {
+        let kind = match (self, kind) {
+            (Mutant::PacksKindFour, 4) => 3,
+            _ => kind,
+        };
+        Reference.pack(kind, payload, out)
+    }
+
+    fn unpack(&self, kind: u8, stream: &[u8], out: &mut [u8]) -> Fields {
+        Reference.unpack(kind, stream, out)
+    }
+
+    fn block_payload<'a>(&self, block: &'a [u8]) -> &'a [u8] {
+        if *self == Mutant::JudgesSingleNumber && block.first() != Some(&0) {
+            return &[];
+        }
+        Reference.block_payload(block)
+    }
+}
+
+impl Mutant {
+    /// What the faulty machine makes of a right answer.
+    fn altered(
+        self,
+        mut fields: Fields,
+        out: &mut [u8],
+        scratch: &mut [u16],
+        last: Option<u16>,
+    ) -> Fields {
+        let written = fields[4] as usize;
+        match (self, fields[0]) {
+            (Mutant::CountsTheUnreached, 10) => fields[3] += 1,
+            (Mutant::WritesInPart, 12) => {
+                out[written..].fill(b'x');
+                fields[4] = out.len() as u64;
+            }
+            (Mutant::ClosesTheText, 0) if written < out.len() => out[written] = 0,
+            (Mutant::KeepsScratch, 0 | 10..=12) => {
+                if let (Some(number), Some(last)) = (scratch.last_mut(), last) {
+                    *number = last;
+                }
+            }
+            (Mutant::ZeroesScratch, 8) => scratch.fill(0),
+            (Mutant::NoPlaceForEight, 8) => fields[2] = 0,
+            (Mutant::RefusesGreek, 0) if !out[..written].is_ascii() => fields = [8, 3, 0, 0, 0],
+            _ => {}
+        }
+        fields
+    }
+}
+
+/// One step more would show whether the node that 10 stops at lies at depth 201.
+fn depth_before_fuel(parts: [&[u8]; 3], fuel: u32, out: &mut [u8], scratch: &mut [u16]) -> Fields {
+    let mut spare = out.to_vec();
+    let further = Reference.evaluate(parts, fuel.saturating_add(1), &mut spare, scratch);
+    let fields = Reference.evaluate(parts, fuel, out, scratch);
+    if fields[0] == 10 && further[0] == 11 {
+        return [11, 2, fields[2], fields[3] + 1, fields[4]];
+    }
+    fields
+}

@@ -1,0 +1,43 @@
+//! The proved library, through the safe wrapper `feed`.
+//!
+//! To bind it: in this crate's Cargo.toml add `feed = { path = "../feed", optional = true }` to the
+//! dependencies and write `proved = ["dep:feed"]`; then `--features proved` compares the proved
+//! library with the reference, in the tests, the binary `trials` and the benchmarks.
+
+use crate::machine::{Fields, Machine};
+
+/// The proved library.
+#[derive(Clone, Copy, Debug)]
+pub struct Proved;
+
+impl Machine for Proved {
+    fn name(&self) -> String {
+        "proved".into()
+    }
+
+    fn check(&self, grammar: &[u8], templates: &[u8]) -> Fields {
+        feed::check(grammar, templates).fields()
+    }
+
+    fn evaluate(
+        &self,
+        [grammar, templates, value]: [&[u8]; 3],
+        fuel: u32,
+        out: &mut [u8],
+        scratch: &mut [u16],
+    ) -> Fields {
+        feed::evaluate(grammar, templates, value, fuel, out, scratch).fields()
+    }
+
+    fn pack(&self, kind: u8, payload: &[u8], out: &mut [u8]) -> Fields {
+        feed::pack(kind, payload, out).fields()
+    }
+
+    fn unpack(&self, kind: u8, stream: &[u8], out: &mut [u8]) -> Fields {
+        feed::unpack(kind, stream, out).fields()
+    }
+
+    fn block_payload<'a>(&self, block: &'a [u8]) -> &'a [u8] {
+        feed::block_payload(block)
+    }
+}

@@ -1,0 +1,245 @@
+//! Runs cases by their seed and counts what they reach.
+
+use std::fmt;
+
+use crate::compare::{self, Call, Difference, Packing};
+use crate::damage::damage;
+use crate::generate::{self, Streams};
+use crate::machine::{Fields, Machine};
+use crate::random::Random;
+
+/// How often each answer number was reached.
+#[derive(Clone, Debug, Default, PartialEq, Eq)]
+pub struct Tally {
+    /// Cases, by the number that their first evaluate call answered.
+    pub cases: [usize; 13],
+    /// Evaluate calls by number.
+    pub evaluate: [usize; 13],
+    /// Check calls by number.
+    pub check: [usize; 13],
+    /// Packing and unpacking calls by number.
+    pub packing: [usize; 13],
+    /// Single blocks that were refused, and those whose payload was given back.
+    pub blocks: [usize; 2],
+}
+
+impl Tally {
+    /// The numbers that no evaluate call answered.
+    #[must_use]
+    pub fn absent(&self) -> Vec<usize> {
+        (0..13).filter(|&n| self.evaluate[n] == 0).collect()
+    }
+
+    fn add(&mut self, other: &Tally) {
+        let rows = [
+            (&mut self.cases, &other.cases),
+            (&mut self.evaluate, &other.evaluate),
+            (&mut self.check, &other.check),
+            (&mut self.packing, &other.packing),
+        ];
+        for (mine, theirs) in rows {
+            for (count, more) in mine.iter_mut().zip(theirs) {
+                *count += more;
+            }
+        }
+        for (count, more) in self.blocks.iter_mut().zip(other.blocks) {
+            *count += more;
+        }
+    }
+}
+
+impl fmt::Display for Tally {
+    fn fmt(&self, f: &mut fmt::Formatter<'_>) -> fmt::Result {
+        let share = |count: usize, row: &[usize]| {
+            100.0 * count as f64 / row.iter().sum::<usize>().max(1) as f64
+        };
+        writeln!(
+            f,
+            "number   cases            evaluate         check            packing"
+        )?;
+        for number in 0..13 {
+            write!(f, "{number:>6}")?;
+            for row in [&self.cases, &self.evaluate, &self.check, &self.packing] {
+                write!(f, "{:>8} {:>5.1} % ", row[number], share(row[number], row))?;
+            }
+            writeln!(f)?;
+        }
+        let [refused, given] = self.blocks;
+        write!(f, "single blocks: {given} given back, {refused} refused")
+    }
+}
+
+/// A difference, and how to make it again.
+#[derive(Clone, Debug)]
+pub struct Failure {
+    /// The seed of the run.
+    pub seed: u64,
+    /// The number of the case.
+    pub case: u64,
+    /// What differs.
+    pub difference: Difference,
+    /// The streams, to be kept for a look.
+    pub streams: Box<Streams>,
+}
+
+impl fmt::Display for Failure {
+    fn fmt(&self, f: &mut fmt::Formatter<'_>) -> fmt::Result {
+        let Failure {
+            seed,
+            case,
+            difference,
+            ..
+        } = self;
+        write!(f, "--seed {seed} --case {case}: {difference}")
+    }
+}
+
+/// Runs the cases of a seed on two machines.
+///
+/// # Errors
+/// The first difference.
+pub fn run(
+    one: &dyn Machine,
+    two: &dyn Machine,
+    seed: u64,
+    cases: impl IntoIterator<Item = u64>,
+) -> Result<Tally, Failure> {
+    let mut tally = Tally::default();
+    for case in cases {
+        let mut random = Random::for_case(seed, case);
+        let streams = draw(&mut random);
+        let counted =
+            try_streams(one, two, &mut random, &streams).map_err(|difference| Failure {
+                seed,
+                case,
+                difference,
+                streams: Box::new(streams),
+            })?;
+        tally.add(&counted);
+    }
+    Ok(tally)
+}
+
+/// The streams of a case: a set, damaged in half of the cases.
+fn draw(random: &mut Random) -> Streams {
+    let mut streams = generate::streams(random);
+    if random.once_in(2) {
+        let other = generate::accepted(random);
+        for _ in 0..random.between(1, 2) {
+            damage(random, &mut streams, &other);
+        }
+    }
+    streams
+}
+
+/// Fuel for a first run: sets that go round in circles end here.
+const MUCH: u32 = 100_000;
+
+/// Compares two machines on these streams: a check call, some evaluate calls around the limits that
+/// the first one meets, and a call of packing or unpacking and of a single block.
+///
+/// # Errors
+/// The first difference.
+pub fn try_streams(
+    one: &dyn Machine,
+    two: &dyn Machine,
+    random: &mut Random,
+    streams: &Streams,
+) -> Result<Tally, Difference> {
+    let mut tally = Tally::default();
+    let parts = streams.parts();
+    let checked = compare::check(one, two, parts[0], parts[1])?;
+    tally.check[checked[0] as usize] += 1;
+    let whole = Call {
+        fuel: MUCH,
+        out: 65_536,
+        scratch: 4_800,
+    };
+    let first = compare::evaluate(one, two, parts, whole)?;
+    tally.cases[first[0] as usize] += 1;
+    tally.evaluate[first[0] as usize] += 1;
+    for call in more_calls(random, first) {
+        let fields = compare::evaluate(one, two, parts, call)?;
+        tally.evaluate[fields[0] as usize] += 1;
+    }
+    try_packing(one, two, random, streams, &mut tally)?;
+    Ok(tally)
+}
+
+/// Calls around the limits that the first run met or just missed.
+fn more_calls(random: &mut Random, [number, _, _, steps, bytes]: Fields) -> Vec<Call> {
+    let lengths = [0, 1, 4_799, 4_800, 4_801, 6_000];
+    if (1..=8).contains(&number) {
+        return vec![Call {
+            fuel: random.number() as u32,
+            out: random.below(300),
+            scratch: *random.pick(&lengths),
+        }];
+    }
+    let (steps, bytes) = (steps as u32, bytes as usize);
+    let mut call = || Call {
+        fuel: match random.below(8) {
+            0 => 0,
+            1 => random.below(steps as usize + 1) as u32,
+            2 => steps.saturating_sub(1),
+            3 => steps,
+            4 => steps.saturating_add(1).min(MUCH),
+            5 if number != 10 => u32::MAX,
+            _ => MUCH,
+        },
+        out: match random.below(7) {
+            0 => 0,
+            1 => bytes.saturating_sub(1),
+            2 => bytes,
+            3 => bytes + 1,
+            4 => random.below(bytes + 1),
+            _ => 65_536,
+        },
+        scratch: match random.below(6) {
+            0 => *random.pick(&lengths),
+            _ => 4_800,
+        },
+    };
+    (0..6).map(|_| call()).collect()
+}
+
+fn try_packing(
+    one: &dyn Machine,
+    two: &dyn Machine,
+    random: &mut Random,
+    streams: &Streams,
+    tally: &mut Tally,
+) -> Result<(), Difference> {
+    let kind = *random.pick(&[1, 1, 2, 2, 3, 3, 0, 4, 255]);
+    let stream = *random.pick(&streams.parts());
+    let (how, length) = match random.below(3) {
+        0 => (Packing::Unpack, stream.len()),
+        _ => (Packing::Pack, payload_length(random)),
+    };
+    let payload: Vec<u8> = (0..length).map(|_| random.byte()).collect();
+    let (input, needed) = match how {
+        Packing::Unpack => (stream, stream.len() / 512 * 504),
+        Packing::Pack => (&payload[..], payload.len().div_ceil(504) * 512),
+    };
+    let room = match random.below(5) {
+        0 => needed.saturating_sub(1),
+        1 => random.below(needed + 1),
+        2 => needed + random.below(600),
+        _ => needed,
+    };
+    let fields = compare::packing(one, two, how, kind, input, room)?;
+    tally.packing[fields[0] as usize] += 1;
+    let start = random.below(stream.len() / 512 + 1) * 512;
+    let end = (start + *random.pick(&[512, 512, 512, 511, 513, 0])).min(stream.len());
+    let given = compare::block_payload(one, two, &stream[start..end.max(start)])?;
+    tally.blocks[usize::from(given > 0)] += 1;
+    Ok(())
+}
+
+fn payload_length(random: &mut Random) -> usize {
+    match random.below(6) {
+        0 => *random.pick(&[0, 7, 8, 9, 496, 504, 512, 1008, 64_504, 64_512, 64_520]),
+        1 => random.below(2_000),
+        _ => 8 * random.between(1, 200),
+    }
+}

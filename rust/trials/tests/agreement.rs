@@ -1,0 +1,186 @@
+//! Two machines agree on generated and damaged sets; every fault put in is found.
+
+use build::{mend, Element, Grammar, Node, Path, Templates, Value};
+use trials::compare::{self, Call};
+use trials::generate::{self, Streams};
+use trials::mutants::Mutant;
+use trials::run::run;
+use trials::{Machine, Random, Reference, SECOND};
+
+/// The seed of `TRIALS_SEED`, or 1.
+fn seed() -> u64 {
+    let seed = std::env::var("TRIALS_SEED").ok();
+    seed.and_then(|seed| seed.parse().ok()).unwrap_or(1)
+}
+
+#[test]
+fn no_difference_and_every_number_is_reached() {
+    println!("seed {}", seed());
+    match run(&Reference, &SECOND, seed(), 0..6_000) {
+        Ok(tally) => {
+            println!("{tally}");
+            assert_eq!(tally.absent(), [0; 0], "numbers that no call answered");
+        }
+        Err(failure) => panic!("{failure}"),
+    }
+}
+
+#[test]
+fn every_mutant_is_found() {
+    for mutant in Mutant::ALL {
+        match run(&Reference, &mutant, seed(), 0..4_000) {
+            Ok(_) => panic!("{} isn't found", mutant.name()),
+            Err(failure) => println!("found after {:>4} cases: {failure}", failure.case + 1),
+        }
+    }
+}
+
+#[test]
+fn sets_drawn_without_slips_are_accepted() {
+    let mut finished = 0;
+    let cases = 1_500;
+    for case in 0..cases {
+        let streams = generate::accepted(&mut Random::for_case(seed(), case));
+        let mut out = vec![0; 65_536];
+        let mut scratch = [0; 4_800];
+        let fields = Reference.evaluate(streams.parts(), 100_000, &mut out, &mut scratch);
+        let walked = fields[0] == 0 || fields[0] >= 10;
+        assert!(walked, "seed {} case {case}: {fields:?}", seed());
+        finished += u64::from(fields[0] == 0);
+    }
+    println!("{finished} of {cases} finish");
+    assert!(finished > cases / 2);
+}
+
+#[test]
+fn what_is_packed_comes_back_with_zero_fill_at_most() {
+    let mut random = Random::new(seed());
+    for _ in 0..400 {
+        let length = 8 * random.between(1, 8_064);
+        let payload: Vec<u8> = (0..length).map(|_| random.byte()).collect();
+        let kind = random.between(1, 3) as u8;
+        let (mut stream, mut back) = (vec![0xAA; 65_536], vec![0xAA; 64_512]);
+        let [number, .., bytes] = SECOND.pack(kind, &payload, &mut stream);
+        assert_eq!(number, 0);
+        stream.truncate(bytes as usize);
+        let [number, .., bytes] = SECOND.unpack(kind, &stream, &mut back);
+        assert_eq!(number, 0);
+        let (same, fill) = back[..bytes as usize].split_at(length);
+        assert!(same == payload, "the payload of {length} bytes");
+        assert!(fill.len() < 504 && fill.iter().all(|&byte| byte == 0));
+    }
+}
+
+/// The paper's example.
+fn example() -> Streams {
+    let keyword = |text: &str| Element::keyword(text);
+    let mut grammar = Grammar::new();
+    grammar.class(1, 4, &[(0x61, 0x7A), (0x370, 0x3FF)]);
+    grammar.production(0, [keyword("["), Element::Repetition(1), keyword("]")]);
+    grammar.production(1, [keyword("<"), Element::Class(0), keyword(">")]);
+    let mut templates = Templates::new();
+    let title = templates.text(0);
+    let titles = templates.list(title);
+    let entry = Node::build(1, [Node::place(Path::variable(1))]);
+    let entries = Node::sequence([Node::each(Path::variable(0), entry)]);
+    templates.template(0, [titles], Node::build(0, [entries]));
+    let value = Value::list([Value::text("ab"), Value::text("αβγδ")]);
+    Streams::of(&grammar, &templates, &value)
+}
+
+/// All forms of records in one set: every element, type, node and value.
+fn all_forms() -> Streams {
+    let keyword = |text: &str| Element::keyword(text);
+    let mut grammar = Grammar::new();
+    grammar.class(0, 9, &[(0x61, 0x7A), (0x1F00, 0x1FFF)]);
+    grammar.class(1, 1, &[(0x10000, 0x10FFFF)]);
+    grammar.production(5, [keyword("begin "), Element::Repetition(6), keyword("")]);
+    grammar.production(
+        6,
+        [Element::Class(0), Element::Nonterminal(7), keyword(";")],
+    );
+    grammar.production(6, [Element::Class(1)]);
+    grammar.production(7, [keyword("a longer keyword")]);
+    grammar.production(7, []);
+    let mut templates = Templates::new();
+    let text = templates.text(0);
+    let yes_no = templates.yes_no();
+    let entry = templates.record([text, yes_no, text]);
+    let entries = templates.list(entry);
+    let root = templates.record([entries, yes_no]);
+    let either = |path: Path| Node::either(path, Node::build(3, []), Node::build(4, []));
+    let field = |number| Path::variable(1).field(number);
+    let body = Node::build(1, [Node::place(field(2)), either(field(1))]);
+    let items = Node::sequence([
+        Node::each(Path::variable(0).field(0), body),
+        Node::build(2, [Node::literal("\u{10348}")]),
+        Node::expand(1, [Path::variable(0).field(1), Path::variable(0)]),
+    ]);
+    templates.template(5, [root], Node::build(0, [items]));
+    let body = Node::build(1, [Node::literal("ἀ"), either(Path::variable(0))]);
+    templates.template(6, [yes_no, root], body);
+    let entry =
+        |text: &str| Value::record([Value::text(""), Value::YesNo(true), Value::text(text)]);
+    let list = Value::list([entry("abcdefghi"), entry("ἄἄ")]);
+    let value = Value::record([list, Value::YesNo(false)]);
+    Streams::of(&grammar, &templates, &value)
+}
+
+/// Tries some values at every byte of every stream of a set, with the checks mended and as found.
+fn try_every_byte(streams: &Streams, values: impl Fn(u8) -> Vec<u8>) -> [usize; 13] {
+    let call = Call {
+        fuel: 1_000,
+        out: 200,
+        scratch: 4_800,
+    };
+    let mut reached = [0; 13];
+    for index in 0..3 {
+        let mut changed = streams.clone();
+        for at in 0..streams.parts()[index].len() {
+            let byte = streams.parts()[index][at];
+            for value in values(byte) {
+                for mended in [true, false] {
+                    let stream = changed.part_mut(index);
+                    stream[at] = value;
+                    if mended {
+                        mend(stream);
+                    }
+                    let fields = compare::evaluate(&Reference, &SECOND, changed.parts(), call);
+                    let fields = fields.unwrap_or_else(|difference| {
+                        panic!("stream {index} byte {at} = {value}: {difference}")
+                    });
+                    reached[fields[0] as usize] += 1;
+                    changed = streams.clone();
+                }
+            }
+        }
+    }
+    reached
+}
+
+#[test]
+fn every_byte_of_the_papers_example() {
+    let reached = try_every_byte(&example(), |byte| {
+        let near = [byte.wrapping_add(1), byte.wrapping_sub(1), byte ^ 0x80];
+        [&near[..], &[0, 1, 2, 3, 4, 5, 6, 7, 200, 255]].concat()
+    });
+    println!("{reached:?}");
+    for number in [0, 2, 3, 5, 6, 7, 8] {
+        assert!(reached[number] > 0, "{number} isn't reached");
+    }
+}
+
+#[test]
+fn every_byte_of_a_set_of_all_forms() {
+    let streams = all_forms();
+    let mut out = [0; 200];
+    let fields = Reference.evaluate(streams.parts(), 1_000, &mut out, &mut [0; 4_800]);
+    assert_eq!(fields[0], 0, "{fields:?}");
+    let reached = try_every_byte(&streams, |byte| {
+        vec![byte.wrapping_add(1), byte.wrapping_sub(1), 0, 1, 6, 255]
+    });
+    println!("{reached:?}");
+    for number in [0, 2, 3, 5, 7, 8] {
+        assert!(reached[number] > 0, "{number} isn't reached");
+    }
+}
