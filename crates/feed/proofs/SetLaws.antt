@@ -1,5 +1,5 @@
 -- What refusals 4 to 7 ask of each other, and of the tables of heads.
-use Prim.Native.Nat.{ℕ, _-_, _≤_}
+use Prim.Native.Nat.{ℕ, _+_, _-_, _*_, _≤_}
 use mathlib.Core.Path.{_≡_, ap, _∙_}
 use mathlib.Core.List.{List}
 use mathlib.Core.Option.{Option, none, some, Option·some-ne-none}
@@ -32,11 +32,11 @@ pub judged-passed : (g t : List ℕ) (value : Option ℕ) (cs sets : List ℕ) �
     → SetJudged g t value cs sets Passed
 judged-passed g t value cs sets e r = record { is = e; compiled = λ h. r }
 
+pub small-room : (a b n : ℕ) → a + b ≤ n → a ≤ n
+small-room a b n l = omega arith
+
 pub sets-lent : (g t cs ps us ts sets : List ℕ) → SetAsks g t cs ps us ts sets → Lent g cs sets
-sets-lent g t cs ps us ts sets a =
-    let f = a .few in
-    let r = a .room in
-    record { heads = a .tabled .classes-are; room = omega arith }
+sets-lent g t cs ps us ts sets a = record { heads = a .tabled .classes-are; room = a .room }
 
 pub typing-asks : (g t cs ps us ts sets : List ℕ) → Tabled g t cs ps us ts → Compiled g sets → templatesLimits t ≡ none → TemplatesAsk g t cs sets ps us ts
 typing-asks g t cs ps us ts sets a c e = record {
@@ -65,9 +65,21 @@ module _ (g t cs ps us ts cs₀ ps₀ us₀ ts₀ : List ℕ) (m n : Counts) (lg
     templates-are = part-from-0 (n .second) ts _ (b .second .begins);
   }
 
-  pub set-asks : (sets : List ℕ) → 8192 ≤ length sets
+  part-length : length (take (m .first - 0) cs) ≤ m .first
+  part-length = simp length-take (omega arith)
+
+  pub large-asks : (sets : List ℕ) → 16256 ≤ length sets
       → SetAsks g t (take (m .first - 0) cs) (take (m .second - 0) ps) (take (n .first - 0) us) (take (n .second - 0) ts) sets
-  set-asks sets r = record { tabled = tabled-parts; few = let f = a .first .few in simp length-take (omega arith); room = r }
+  large-asks sets r =
+      let f = a .first .few in
+      let l = part-length in
+      record { tabled = tabled-parts; room = omega arith }
+
+  pub small-asks : (sets : List ℕ) → 1024 ≤ length sets → 32 * m .first ≤ 1024
+      → SetAsks g t (take (m .first - 0) cs) (take (m .second - 0) ps) (take (n .first - 0) us) (take (n .second - 0) ts) sets
+  small-asks sets r f =
+      let l = part-length in
+      record { tabled = tabled-parts; room = omega arith }
 
 -- and of the value and the walk
 pub judged-limits : (g t : List ℕ) (a b : Option ℕ) (o : Option Answer) → o ≡ setJudgement g t a accept → a ≡ b → o ≡ setJudgement g t b accept

@@ -1,6 +1,6 @@
 use mathlib.Core.Path.{_∙_}
-use Rattle.feed.proofs.OrderLaws.{refuses, passes, two-laid, check-streams, check-set, check-accepts}
-use Rattle.feed.proofs.SetLaws.{set-asks}
+use Rattle.feed.proofs.OrderLaws.{refuses, passes, two-laid, check-streams}
+use Rattle.feed.proofs.SetLaws.{small-asks, large-asks}
 use borrow.Author.Needs.{needs}
 use Rattle.feed.proofs.check.Statement.{statement}
 use Rattle.feed.proofs.check.Tie as tie
@@ -27,7 +27,7 @@ slice-aggregate-grammar-heads-2 : tie.Need-slice-aggregate-grammar-heads-2
 slice-aggregate-grammar-heads-2 c = search needs
 
 grammar-heads-requires : tie.Need-grammar-heads-requires
-grammar-heads-requires c κs = (two-laid _ _ (passes _ _ (c .before .before .before .before .judge-two .ensures) (c .before .before .enum-told .given .1)) .0, record { in-first = search needs; in-second = search needs })
+grammar-heads-requires c κs = ((two-laid _ _ (passes _ _ (c .before .before .before .before .judge-two .ensures) (c .before .before .enum-told .given .1))) .0, record { in-first = search needs; in-second = search needs })
 
 slice-aggregate-templates-heads : tie.Need-slice-aggregate-templates-heads
 slice-aggregate-templates-heads c = search needs
@@ -36,7 +36,7 @@ slice-aggregate-templates-heads-2 : tie.Need-slice-aggregate-templates-heads-2
 slice-aggregate-templates-heads-2 c = search needs
 
 templates-heads-requires : tie.Need-templates-heads-requires
-templates-heads-requires c κs = (two-laid _ _ (passes _ _ (c .before .before .before .before .before .before .before .before .before .judge-two .ensures) (c .before .before .before .before .before .before .before .enum-told .given .1)) .1, record { in-first = search needs; in-second = search needs })
+templates-heads-requires c κs = ((two-laid _ _ (passes _ _ (c .before .before .before .before .before .before .before .before .before .judge-two .ensures) (c .before .before .before .before .before .before .before .enum-told .given .1))) .1, record { in-first = search needs; in-second = search needs })
 
 sub-cs : tie.Need-sub-cs
 sub-cs c = search needs
@@ -74,29 +74,26 @@ part-ts-start c = search needs
 part-ts-end : tie.Need-part-ts-end
 part-ts-end c = search needs
 
-slice-aggregate-judge-set : tie.Need-slice-aggregate-judge-set
-slice-aggregate-judge-set c = search needs
+is-small-requires : tie.Need-is-small-requires
+is-small-requires c κs = c .before .before .before .before .before .before .before .before .before .before .before .before .before .before .before .grammar-heads .ensures .first .few
 
-judge-set-requires : tie.Need-judge-set-requires
-judge-set-requires c κs = set-asks _ _ _ _ _ _ _ _ _ _ _ _ (two-laid _ _ (passes _ _ (c .before .before .before .before .before .before .before .before .before .before .before .before .before .before .before .before .before .before .before .before .before .judge-two .ensures) (c .before .before .before .before .before .before .before .before .before .before .before .before .before .before .before .before .before .before .before .enum-told .given .1)) .0) (two-laid _ _ (passes _ _ (c .before .before .before .before .before .before .before .before .before .before .before .before .before .before .before .before .before .before .before .before .before .judge-two .ensures) (c .before .before .before .before .before .before .before .before .before .before .before .before .before .before .before .before .before .before .before .enum-told .given .1)) .1) (c .before .before .before .before .before .before .before .before .before .before .before .before .before .before .before .before .grammar-heads .ensures) (c .before .before .before .before .before .before .before .before .before .before .before .templates-heads .ensures) _ (search needs)
+slice-aggregate-check-set : tie.Need-slice-aggregate-check-set
+slice-aggregate-check-set c = search needs
 
-enum-known-number-2 : tie.Need-enum-known-number-2
-enum-known-number-2 c = search needs
-
-refused-requires-2 : tie.Need-refused-requires-2
-refused-requires-2 c κs = search needs
+check-set-requires : tie.Need-check-set-requires
+check-set-requires c κs = record { passed = (passes _ _ (c .before .before .before .before .before .before .before .before .before .before .before .before .before .before .before .before .before .before .before .before .before .before .before .judge-two .ensures) (c .before .before .before .before .before .before .before .before .before .before .before .before .before .before .before .before .before .before .before .before .before .enum-told .given .1)); asks = small-asks _ _ _ _ _ _ _ _ _ _ _ _ ((two-laid _ _ (passes _ _ (c .before .before .before .before .before .before .before .before .before .before .before .before .before .before .before .before .before .before .before .before .before .before .before .judge-two .ensures) (c .before .before .before .before .before .before .before .before .before .before .before .before .before .before .before .before .before .before .before .before .before .enum-told .given .1))) .0) ((two-laid _ _ (passes _ _ (c .before .before .before .before .before .before .before .before .before .before .before .before .before .before .before .before .before .before .before .before .before .before .before .judge-two .ensures) (c .before .before .before .before .before .before .before .before .before .before .before .before .before .before .before .before .before .before .before .before .before .enum-told .given .1))) .1) (c .before .before .before .before .before .before .before .before .before .before .before .before .before .before .before .before .before .before .grammar-heads .ensures) (c .before .before .before .before .before .before .before .before .before .before .before .before .before .templates-heads .ensures) _ (search needs) (c .before .before .is-small .ensures (c .before .if1 .taken)) }
 
 returns-2 : tie.Need-returns-2
-returns-2 c = c .refused2 .ensures ∙ check-set _ _ _ (passes _ _ (c .before .before .before .before .before .before .before .before .before .before .before .before .before .before .before .before .before .before .before .before .before .before .before .before .before .before .before .judge-two .ensures) (c .before .before .before .before .before .before .before .before .before .before .before .before .before .before .before .before .before .before .before .before .before .before .before .before .before .enum-told .given .1)) (refuses _ _ _ _ _ (c .before .before .before .before .before .judge-set .ensures .is) (c .before .before .number2 .given .1))
+returns-2 c = c .before .check-set .ensures
 
-enum-told-2 : tie.Need-enum-told-2
-enum-told-2 c = search needs
+slice-aggregate-check-set-2 : tie.Need-slice-aggregate-check-set-2
+slice-aggregate-check-set-2 c = search needs
 
-accepted-requires : tie.Need-accepted-requires
-accepted-requires c κs = search needs
+check-set-requires-2 : tie.Need-check-set-requires-2
+check-set-requires-2 c κs = record { passed = (passes _ _ (c .before .before .before .before .before .before .before .before .before .before .before .before .before .before .before .before .before .before .before .before .before .before .before .judge-two .ensures) (c .before .before .before .before .before .before .before .before .before .before .before .before .before .before .before .before .before .before .before .before .before .enum-told .given .1)); asks = large-asks _ _ _ _ _ _ _ _ _ _ _ _ ((two-laid _ _ (passes _ _ (c .before .before .before .before .before .before .before .before .before .before .before .before .before .before .before .before .before .before .before .before .before .before .before .judge-two .ensures) (c .before .before .before .before .before .before .before .before .before .before .before .before .before .before .before .before .before .before .before .before .before .enum-told .given .1))) .0) ((two-laid _ _ (passes _ _ (c .before .before .before .before .before .before .before .before .before .before .before .before .before .before .before .before .before .before .before .before .before .before .before .judge-two .ensures) (c .before .before .before .before .before .before .before .before .before .before .before .before .before .before .before .before .before .before .before .before .before .enum-told .given .1))) .1) (c .before .before .before .before .before .before .before .before .before .before .before .before .before .before .before .before .before .before .grammar-heads .ensures) (c .before .before .before .before .before .before .before .before .before .before .before .before .before .templates-heads .ensures) _ (search needs) }
 
 returns-3 : tie.Need-returns-3
-returns-3 c = c .accepted .ensures ∙ check-accepts _ _ (passes _ _ (c .before .before .before .before .before .before .before .before .before .before .before .before .before .before .before .before .before .before .before .before .before .before .before .before .before .before .judge-two .ensures) (c .before .before .before .before .before .before .before .before .before .before .before .before .before .before .before .before .before .before .before .before .before .before .before .before .enum-told .given .1)) (passes _ _ (c .before .before .before .before .judge-set .ensures .is) (c .before .enum-told2 .given .1))
+returns-3 c = c .before .check-set2 .ensures
 
 pub check-spec : {M : Type 1} → statement M
 check-spec =
@@ -125,11 +122,10 @@ check-spec =
     sub-ts
     part-ts-start
     part-ts-end
-    slice-aggregate-judge-set
-    judge-set-requires
-    enum-known-number-2
-    refused-requires-2
+    is-small-requires
+    slice-aggregate-check-set
+    check-set-requires
     returns-2
-    enum-told-2
-    accepted-requires
+    slice-aggregate-check-set-2
+    check-set-requires-2
     returns-3)

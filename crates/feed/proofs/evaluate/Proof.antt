@@ -1,7 +1,6 @@
-use Rattle.stream.proofs.BlockLaws.{found, unfound}
-use Rattle.feed.proofs.OrderLaws.{refuses, passes, three-laid, set-passed, evaluate-streams, evaluate-set, evaluate-value, evaluate-scratch, none-refuses}
-use Rattle.feed.proofs.SetLaws.{tabled-parts, set-asks, judged-limits, value-asks, walk-asks}
-use Rattle.feed.proofs.EndLaws.{evaluate-walks, answered}
+use Rattle.feed.proofs.OrderLaws.{refuses, passes, three-laid, evaluate-streams}
+use Rattle.feed.proofs.SetLaws.{small-asks, large-asks}
+use Rattle.feed.proofs.EndLaws.{answered}
 use borrow.Author.Needs.{needs}
 use Rattle.feed.proofs.evaluate.Statement.{statement}
 use Rattle.feed.proofs.evaluate.Tie as tie
@@ -28,7 +27,7 @@ slice-aggregate-grammar-heads-2 : tie.Need-slice-aggregate-grammar-heads-2
 slice-aggregate-grammar-heads-2 c = search needs
 
 grammar-heads-requires : tie.Need-grammar-heads-requires
-grammar-heads-requires c κs = (three-laid _ _ _ (passes _ _ (c .before .before .before .before .judge-all .ensures) (c .before .before .enum-told .given .1)) .0, record { in-first = search needs; in-second = search needs })
+grammar-heads-requires c κs = ((three-laid _ _ _ (passes _ _ (c .before .before .before .before .judge-all .ensures) (c .before .before .enum-told .given .1))) .0, record { in-first = search needs; in-second = search needs })
 
 slice-aggregate-templates-heads : tie.Need-slice-aggregate-templates-heads
 slice-aggregate-templates-heads c = search needs
@@ -37,7 +36,7 @@ slice-aggregate-templates-heads-2 : tie.Need-slice-aggregate-templates-heads-2
 slice-aggregate-templates-heads-2 c = search needs
 
 templates-heads-requires : tie.Need-templates-heads-requires
-templates-heads-requires c κs = (three-laid _ _ _ (passes _ _ (c .before .before .before .before .before .before .before .before .before .judge-all .ensures) (c .before .before .before .before .before .before .before .enum-told .given .1)) .1, record { in-first = search needs; in-second = search needs })
+templates-heads-requires c κs = ((three-laid _ _ _ (passes _ _ (c .before .before .before .before .before .before .before .before .before .judge-all .ensures) (c .before .before .before .before .before .before .before .enum-told .given .1))) .1, record { in-first = search needs; in-second = search needs })
 
 sub-cs : tie.Need-sub-cs
 sub-cs c = search needs
@@ -75,56 +74,14 @@ part-ts-start c = search needs
 part-ts-end : tie.Need-part-ts-end
 part-ts-end c = search needs
 
-value-limits-requires : tie.Need-value-limits-requires
-value-limits-requires c κs = search needs
+is-small-requires : tie.Need-is-small-requires
+is-small-requires c κs = c .before .before .before .before .before .before .before .before .before .before .before .before .before .before .before .grammar-heads .ensures .first .few
 
-slice-aggregate-judge-set : tie.Need-slice-aggregate-judge-set
-slice-aggregate-judge-set c = search needs
+slice-aggregate-evaluate-set : tie.Need-slice-aggregate-evaluate-set
+slice-aggregate-evaluate-set c = search needs
 
-judge-set-requires : tie.Need-judge-set-requires
-judge-set-requires c κs = set-asks _ _ _ _ _ _ _ _ _ _ _ _ (three-laid _ _ _ (passes _ _ (c .before .before .before .before .before .before .before .before .before .before .before .before .before .before .before .before .before .before .before .before .before .before .judge-all .ensures) (c .before .before .before .before .before .before .before .before .before .before .before .before .before .before .before .before .before .before .before .before .enum-told .given .1)) .0) (three-laid _ _ _ (passes _ _ (c .before .before .before .before .before .before .before .before .before .before .before .before .before .before .before .before .before .before .before .before .before .before .judge-all .ensures) (c .before .before .before .before .before .before .before .before .before .before .before .before .before .before .before .before .before .before .before .before .enum-told .given .1)) .1) (c .before .before .before .before .before .before .before .before .before .before .before .before .before .before .before .before .before .grammar-heads .ensures) (c .before .before .before .before .before .before .before .before .before .before .before .before .templates-heads .ensures) _ (search needs)
-
-enum-known-number-2 : tie.Need-enum-known-number-2
-enum-known-number-2 c = search needs
-
-refused-requires-2 : tie.Need-refused-requires-2
-refused-requires-2 c κs = search needs
-
-returns-2 : tie.Need-returns-2
-returns-2 c = answered _ _ _ _ _ (c .refused2 .ensures) (evaluate-set _ _ _ _ _ _ _ (passes _ _ (c .before .before .before .before .before .before .before .before .before .before .before .before .before .before .before .before .before .before .before .before .before .before .before .before .before .before .before .before .judge-all .ensures) (c .before .before .before .before .before .before .before .before .before .before .before .before .before .before .before .before .before .before .before .before .before .before .before .before .before .before .enum-told .given .1)) (refuses _ _ _ _ _ (judged-limits _ _ _ _ _ (c .before .before .before .before .before .judge-set .ensures .is) (c .before .before .before .before .before .before .before .value-limits .ensures)) (c .before .before .number2 .given .1)))
-
-enum-told-2 : tie.Need-enum-told-2
-enum-told-2 c = search needs
-
-slice-aggregate-value-typing : tie.Need-slice-aggregate-value-typing
-slice-aggregate-value-typing c = search needs
-
-value-typing-requires : tie.Need-value-typing-requires
-value-typing-requires c κs = value-asks _ _ _ _ _ _ _ (tabled-parts _ _ _ _ _ _ _ _ _ _ _ _ (three-laid _ _ _ (passes _ _ (c .before .before .before .before .before .before .before .before .before .before .before .before .before .before .before .before .before .before .before .before .before .before .before .before .before .before .before .judge-all .ensures) (c .before .before .before .before .before .before .before .before .before .before .before .before .before .before .before .before .before .before .before .before .before .before .before .before .before .enum-told .given .1)) .0) (three-laid _ _ _ (passes _ _ (c .before .before .before .before .before .before .before .before .before .before .before .before .before .before .before .before .before .before .before .before .before .before .before .before .before .before .before .judge-all .ensures) (c .before .before .before .before .before .before .before .before .before .before .before .before .before .before .before .before .before .before .before .before .before .before .before .before .before .enum-told .given .1)) .1) (c .before .before .before .before .before .before .before .before .before .before .before .before .before .before .before .before .before .before .before .before .before .before .grammar-heads .ensures) (c .before .before .before .before .before .before .before .before .before .before .before .before .before .before .before .before .before .templates-heads .ensures)) (c .before .before .before .before .judge-set .ensures .compiled (c .before .enum-told2 .given .1))
-
-enum-known-place : tie.Need-enum-known-place
-enum-known-place c = search needs
-
-refused-requires-3 : tie.Need-refused-requires-3
-refused-requires-3 c κs = search needs
-
-returns-3 : tie.Need-returns-3
-returns-3 c = answered _ _ _ _ _ (c .refused3 .ensures) (evaluate-value _ _ _ _ _ _ _ (passes _ _ (c .before .before .before .before .before .before .before .before .before .before .before .before .before .before .before .before .before .before .before .before .before .before .before .before .before .before .before .before .before .before .before .before .judge-all .ensures) (c .before .before .before .before .before .before .before .before .before .before .before .before .before .before .before .before .before .before .before .before .before .before .before .before .before .before .before .before .before .before .enum-told .given .1)) (passes _ _ (judged-limits _ _ _ _ _ (c .before .before .before .before .before .before .before .before .before .judge-set .ensures .is) (c .before .before .before .before .before .before .before .before .before .before .before .value-limits .ensures)) (c .before .before .before .before .before .before .enum-told2 .given .1)) (found _ _ _ (c .before .before .before .before .value-typing .ensures) (c .before .before .place .given .1)))
-
-enum-told-3 : tie.Need-enum-told-3
-enum-told-3 c = search needs
-
-refused-requires-4 : tie.Need-refused-requires-4
-refused-requires-4 c κs = search needs
-
-returns-4 : tie.Need-returns-4
-returns-4 c = answered _ _ _ _ _ (c .refused4 .ensures) (evaluate-scratch _ _ _ _ _ _ (passes _ _ (c .before .before .before .before .before .before .before .before .before .before .before .before .before .before .before .before .before .before .before .before .before .before .before .before .before .before .before .before .before .before .before .before .judge-all .ensures) (c .before .before .before .before .before .before .before .before .before .before .before .before .before .before .before .before .before .before .before .before .before .before .before .before .before .before .before .before .before .before .enum-told .given .1)) (passes _ _ (judged-limits _ _ _ _ _ (c .before .before .before .before .before .before .before .before .before .judge-set .ensures .is) (c .before .before .before .before .before .before .before .before .before .before .before .value-limits .ensures)) (c .before .before .before .before .before .before .enum-told2 .given .1)) (unfound _ _ (c .before .before .before .before .value-typing .ensures) (c .before .before .enum-told3 .given .1)) (c .before .if1 .taken))
-
-run-requires : tie.Need-run-requires
-run-requires c κs = walk-asks _ _ _ _ _ _ _ _ (tabled-parts _ _ _ _ _ _ _ _ _ _ _ _ (three-laid _ _ _ (passes _ _ (c .before .before .before .before .before .before .before .before .before .before .before .before .before .before .before .before .before .before .before .before .before .before .before .before .before .before .before .before .before .before .before .before .before .judge-all .ensures) (c .before .before .before .before .before .before .before .before .before .before .before .before .before .before .before .before .before .before .before .before .before .before .before .before .before .before .before .before .before .before .before .enum-told .given .1)) .0) (three-laid _ _ _ (passes _ _ (c .before .before .before .before .before .before .before .before .before .before .before .before .before .before .before .before .before .before .before .before .before .before .before .before .before .before .before .before .before .before .before .before .before .judge-all .ensures) (c .before .before .before .before .before .before .before .before .before .before .before .before .before .before .before .before .before .before .before .before .before .before .before .before .before .before .before .before .before .before .before .enum-told .given .1)) .1) (c .before .before .before .before .before .before .before .before .before .before .before .before .before .before .before .before .before .before .before .before .before .before .before .before .before .before .before .before .grammar-heads .ensures) (c .before .before .before .before .before .before .before .before .before .before .before .before .before .before .before .before .before .before .before .before .before .before .before .templates-heads .ensures)) (set-passed _ _ _ (passes _ _ (judged-limits _ _ _ _ _ (c .before .before .before .before .before .before .before .before .before .before .judge-set .ensures .is) (c .before .before .before .before .before .before .before .before .before .before .before .before .value-limits .ensures)) (c .before .before .before .before .before .before .before .enum-told2 .given .1)) .0) (set-passed _ _ _ (passes _ _ (judged-limits _ _ _ _ _ (c .before .before .before .before .before .before .before .before .before .before .judge-set .ensures .is) (c .before .before .before .before .before .before .before .before .before .before .before .before .value-limits .ensures)) (c .before .before .before .before .before .before .before .enum-told2 .given .1)) .1) (three-laid _ _ _ (passes _ _ (c .before .before .before .before .before .before .before .before .before .before .before .before .before .before .before .before .before .before .before .before .before .before .before .before .before .before .before .before .before .before .before .before .before .judge-all .ensures) (c .before .before .before .before .before .before .before .before .before .before .before .before .before .before .before .before .before .before .before .before .before .before .before .before .before .before .before .before .before .before .before .enum-told .given .1)) .2) (three-laid _ _ _ (passes _ _ (c .before .before .before .before .before .before .before .before .before .before .before .before .before .before .before .before .before .before .before .before .before .before .before .before .before .before .before .before .before .before .before .before .before .judge-all .ensures) (c .before .before .before .before .before .before .before .before .before .before .before .before .before .before .before .before .before .before .before .before .before .before .before .before .before .before .before .before .before .before .before .enum-told .given .1)) .3) (c .before .before .if1 .left)
-
-ended-requires : tie.Need-ended-requires
-ended-requires c κs = search needs
+evaluate-set-requires : tie.Need-evaluate-set-requires
+evaluate-set-requires c κs = record { passed = (passes _ _ (c .before .before .before .before .before .before .before .before .before .before .before .before .before .before .before .before .before .before .before .before .before .before .before .before .before .judge-all .ensures) (c .before .before .before .before .before .before .before .before .before .before .before .before .before .before .before .before .before .before .before .before .before .before .before .enum-told .given .1)); asks = small-asks _ _ _ _ _ _ _ _ _ _ _ _ ((three-laid _ _ _ (passes _ _ (c .before .before .before .before .before .before .before .before .before .before .before .before .before .before .before .before .before .before .before .before .before .before .before .before .before .judge-all .ensures) (c .before .before .before .before .before .before .before .before .before .before .before .before .before .before .before .before .before .before .before .before .before .before .before .enum-told .given .1))) .0) ((three-laid _ _ _ (passes _ _ (c .before .before .before .before .before .before .before .before .before .before .before .before .before .before .before .before .before .before .before .before .before .before .before .before .before .judge-all .ensures) (c .before .before .before .before .before .before .before .before .before .before .before .before .before .before .before .before .before .before .before .before .before .before .before .enum-told .given .1))) .1) (c .before .before .before .before .before .before .before .before .before .before .before .before .before .before .before .before .before .before .before .before .grammar-heads .ensures) (c .before .before .before .before .before .before .before .before .before .before .before .before .before .before .before .templates-heads .ensures) _ (search needs) (c .before .before .before .before .is-small .ensures (c .before .before .before .if1 .taken)) }
 
 same-length : tie.Need-same-length
 same-length c = search needs
@@ -132,8 +89,23 @@ same-length c = search needs
 same-length-2 : tie.Need-same-length-2
 same-length-2 c = search needs
 
-returns-5 : tie.Need-returns-5
-returns-5 c = answered _ _ _ _ _ (c .ended .ensures) (evaluate-walks _ _ _ _ _ _ _ _ _ (none-refuses _ _ _ _ (passes _ _ (c .before .before .before .before .before .before .before .before .before .before .before .before .before .before .before .before .before .before .before .before .before .before .before .before .before .before .before .before .before .before .before .before .before .before .before .before .before .before .before .judge-all .ensures) (c .before .before .before .before .before .before .before .before .before .before .before .before .before .before .before .before .before .before .before .before .before .before .before .before .before .before .before .before .before .before .before .before .before .before .before .before .before .enum-told .given .1)) (passes _ _ (judged-limits _ _ _ _ _ (c .before .before .before .before .before .before .before .before .before .before .before .before .before .before .before .before .judge-set .ensures .is) (c .before .before .before .before .before .before .before .before .before .before .before .before .before .before .before .before .before .before .value-limits .ensures)) (c .before .before .before .before .before .before .before .before .before .before .before .before .before .enum-told2 .given .1)) (unfound _ _ (c .before .before .before .before .before .before .before .before .before .before .before .value-typing .ensures) (c .before .before .before .before .before .before .before .before .before .enum-told3 .given .1)) (c .before .before .before .before .before .before .before .before .if1 .left)) (search needs) (c .before .before .before .before .before .run .ensures))
+returns-2 : tie.Need-returns-2
+returns-2 c = c .before .before .before .before .before .evaluate-set .ensures
+
+slice-aggregate-evaluate-set-2 : tie.Need-slice-aggregate-evaluate-set-2
+slice-aggregate-evaluate-set-2 c = search needs
+
+evaluate-set-requires-2 : tie.Need-evaluate-set-requires-2
+evaluate-set-requires-2 c κs = record { passed = (passes _ _ (c .before .before .before .before .before .before .before .before .before .before .before .before .before .before .before .before .before .before .before .before .before .before .before .before .before .judge-all .ensures) (c .before .before .before .before .before .before .before .before .before .before .before .before .before .before .before .before .before .before .before .before .before .before .before .enum-told .given .1)); asks = large-asks _ _ _ _ _ _ _ _ _ _ _ _ ((three-laid _ _ _ (passes _ _ (c .before .before .before .before .before .before .before .before .before .before .before .before .before .before .before .before .before .before .before .before .before .before .before .before .before .judge-all .ensures) (c .before .before .before .before .before .before .before .before .before .before .before .before .before .before .before .before .before .before .before .before .before .before .before .enum-told .given .1))) .0) ((three-laid _ _ _ (passes _ _ (c .before .before .before .before .before .before .before .before .before .before .before .before .before .before .before .before .before .before .before .before .before .before .before .before .before .judge-all .ensures) (c .before .before .before .before .before .before .before .before .before .before .before .before .before .before .before .before .before .before .before .before .before .before .before .enum-told .given .1))) .1) (c .before .before .before .before .before .before .before .before .before .before .before .before .before .before .before .before .before .before .before .before .grammar-heads .ensures) (c .before .before .before .before .before .before .before .before .before .before .before .before .before .before .before .templates-heads .ensures) _ (search needs) }
+
+same-length-3 : tie.Need-same-length-3
+same-length-3 c = search needs
+
+same-length-4 : tie.Need-same-length-4
+same-length-4 c = search needs
+
+returns-3 : tie.Need-returns-3
+returns-3 c = c .before .before .before .before .before .evaluate-set2 .ensures
 
 pub evaluate-spec : {M : Type 1} → statement M
 evaluate-spec =
@@ -162,23 +134,14 @@ evaluate-spec =
     sub-ts
     part-ts-start
     part-ts-end
-    value-limits-requires
-    slice-aggregate-judge-set
-    judge-set-requires
-    enum-known-number-2
-    refused-requires-2
-    returns-2
-    enum-told-2
-    slice-aggregate-value-typing
-    value-typing-requires
-    enum-known-place
-    refused-requires-3
-    returns-3
-    enum-told-3
-    refused-requires-4
-    returns-4
-    run-requires
-    ended-requires
+    is-small-requires
+    slice-aggregate-evaluate-set
+    evaluate-set-requires
     same-length
     same-length-2
-    returns-5)
+    returns-2
+    slice-aggregate-evaluate-set-2
+    evaluate-set-requires-2
+    same-length-3
+    same-length-4
+    returns-3)
