@@ -1,10 +1,10 @@
 // The paper's program: evaluates grammar.blk, template.blk and value.blk of the folder that it is run in, and writes one line of the answer's
 // five fields, then the text if it is finished, with no newline after it.
 mod file;
-mod show;
+mod print;
 
 use file::read_file;
-use show::show;
+use print::print_answer;
 
 const FUEL: u32 = 1000000;
 
@@ -26,5 +26,5 @@ fn main() {
         &mut out,
         &mut scratch,
     );
-    show(answer, &out);
+    print_answer(answer, &out);
 }

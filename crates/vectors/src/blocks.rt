@@ -2,10 +2,10 @@
 // the answer), and FNV-1a of the bytes handed back or written.
 use crate::bytes::alter;
 use crate::bytes::damage;
-use crate::show::hash;
-use crate::show::labelled;
-use crate::show::text;
-use crate::show::written;
+use crate::print::hash;
+use crate::print::labelled;
+use crate::print::text;
+use crate::print::written;
 use stream::block::block_payload;
 use stream::pack::pack;
 use stream::pack::unpack;

@@ -5,10 +5,10 @@ use crate::bytes::damage;
 use crate::example::grammar;
 use crate::example::templates;
 use crate::example::value;
+use crate::print::fields;
+use crate::print::hash;
+use crate::print::text;
 use crate::records::Records;
-use crate::show::fields;
-use crate::show::hash;
-use crate::show::text;
 use rules::Answer;
 use stream::pack::pack;
 

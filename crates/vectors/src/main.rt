@@ -5,10 +5,10 @@ mod blocks;
 mod bytes;
 mod case;
 mod example;
+mod print;
 mod records;
 mod runs;
 mod sets;
-mod show;
 mod streams;
 
 fn main() {

@@ -28,7 +28,7 @@ fn text(a: Answer, out: &[u8]) -> bool {
 }
 
 // A program has no exit status of its own, so what could not be written is at least said.
-pub fn show(a: Answer, out: &[u8]) {
+pub fn print_answer(a: Answer, out: &[u8]) {
     if line(a) && text(a, out) {
         return;
     }
