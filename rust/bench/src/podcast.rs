@@ -1,4 +1,4 @@
-//! A podcast feed: an RSS 2.0 channel with episodes and chapters, many of them with Greek titles.
+//! A podcast feed: an RSS 2.0 channel with items and marks in them, many with Greek titles.
 
 use build::{Element, Grammar, Node, Path, Templates, Value};
 use trials::generate::Streams;
@@ -8,8 +8,8 @@ const FULL: usize = 128 * 63;
 
 /// Nonterminals of the feed's grammar.
 const CHANNEL: u16 = 0;
-const EPISODE: u16 = 1;
-const CHAPTER: u16 = 2;
+const ITEM: u16 = 1;
+const MARK: u16 = 2;
 const RATING: u16 = 3;
 
 /// Classes: titles and notes, addresses, digits and colons, dates.
@@ -54,9 +54,9 @@ fn grammar() -> Grammar {
         40,
         &[(0x20, 0x20), (0x2B, 0x3A), (0x41, 0x5A), (0x61, 0x7A)],
     );
-    grammar.production(CHANNEL, channel());
-    grammar.production(EPISODE, episode_elements());
-    grammar.production(CHAPTER, chapter());
+    grammar.production(CHANNEL, channel_elements());
+    grammar.production(ITEM, item_elements());
+    grammar.production(MARK, mark_elements());
     grammar.production(RATING, [keyword("<itunes:explicit>true</itunes:explicit>")]);
     grammar.production(
         RATING,
@@ -65,8 +65,8 @@ fn grammar() -> Grammar {
     grammar
 }
 
-/// The channel: its title, its address and its episodes.
-fn channel() -> Vec<Element> {
+/// The channel: its title, its address and its items.
+fn channel_elements() -> Vec<Element> {
     vec![
         keyword("<?xml version=\"1.0\" encoding=\"UTF-8\"?>\n<rss version=\"2.0\""),
         keyword(" xmlns:itunes=\"http://www.itunes.com/dtds/podcast-1.0.dtd\""),
@@ -75,13 +75,13 @@ fn channel() -> Vec<Element> {
         keyword("</title>\n<link>"),
         Element::Class(ADDRESS),
         keyword("</link>\n"),
-        Element::Repetition(EPISODE),
+        Element::Repetition(ITEM),
         keyword("</channel></rss>\n"),
     ]
 }
 
-/// An episode: texts, its recording, a rating and its chapters.
-fn episode_elements() -> Vec<Element> {
+/// An item: texts, its recording, a rating and its marks.
+fn item_elements() -> Vec<Element> {
     vec![
         keyword("<item><title>"),
         Element::Class(TITLE),
@@ -98,13 +98,13 @@ fn episode_elements() -> Vec<Element> {
         keyword("\" type=\"audio/mpeg\"/>"),
         Element::Nonterminal(RATING),
         keyword("\n<psc:chapters>"),
-        Element::Repetition(CHAPTER),
+        Element::Repetition(MARK),
         keyword("</psc:chapters>\n</item>\n"),
     ]
 }
 
-/// A chapter: when it starts and what it is called.
-fn chapter() -> Vec<Element> {
+/// A mark: when it starts and what it is called.
+fn mark_elements() -> Vec<Element> {
     vec![
         keyword("<psc:chapter start=\""),
         Element::Class(COUNT),
@@ -118,32 +118,34 @@ fn templates() -> Templates {
     let mut templates = Templates::new();
     let [title, address, count, date] = [TITLE, ADDRESS, COUNT, DATE].map(|c| templates.text(c));
     let yes_no = templates.yes_no();
-    let chapter = templates.record([count, title]);
-    let chapters = templates.list(chapter);
-    let episode = templates.record([
-        title, title, address, date, address, count, yes_no, chapters,
-    ]);
-    let episodes = templates.list(episode);
-    let channel = templates.record([title, address, episodes]);
+    let mark = templates.record([count, title]);
+    let marks = templates.list(mark);
+    let item = templates.record([title, title, address, date, address, count, yes_no, marks]);
+    let items = templates.list(item);
+    let channel = templates.record([title, address, items]);
     let whole = Path::variable(0);
     let place = |path: &Path, field| Node::place(path.clone().field(field));
-    let items = Node::each(whole.clone().field(2), Node::expand(1, [Path::variable(1)]));
+    let each_item = Node::each(whole.clone().field(2), Node::expand(1, [Path::variable(1)]));
     let body = Node::build(
         0,
-        [place(&whole, 0), place(&whole, 1), Node::sequence([items])],
+        [
+            place(&whole, 0),
+            place(&whole, 1),
+            Node::sequence([each_item]),
+        ],
     );
     templates.template(CHANNEL, [channel], body);
     let entry = Path::variable(1);
-    let marks = Node::build(2, [place(&entry, 0), place(&entry, 1)]);
-    let marks = Node::sequence([Node::each(whole.clone().field(7), marks)]);
+    let mark_node = Node::build(2, [place(&entry, 0), place(&entry, 1)]);
+    let mark_nodes = Node::sequence([Node::each(whole.clone().field(7), mark_node)]);
     let rating = Node::either(
         whole.clone().field(6),
         Node::build(3, []),
         Node::build(4, []),
     );
     let mut children: Vec<Node> = (0..6).map(|field| place(&whole, field)).collect();
-    children.extend([rating, marks]);
-    templates.template(EPISODE, [episode], Node::build(1, children));
+    children.extend([rating, mark_nodes]);
+    templates.template(ITEM, [item], Node::build(1, children));
     templates
 }
 
@@ -163,8 +165,8 @@ const NOTES: [&str; 4] = [
     "Notes and links are on the page of the series.",
 ];
 
-fn episode(number: usize) -> Value {
-    let chapter = |part: usize| {
+fn item(number: usize) -> Value {
+    let mark = |part: usize| {
         let title = ["Opening", "Η θάλασσα", "Letters", "Το τέλος"][(number + part) % 4];
         let start = format!("00:{:02}:{:02}", 9 * part, (7 * number + part) % 60);
         Value::record([Value::text(start), Value::text(title)])
@@ -179,25 +181,25 @@ fn episode(number: usize) -> Value {
         Value::text(format!("https://media.example/7/{number}/audio.mp3")),
         Value::text(format!("{}", 10_000_000 + 7_919 * number)),
         Value::YesNo(number.is_multiple_of(9)),
-        Value::list((0..2 + number % 3).map(chapter)),
+        Value::list((0..2 + number % 3).map(mark)),
     ])
 }
 
-/// As many episodes as so many records hold.
+/// As many items as so many records hold.
 fn value(records: usize) -> Value {
-    let mut episodes = Vec::new();
+    let mut items = Vec::new();
     let mut used = 12;
     loop {
-        let episode = episode(episodes.len());
-        used += episode.records().len();
+        let item = item(items.len());
+        used += item.records().len();
         if used > records {
             break;
         }
-        episodes.push(episode);
+        items.push(item);
     }
     Value::record([
         Value::text("Ἡ θάλασσα, the sea"),
         Value::text("https://feeds.example/7"),
-        Value::List(episodes),
+        Value::List(items),
     ])
 }

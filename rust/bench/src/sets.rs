@@ -16,7 +16,7 @@ pub struct Family {
 }
 
 /// All families.
-pub const FAMILIES: [Family; 11] = [
+pub const FAMILIES: [Family; 12] = [
     Family {
         name: "the paper's example",
         set: |_| example(),
@@ -35,6 +35,11 @@ pub const FAMILIES: [Family; 11] = [
     Family {
         name: "one class of thousands of ranges",
         set: many_ranges,
+        grows: true,
+    },
+    Family {
+        name: "many classes, and one of thousands of ranges",
+        set: many_classes_and_ranges,
         grows: true,
     },
     Family {
@@ -87,10 +92,10 @@ fn entries(least: u16, most: u16, ranges: &[(u32, u32)]) -> Grammar {
     grammar
 }
 
-/// Template 0 on a list of texts of class 0: every one of them as an entry.
-fn entries_templates() -> Templates {
+/// Template 0 on a list of texts of a class: every one of them as an entry.
+fn entries_templates(class: u16) -> Templates {
     let mut templates = Templates::new();
-    let title = templates.text(0);
+    let title = templates.text(class);
     let titles = templates.list(title);
     let entry = Node::build(1, [Node::place(Path::variable(1))]);
     let row = Node::sequence([Node::each(Path::variable(0), entry)]);
@@ -101,7 +106,7 @@ fn entries_templates() -> Templates {
 fn example() -> Streams {
     let grammar = entries(1, 4, &[(0x61, 0x7A), (0x370, 0x3FF)]);
     let value = Value::list([Value::text("ab"), Value::text("αβγδ")]);
-    Streams::of(&grammar, &entries_templates(), &value)
+    Streams::of(&grammar, &entries_templates(0), &value)
 }
 
 /// 64 to 256 classes, each of 28 ranges of one character from high to low, and texts of them.
@@ -144,7 +149,31 @@ fn many_ranges(scale: usize) -> Streams {
         .filter_map(|range| char::from_u32(0x10000 + 2 * range))
         .collect();
     let value = Value::list(vec![Value::text(letters); 260 * scale]);
-    Streams::of(&entries(1, 12, &ranges), &entries_templates(), &value)
+    Streams::of(&entries(1, 12, &ranges), &entries_templates(0), &value)
+}
+
+/// 50 to 200 classes, every other one empty, then one of up to 7,500 ranges of one character each,
+/// from high to low, and long texts of its lowest, which take three bytes.
+fn many_classes_and_ranges(scale: usize) -> Streams {
+    let (before, count) = (50 * scale as u16, 1_875 * scale as u32);
+    let code = |range: u32| 0x4E00 + 2 * range;
+    let mut grammar = Grammar::new();
+    for class in 0..before {
+        let ranges: &[(u32, u32)] = if class % 2 == 0 { &[] } else { &[(0x61, 0x7A)] };
+        grammar.class(0, 1, ranges);
+    }
+    let ranges: Vec<(u32, u32)> = (0..count)
+        .rev()
+        .map(|range| (code(range), code(range)))
+        .collect();
+    let class = grammar.class(1, 2_000, &ranges);
+    grammar.production(0, [keyword("["), Element::Repetition(1), keyword("]")]);
+    grammar.production(1, [keyword("<"), Element::Class(class), keyword(">")]);
+    let letters: String = (0..1_050)
+        .filter_map(|letter| char::from_u32(code(letter % 12)))
+        .collect();
+    let value = Value::list(vec![Value::text(letters); 5 * scale]);
+    Streams::of(&grammar, &entries_templates(class), &value)
 }
 
 /// 64 to 256 productions of nonterminal 1, each built many times.
@@ -194,7 +223,7 @@ fn one_character_texts(scale: usize) -> Streams {
     let grammar = entries(1, 1, &[(0x61, 0x7A), (0x370, 0x3FF)]);
     let letters = ["a", "β", "z", "ω"];
     let texts = (0..1_000 * scale).map(|number| Value::text(letters[number % 4]));
-    Streams::of(&grammar, &entries_templates(), &Value::list(texts))
+    Streams::of(&grammar, &entries_templates(0), &Value::list(texts))
 }
 
 /// A body of 199 levels, entered for each item of a list, and more such bodies to check.

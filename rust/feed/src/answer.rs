@@ -41,7 +41,8 @@ pub enum Refusal {
         /// The stream with that length.
         stream: Stream,
     },
-    /// 2: a block has a wrong number, kind, byte 3 or check.
+    /// 2: a block has a wrong number, kind, byte 3 or check. Of [`pack`](crate::pack) and
+    /// [`unpack`](crate::unpack) also, with block 0: the kind asked for is outside 1 to 3.
     Block {
         /// The stream that holds the block.
         stream: Stream,
@@ -255,6 +256,9 @@ impl Refusal {
         match self {
             Self::Length { stream: Stream::Lent } => "the length is none that a stream or a payload may have",
             Self::Length { .. } => "the length is zero, above 65,536 or no multiple of 512",
+            Self::Block { stream: Stream::Lent, block: 0 } => {
+                "the kind is outside 1 to 3, or block 0 has a wrong number, kind, byte 3 or check"
+            }
             Self::Block { .. } => "a block has a wrong number, kind, byte 3 or check",
             Self::Layout { .. } => "the records break the layout",
             Self::Limit { stream: Stream::Value, .. } => "a value is over 200 deep",
@@ -323,7 +327,11 @@ impl Refusal {
 
 impl fmt::Display for Refusal {
     fn fmt(&self, f: &mut fmt::Formatter<'_>) -> fmt::Result {
-        if let Some(stream) = self.stream() {
+        let kind_or_block = Self::Block {
+            stream: Stream::Lent,
+            block: 0,
+        };
+        if let Some(stream) = self.stream().filter(|_| *self != kind_or_block) {
             write!(f, "{stream}")?;
             match (self, self.record()) {
                 (Self::Block { block, .. }, _) => write!(f, ", block {block}: ")?,
@@ -392,6 +400,10 @@ mod tests {
             "the grammar, block 3: a block has a wrong number, kind, byte 3 or check (refusal 2)"
         );
         assert_eq!(
+            said([2, 0, 3, 0, 0]),
+            "the lent bytes, block 3: a block has a wrong number, kind, byte 3 or check (refusal 2)"
+        );
+        assert_eq!(
             said([8, 3, 1, 0, 0]),
             "the value, record 1: the value isn't of its declared type (refusal 8)"
         );
@@ -411,5 +423,23 @@ mod tests {
             said([12, 2, 4, 7, 15]),
             "the templates, record 4: a keyword or lexeme passes the end of the output (refusal 12)"
         );
+    }
+
+    #[test]
+    fn a_wrong_kind_is_not_laid_on_a_block() {
+        let words =
+            "the kind is outside 1 to 3, or block 0 has a wrong number, kind, byte 3 or check \
+                     (refusal 2)";
+        assert_eq!(said([2, 0, 0, 0, 0]), words);
+        let (payload, mut blocks, mut back) = ([0; 8], [0; crate::BLOCK], [0; crate::PAYLOAD]);
+        for kind in [0, 4, 255] {
+            let answer = crate::pack(kind, &payload, &mut blocks);
+            assert_eq!(said(answer.fields()), words);
+        }
+        assert_eq!(crate::pack(2, &payload, &mut blocks).number, 0);
+        for kind in [0, 1, 3, 4, 255] {
+            let answer = crate::unpack(kind, &blocks, &mut back);
+            assert_eq!(said(answer.fields()), words);
+        }
     }
 }

@@ -1,8 +1,7 @@
 //! The proved library, through the safe wrapper `feed`.
 //!
-//! To bind it: in this crate's Cargo.toml add `feed = { path = "../feed", optional = true }` to the
-//! dependencies and write `proved = ["dep:feed"]`; then `--features proved` compares the proved
-//! library with the reference, in the tests, the binary `trials` and the benchmarks.
+//! It is bound by the feature `proved`, which is on by default: the tests, the binary `trials` and
+//! the benchmarks compare it with the reference. With `--no-default-features` they do without it.
 
 use crate::machine::{Fields, Machine};
 

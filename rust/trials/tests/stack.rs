@@ -1,83 +1,232 @@
-//! A whole call runs on a small stack: layout is judged before depth, on trees thousands of levels
-//! deep, and a walk goes 201 levels deep.
+//! A whole call runs on a small stack, on both machines: layout is judged before depth, on the
+//! deepest trees that 128 blocks hold, and a walk goes 201 levels deep, with thousands of items
+//! below the 200th.
+
+use std::thread::Builder;
 
 use build::{
     blocks, record, Element, Grammar, Node, Path, Record, Templates, Value, TEMPLATES, VALUE,
 };
-use trials::{Fields, Machine, SECOND};
+use trials::{Fields, Machine, Reference, SECOND};
 
 /// The stack that a server may give a call.
 const STACK: usize = 512 * 1024;
 
-/// Nonterminal 0: `(` 0 `)`, or `{` 0* `}`, or nothing.
-fn grammar() -> Vec<u8> {
+/// The records of a stream of 128 blocks.
+const FULL: u16 = 128 * 63;
+
+/// Characters of the last class, some in each of its last three ranges.
+const LETTERS: &str = "abαβ\u{4E00}\u{4E11}";
+
+/// Nonterminal 0: `(` 0 `)`, or `{` 0* `}`, or nothing, or a lexeme of the last class. So many
+/// classes without ranges stand before that class, which has so many ranges.
+fn grammar(before: usize, ranges: u32) -> Grammar {
     let keyword = |text: &str| Element::keyword(text);
     let mut grammar = Grammar::new();
+    for _ in 0..before {
+        grammar.class(0, 1, &[]);
+    }
+    let code = |range: u32| 0x10000 + 2 * (ranges - range);
+    let mut all: Vec<(u32, u32)> = (3..ranges)
+        .map(|range| (code(range), code(range)))
+        .collect();
+    all.extend([(0x61, 0x7A), (0x370, 0x3FF), (0x4E00, 0x4EFF)]);
+    let class = grammar.class(0, 1_000, &all);
     grammar.production(0, [keyword("("), Element::Nonterminal(0), keyword(")")]);
     grammar.production(0, [keyword("{"), Element::Repetition(0), keyword("}")]);
     grammar.production(0, []);
-    grammar.stream()
+    grammar.production(0, [Element::Class(class)]);
+    grammar
 }
 
-/// Template 0 on lists of lists, with this body.
-fn templates(body: Node) -> Vec<u8> {
+/// A small grammar, and one of 256 classes that fills 128 blocks: tables may grow with them.
+fn grammars() -> [Vec<u8>; 2] {
+    let full = grammar(255, 7_793);
+    assert_eq!(full.records().len(), usize::from(FULL));
+    [grammar(0, 3), full].map(|grammar| grammar.stream())
+}
+
+/// Templates on lists of lists, with these bodies.
+fn templates<const COUNT: usize>(bodies: [Node; COUNT]) -> Vec<u8> {
     let mut templates = Templates::new();
     let list = templates.list(0);
-    templates.template(0, [list], body);
+    for body in bodies {
+        templates.template(0, [list], body);
+    }
     templates.stream()
 }
 
-/// So many records of a kind, each with the next as its one child.
-fn chain(kind: u8, levels: u16) -> Vec<Record> {
+/// So many records of a kind and form, each with the next as its one child.
+fn chain(kind: u8, form: u8, levels: u16) -> Vec<Record> {
     (0..levels)
-        .map(|level| record(kind, 0, 0, levels - level, u16::from(level + 1 < levels)))
+        .map(|level| record(kind, form, 0, levels - level, u16::from(level + 1 < levels)))
         .collect()
 }
 
+/// Lists in one another, so many levels deep.
 fn lists(levels: u16) -> Vec<u8> {
-    blocks(VALUE, &chain(3, levels))
+    blocks(VALUE, &chain(3, 0, levels))
 }
 
-fn evaluate(templates: &[u8], value: &[u8]) -> Fields {
-    let streams = [&grammar()[..], templates, value];
-    let mut out = vec![0; 1_000];
-    let mut scratch = vec![0; 4_800];
-    SECOND.evaluate(streams, u32::MAX, &mut out, &mut scratch)
-}
-
-fn deep_calls() {
-    let again = templates(Node::expand(0, [Path::variable(0)]));
-    assert_eq!(evaluate(&again, &lists(8_000)), [4, 3, 200, 0, 0]);
-    assert_eq!(evaluate(&again, &lists(200)), [11, 2, 3, 201, 0]);
-
+/// A template whose body fills 128 blocks with nodes of a form, each in the one before it.
+fn deepest_body(form: u8) -> Vec<u8> {
     let mut records = vec![
         record(1, 2, 0, 0, 0),
-        record(3, 1, 0, 8_002, 0),
+        record(3, 1, 0, FULL - 1, 0),
         record(4, 0, 0, 0, 0),
     ];
-    records.extend(chain(5, 8_000));
-    let deep = blocks(TEMPLATES, &records);
-    assert_eq!(SECOND.check(&grammar(), &deep), [4, 2, 203, 0, 0]);
+    records.extend(chain(5, form, FULL - 3));
+    assert_eq!(records.len(), usize::from(FULL));
+    blocks(TEMPLATES, &records)
+}
 
-    let mut body = Node::build(2, []);
-    for _ in 1..200 {
-        body = Node::build(0, [body]);
-    }
-    let full = templates(body);
-    assert_eq!(evaluate(&full, &lists(200)), [0, 0, 0, 200, 398]);
+/// A body below so many builds.
+fn below(levels: usize, body: Node) -> Node {
+    (0..levels).fold(body, |body, _| Node::build(0, [body]))
+}
 
-    let expand = Node::expand(0, [Path::variable(1)]);
-    let each = Node::each(Path::variable(0), expand);
-    let tree = templates(Node::build(1, [Node::sequence([each])]));
-    assert_eq!(evaluate(&tree, &lists(50)), [0, 0, 0, 199, 100]);
-    assert_eq!(evaluate(&tree, &lists(51)), [11, 2, 3, 201, 50]);
-    let value = Value::list([]).stream();
-    assert_eq!(evaluate(&tree, &value), [0, 0, 0, 3, 2]);
+/// The body once for each item of the list: three levels and those of the body.
+fn each(body: Node) -> Node {
+    let each = Node::each(Path::variable(0), body);
+    Node::build(1, [Node::sequence([each])])
+}
+
+fn nothing() -> Node {
+    Node::build(2, [])
+}
+
+fn expand(template: u16, variable: u8) -> Node {
+    Node::expand(template, [Path::variable(variable)])
+}
+
+/// Templates, a value and what an evaluate call answers.
+type Case = (&'static str, Vec<u8>, Vec<u8>, Fields);
+
+/// Trees that are over a limit, as deep as 128 blocks hold them.
+fn deepest_trees() -> Vec<Case> {
+    let empty = || lists(1);
+    vec![
+        (
+            "a value of 8,064 levels",
+            templates([nothing()]),
+            lists(FULL),
+            [4, 3, 200, 0, 0],
+        ),
+        (
+            "a body of 8,061 builds",
+            deepest_body(0),
+            empty(),
+            [4, 2, 203, 0, 0],
+        ),
+        (
+            "a body of 8,061 sequences",
+            deepest_body(6),
+            empty(),
+            [4, 2, 203, 0, 0],
+        ),
+    ]
+}
+
+/// Walks over one child a level.
+fn narrow_walks() -> Vec<Case> {
+    let lexeme = Node::build(3, [Node::literal(LETTERS.repeat(100))]);
+    vec![
+        (
+            "200 levels of builds and of values",
+            templates([below(199, nothing())]),
+            lists(200),
+            [0, 0, 0, 200, 398],
+        ),
+        (
+            "a lexeme below 199 levels",
+            templates([below(198, lexeme)]),
+            lists(1),
+            [0, 0, 0, 200, 396 + 100 * LETTERS.len() as u64],
+        ),
+        (
+            "a template that expands itself",
+            templates([expand(0, 0)]),
+            lists(200),
+            [11, 2, 3, 201, 0],
+        ),
+        (
+            "an expand in each of 50 loops",
+            templates([each(expand(0, 1))]),
+            lists(50),
+            [0, 0, 0, 199, 100],
+        ),
+        (
+            "an expand in each of 51 loops",
+            templates([each(expand(0, 1))]),
+            lists(51),
+            [11, 2, 3, 201, 50],
+        ),
+    ]
+}
+
+/// Walks over 8,000 items, which lie at depth 200 or would lie at 201.
+fn wide_walks() -> Vec<Case> {
+    let wide = || Value::list(vec![Value::list([]); 8_000]).stream();
+    vec![
+        (
+            "8,000 builds at depth 200",
+            templates([below(196, each(nothing()))]),
+            wide(),
+            [0, 0, 0, 199 + 8_000, 394],
+        ),
+        (
+            "8,000 expands at depth 199",
+            templates([below(195, each(expand(1, 1))), nothing()]),
+            wide(),
+            [0, 0, 0, 198 + 16_000, 392],
+        ),
+        (
+            "8,000 expands at depth 200",
+            templates([below(196, each(expand(1, 1))), nothing()]),
+            wide(),
+            [11, 2, 207, 201, 197],
+        ),
+    ]
+}
+
+/// Tries all cases on a machine. The streams are built outside of the small stack.
+fn on_a_small_stack(machine: impl Machine + Send + 'static) {
+    let grammars = grammars();
+    let cases = [deepest_trees(), narrow_walks(), wide_walks()].concat();
+    let calls = move || {
+        for grammar in &grammars {
+            cases.iter().for_each(|case| call(&machine, grammar, case));
+        }
+    };
+    let small = Builder::new().stack_size(STACK);
+    let thread = small.spawn(calls).expect("a thread");
+    thread.join().expect("no wrong answer");
+}
+
+/// An evaluate call and a check call, which refuses only templates that are over a limit.
+fn call(machine: &dyn Machine, grammar: &[u8], (name, templates, value, expected): &Case) {
+    let name = format!(
+        "{name}, {} bytes of grammar, {}",
+        grammar.len(),
+        machine.name()
+    );
+    let (mut out, mut scratch) = (vec![0; 2_000], vec![0; 4_800]);
+    let streams = [grammar, templates, value];
+    let fields = machine.evaluate(streams, u32::MAX, &mut out, &mut scratch);
+    assert_eq!(fields, *expected, "{name}");
+    let checked = match expected {
+        [4, 2, ..] => *expected,
+        _ => [0; 5],
+    };
+    assert_eq!(machine.check(grammar, templates), checked, "{name}");
 }
 
 #[test]
-fn deep_calls_run_on_a_small_stack() {
-    let small = std::thread::Builder::new().stack_size(STACK);
-    let thread = small.spawn(deep_calls).expect("a thread");
-    thread.join().expect("no wrong answer");
+fn the_reference_runs_on_a_small_stack() {
+    on_a_small_stack(Reference);
+}
+
+#[test]
+fn the_second_machine_runs_on_a_small_stack() {
+    on_a_small_stack(SECOND);
 }
