@@ -1,17 +1,18 @@
 -- Laws of a single block and of the search for a block that is not right.
 use Prim.Native.Nat.{ℕ, suc, _+_, _-_, _*_, min, _<_, _≤_}
 use mathlib.Core.List.{List, [], _∷_}
-use mathlib.Core.Bool.{Bool, true, false, _&&_}
+use mathlib.Core.Bool.{Bool, true, false, cond, not, _&&_}
 use mathlib.Core.Option.{Option, none, some}
 use mathlib.Core.Path.{_≡_, refl, ap, sym, _∙_}
 use native.Mathlib.Omega.{arith}
-use borrow.Author.Tests.{eqb-true}
+use borrow.Author.Tests.{eqb-true, not-true, not-false}
 use lib.Dec.{eqb}
 use lib.ListN.{length, take, drop, getD, length-take, length-drop}
+use lib.Seq.{take-take}
 use Rattle.rules.specs.Faults.{need, both, every}
 use Rattle.rules.specs.Records.{heads, row}
 use Rattle.rules.specs.Blocks.{isKind, sound, blockPayload, block, blockRight}
-use Rattle.stream.specs.Fault.{faultOf}
+use Rattle.stream.specs.Fault.{faultOf, faultFrom}
 use Rattle.stream.specs.declared.Fault.{Fault}
 use Rattle.stream.specs.declared.Fault.the-variants.{At, Nowhere}
 
@@ -25,6 +26,15 @@ unfound f x e g = sym e ∙ ap faultOf g
 and-left : (a b : Bool) → a && b ≡ true → a ≡ true
 and-left true b e = refl
 and-left false b e = e
+
+anything : (t : Bool) → false ≡ true → t ≡ true
+anything t e = ap (λ (u : Bool). cond u true t) e
+
+all-four : (a b c d : Bool) → a && (b && (c && d)) ≡ true → (a ≡ true) × (b ≡ true) × (c ≡ true) × (d ≡ true)
+all-four true true true d e = (refl, refl, refl, e)
+all-four true true false d e = (refl, refl, e, anything d e)
+all-four true false c d e = (refl, e, anything c e, anything d e)
+all-four false b c d e = (e, anything b e, anything c e, anything d e)
 
 -- a block by itself is right, but for its number
 abbrev pub isSingle : List ℕ → Bool
@@ -50,9 +60,20 @@ pub block-part : (s : List ℕ) (n : ℕ) → take (512 * n + 512 - 512 * n) (dr
 unfolding block
 block-part s n = let z : 512 * n + 512 - 512 * n ≡ 512 = omega arith in rw z
 
--- the blocks from n on, of k
-abbrev pub faultFrom : ℕ → List ℕ → ℕ → ℕ → Option ℕ
-faultFrom kind s k n = every (λ m. need (blockRight kind s m) m) (row (k - n) n)
+-- the bytes that its check is made of
+pub covered-part : (s : List ℕ) (n : ℕ) → take (512 * n + 508 - 512 * n) (drop (512 * n) s) ≡ take 508 (block s n)
+unfolding block
+covered-part s n = let z : 512 * n + 508 - 512 * n ≡ 508 = omega arith in rw z (sym (take-take 508 512 (drop (512 * n) s) (omega arith)))
+
+pub covered-length : (s : List ℕ) (n : ℕ) → 512 * n + 512 ≤ length s → length (take (512 * n + 508 - 512 * n) (drop (512 * n) s)) ≡ 508
+covered-length s n l = simp (length-take, length-drop) (omega arith)
+
+-- what a test in hand says of the definition that it is equal to
+pub told-wrong : (a b : Bool) → a ≡ b → not a ≡ true → b ≡ false
+told-wrong a b e t = sym e ∙ not-true a t
+
+pub told-right : (a b : Bool) → a ≡ b → not a ≡ false → b ≡ true
+told-right a b e t = sym e ∙ not-false a t
 
 one-more : (k n : ℕ) → n < k → row (k - n) n ≡ n ∷ row (k - (n + 1)) (n + 1)
 unfolding row heads
@@ -63,6 +84,9 @@ module _ (kind : ℕ) (s : List ℕ) (k n : ℕ) where
   unfolding every need both
   fault-later l e = rw (one-more k n l, every, e)
 
+  fault-next : (m : ℕ) → m ≡ n + 1 → n < k → blockRight kind s n ≡ true → faultFrom kind s k n ≡ faultFrom kind s k m
+  fault-next m z l e = rw z (fault-later l e)
+
   pub fault-here : n < k → blockRight kind s n ≡ false → faultFrom kind s k n ≡ some n
   unfolding every need both
   fault-here l e = rw (one-more k n l, every, e)
@@ -70,3 +94,16 @@ module _ (kind : ℕ) (s : List ℕ) (k n : ℕ) where
   pub fault-none : k ≤ n → faultFrom kind s k n ≡ none
   unfolding every row heads
   fault-none l = let z : k - n ≡ 0 = omega arith in rw z
+
+-- four blocks in a row are right
+abbrev fourRight : ℕ → List ℕ → ℕ → Bool
+fourRight kind s n = blockRight kind s n && (blockRight kind s (n + 1) && (blockRight kind s (n + 2) && blockRight kind s (n + 3)))
+
+pub fault-after-four : (kind : ℕ) (s : List ℕ) (k n : ℕ) → n + 4 ≤ k → (t : Bool) → t ≡ fourRight kind s n → not t ≡ false → faultFrom kind s k n ≡ faultFrom kind s k (n + 4)
+fault-after-four kind s k n l t g h =
+    let e = told-right t (fourRight kind s n) g h in
+    let all = all-four (blockRight kind s n) (blockRight kind s (n + 1)) (blockRight kind s (n + 2)) (blockRight kind s (n + 3)) e in
+    fault-next kind s k n (n + 1) refl (omega arith) (all .0)
+    ∙ fault-next kind s k (n + 1) (n + 2) (omega arith) (omega arith) (all .1)
+    ∙ fault-next kind s k (n + 2) (n + 3) (omega arith) (omega arith) (all .2)
+    ∙ fault-next kind s k (n + 3) (n + 4) (omega arith) (omega arith) (all .3)

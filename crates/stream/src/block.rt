@@ -2,9 +2,9 @@ ghost use mathlib.Core.Path.{_≡_};
 ghost use mathlib.Core.Bool.{_&&_};
 ghost use Prim.Native.Nat.{_+_, min, _≤_, _<_};
 ghost use lib.Dec.{eqb};
-ghost use lib.ListN.{length, getD};
+ghost use lib.ListN.{length, take, getD};
 ghost use Rattle.rules.specs.Records.{word};
-ghost use Rattle.rules.specs.Blocks.{word32, isKind, sound, blockPayload};
+ghost use Rattle.rules.specs.Blocks.{word32, isKind, fnvStart, fnv1a, sound, blockPayload};
 use crate::fnv::START;
 use crate::fnv::fnv1a;
 
@@ -40,9 +40,9 @@ pub(crate) fn is_kind(kind: u8) -> bool
     kind <= 3
 }
 
-// The kind, byte 3 and the check of a block; its number is left to the caller.
-pub(crate) fn is_sound(kind: u8, b: &[u8]) -> bool
-    requires { ⌜ 512 ≤ length (now b) ⌝ }
+// The kind, byte 3 and the check of a block, where the check that it should have is in hand; its number is left to the caller.
+pub(crate) fn is_sound_by(kind: u8, b: &[u8], check: u32) -> bool
+    requires { ⌜ (512 ≤ length (now b)) × (check ≡ fnv1a fnvStart (take 508 (now b))) ⌝ }
     ensures { λ r. ⌜ r ≡ sound kind (now (b .entry)) ⌝ }
 {
     if b[2] != kind {
@@ -51,7 +51,15 @@ pub(crate) fn is_sound(kind: u8, b: &[u8]) -> bool
     if b[3] != 0 {
         return false;
     }
-    word32_at(b, 508) == fnv1a(START, &b[0..508]) as usize
+    word32_at(b, 508) == check as usize
+}
+
+// The same of a block by itself.
+fn is_sound(kind: u8, b: &[u8]) -> bool
+    requires { ⌜ 512 ≤ length (now b) ⌝ }
+    ensures { λ r. ⌜ r ≡ sound kind (now (b .entry)) ⌝ }
+{
+    is_sound_by(kind, b, fnv1a(START, &b[0..508]))
 }
 
 // Whether a block by itself hands back its payload.

@@ -1,11 +1,15 @@
 ghost use mathlib.Core.Path.{_≡_};
-ghost use Prim.Native.Nat.{_+_, _*_, _≤_};
-ghost use lib.ListN.{length};
-ghost use Rattle.rules.specs.Blocks.{streamLength, blockRight, streamBlocks};
-ghost use Rattle.stream.specs.Fault.{faultOf};
+ghost use mathlib.Core.Bool.{_&&_};
+ghost use Prim.Native.Nat.{_+_, _*_, _/_, _≤_};
+ghost use lib.ListN.{length, take};
+ghost use Rattle.rules.specs.Blocks.{fnvStart, fnv1a, streamLength, block, blockRight, streamBlocks};
+ghost use Rattle.stream.specs.Fault.{faultOf, faultFrom};
 use crate::Fault;
-use crate::block::is_sound;
+use crate::block::is_sound_by;
 use crate::block::word_at;
+use crate::fnv::START;
+use crate::fnv::fnv1a;
+use crate::fnv::fnv1a_four;
 
 // Refusal 1 of a stream: its length.
 pub fn length_fault(s: &[u8]) -> Fault
@@ -24,9 +28,20 @@ pub fn length_fault(s: &[u8]) -> Fault
     Fault::Nowhere
 }
 
-// Refusal 2 of one block: its number, kind, byte 3 and check. A block past 65,535 never has its number, which is of 16 bits.
-fn is_right(kind: u8, s: &[u8], n: usize) -> bool
+// The bytes of block n that its check is made of.
+fn covered(s: &[u8], n: usize) -> &[u8]
     requires { ⌜ 512 * n + 512 ≤ length (now s) ⌝ }
+    ensures { λ r. ⌜ (now r ≡ take 508 (block (now (s .entry)) n)) × (length (now r) ≡ 508) ⌝ }
+{
+    let from = 512 * n;
+    let to = from + 508;
+    &s[from..to]
+}
+
+// Refusal 2 of one block, where the check that it should have is in hand: its number, kind, byte 3 and check. A block past 65,535 never has
+// its number, which is of 16 bits.
+fn is_right_by(kind: u8, s: &[u8], n: usize, check: u32) -> bool
+    requires { ⌜ (512 * n + 512 ≤ length (now s)) × (check ≡ fnv1a fnvStart (take 508 (block (now s) n))) ⌝ }
     ensures { λ r. ⌜ r ≡ blockRight kind (now (s .entry)) n ⌝ }
 {
     let from = 512 * n;
@@ -35,15 +50,46 @@ fn is_right(kind: u8, s: &[u8], n: usize) -> bool
     if word_at(b, 0) != n {
         return false;
     }
-    is_sound(kind, b)
+    is_sound_by(kind, b, check)
 }
 
-// Refusal 2 of a stream: the number of its first block that is not right.
-pub fn block_fault(kind: u8, s: &[u8]) -> Fault
-    ensures { λ r. ⌜ faultOf r ≡ streamBlocks kind (now (s .entry)) ⌝ }
+// Refusal 2 of one block.
+fn is_right(kind: u8, s: &[u8], n: usize) -> bool
+    requires { ⌜ 512 * n + 512 ≤ length (now s) ⌝ }
+    ensures { λ r. ⌜ r ≡ blockRight kind (now (s .entry)) n ⌝ }
+{
+    is_right_by(kind, s, n, fnv1a(START, covered(s, n)))
+}
+
+// Refusal 2 of four blocks in a row, whose checks are made at once.
+fn are_right(kind: u8, s: &[u8], n: usize) -> bool
+    requires { ⌜ 512 * n + 2048 ≤ length (now s) ⌝ }
+    ensures { λ r. ⌜ r ≡ (blockRight kind (now (s .entry)) n && (blockRight kind (now (s .entry)) (n + 1) && (blockRight kind (now (s .entry)) (n + 2) && blockRight kind (now (s .entry)) (n + 3)))) ⌝ }
+{
+    let checks = fnv1a_four(
+        covered(s, n),
+        covered(s, n + 1),
+        covered(s, n + 2),
+        covered(s, n + 3),
+    );
+    if !is_right_by(kind, s, n, checks.a) {
+        return false;
+    }
+    if !is_right_by(kind, s, n + 1, checks.b) {
+        return false;
+    }
+    if !is_right_by(kind, s, n + 2, checks.c) {
+        return false;
+    }
+    is_right_by(kind, s, n + 3, checks.d)
+}
+
+// Refusal 2 of the blocks from one on, each by itself.
+fn fault_from(kind: u8, s: &[u8], first: usize) -> Fault
+    ensures { λ r. ⌜ faultOf r ≡ faultFrom kind (now (s .entry)) (length (now (s .entry)) / 512) first ⌝ }
 {
     let blocks = s.len() / 512;
-    let mut n = 0;
+    let mut n = first;
     while n < blocks {
         if !is_right(kind, s, n) {
             return Fault::At(n);
@@ -51,4 +97,20 @@ pub fn block_fault(kind: u8, s: &[u8]) -> Fault
         n += 1;
     }
     Fault::Nowhere
+}
+
+// Refusal 2 of a stream: the number of its first block that is not right. Four at a time as long as they are right; the rest, or the four
+// among which one is wrong, one by one.
+pub fn block_fault(kind: u8, s: &[u8]) -> Fault
+    ensures { λ r. ⌜ faultOf r ≡ streamBlocks kind (now (s .entry)) ⌝ }
+{
+    let blocks = s.len() / 512;
+    let mut n = 0;
+    while n + 4 <= blocks {
+        if !are_right(kind, s, n) {
+            return fault_from(kind, s, n);
+        }
+        n += 4;
+    }
+    fault_from(kind, s, n)
 }

@@ -3,10 +3,10 @@ use Prim.Native.Nat.{_/_, _-_, _≤_}
 use mathlib.Core.Path.{_≡_, refl, sym, _∙_}
 use native.Mathlib.Nat.{sub-zero}
 use native.Mathlib.Omega.{arith}
-use borrow.Author.Tests.{not-true, not-false}
 use lib.ListN.{length}
 use Rattle.rules.specs.Blocks.{streamBlocks}
-use Rattle.stream.proofs.BlockLaws.{faultFrom, fault-later, fault-here, fault-none}
+use Rattle.stream.specs.Fault.{faultFrom}
+use Rattle.stream.proofs.BlockLaws.{fault-after-four}
 use borrow.Author.Needs.{needs}
 use Rattle.stream.proofs.blocks.block_fault.Statement.{statement}
 use Rattle.stream.proofs.blocks.block_fault.Tie as tie
@@ -21,11 +21,17 @@ loop-holds : tie.Need-loop-holds Inv-loop μ-loop
 unfolding streamBlocks
 loop-holds c = (omega arith, refl, rw sub-zero)
 
-is-right-requires : tie.Need-is-right-requires Inv-loop μ-loop
-is-right-requires c κs = search needs
+add-loop : tie.Need-add-loop Inv-loop μ-loop
+add-loop c = search needs
+
+are-right-requires : tie.Need-are-right-requires Inv-loop μ-loop
+are-right-requires c κs = search needs
+
+fault-from-requires : tie.Need-fault-from-requires Inv-loop μ-loop
+fault-from-requires c κs = search needs
 
 returns : tie.Need-returns Inv-loop μ-loop
-returns c = sym (fault-here _ _ _ _ (c .before .before .loop-test .taken) (sym (c .before .is-right .ensures) ∙ not-true _ (c .if1 .taken))) ∙ c .before .before .before .loop .inv .2
+returns c = c .fault-from .ensures ∙ c .before .before .before .before .loop .inv .2
 
 add-n : tie.Need-add-n Inv-loop μ-loop
 add-n c = search needs
@@ -34,10 +40,16 @@ loop-less : tie.Need-loop-less Inv-loop μ-loop
 loop-less c = search needs
 
 loop-again : tie.Need-loop-again Inv-loop μ-loop
-loop-again c = (omega arith, refl, sym (fault-later _ _ _ _ (c .before .before .loop-test .taken) (sym (c .before .is-right .ensures) ∙ not-false _ (c .if1 .left))) ∙ c .before .before .before .loop .inv .2)
+loop-again c =
+    let c1 = c .before in
+    let c2 = c1 .before in
+    (omega arith, refl, sym (fault-after-four _ _ _ _ (c2 .loop-test .taken) _ (c1 .are-right .ensures) (c .if1 .left)) ∙ c2 .before .loop .inv .2)
+
+fault-from-requires-2 : tie.Need-fault-from-requires-2 Inv-loop μ-loop
+fault-from-requires-2 c κs = search needs
 
 returns-2 : tie.Need-returns-2 Inv-loop μ-loop
-returns-2 c = sym (fault-none _ _ _ _ (c .loop-test .left)) ∙ c .before .loop .inv .2
+returns-2 c = c .fault-from2 .ensures ∙ c .before .before .loop .inv .2
 
 pub block-fault-spec : {M : Type 1} → statement M
 block-fault-spec =
@@ -46,9 +58,12 @@ block-fault-spec =
     Inv-loop
     μ-loop
     loop-holds
-    is-right-requires
+    add-loop
+    are-right-requires
+    fault-from-requires
     returns
     add-n
     loop-less
     loop-again
+    fault-from-requires-2
     returns-2)

@@ -1,57 +1,21 @@
--- The part that is judged is block n.
-use borrow.Author.Tests.{eq-eqb, ne-eqb}
-use Rattle.rules.specs.Blocks.{blockRight}
-use Rattle.stream.proofs.BlockLaws.{block-part}
+use mathlib.Core.Path.{ap, _∙_}
+use Rattle.rules.specs.Blocks.{fnvStart, fnv1a}
 use borrow.Author.Needs.{needs}
 use Rattle.stream.proofs.blocks.is_right.Statement.{statement}
 use Rattle.stream.proofs.blocks.is_right.Tie as tie
 
-mul-from : tie.Need-mul-from
-mul-from c = search needs
+covered-requires : tie.Need-covered-requires
+covered-requires c κs = search needs
 
-add-to : tie.Need-add-to
-add-to c = search needs
+fnv1a-requires : tie.Need-fnv1a-requires
+fnv1a-requires c κs = search needs
 
-sub-b : tie.Need-sub-b
-sub-b c = search needs
-
-part-b-start : tie.Need-part-b-start
-part-b-start c = search needs
-
-part-b-end : tie.Need-part-b-end
-part-b-end c = search needs
-
-word-at-requires : tie.Need-word-at-requires
-word-at-requires c κs = search needs
+is-right-by-requires : tie.Need-is-right-by-requires
+unfolding fnvStart
+is-right-by-requires c κs = (search needs, c .fnv1a .ensures ∙ ap (fnv1a fnvStart) (c .before .covered .ensures .0))
 
 returns : tie.Need-returns
-unfolding blockRight
-returns c =
-    let c1 = c .before in
-    let c4 = c1 .before .before .before in
-    rw (← block-part (c4 .args .s .now) (c4 .args .n), ← c1 .word-at .ensures .0, ne-eqb _ _ (c .if1 .taken))
-
-is-sound-requires : tie.Need-is-sound-requires
-is-sound-requires c κs = search needs
-
-returns-2 : tie.Need-returns-2
-unfolding blockRight
-returns-2 c =
-    let c1 = c .before in
-    let c2 = c1 .before in
-    let c5 = c2 .before .before .before in
-    rw (← block-part (c5 .args .s .now) (c5 .args .n), ← c2 .word-at .ensures .0, eq-eqb _ _ (c1 .if1 .left)) (c .is-sound .ensures)
+returns c = search needs
 
 pub is-right-spec : {M : Type 1} → statement M
-is-right-spec =
-    tie.close
-    (tie.spec
-    mul-from
-    add-to
-    sub-b
-    part-b-start
-    part-b-end
-    word-at-requires
-    returns
-    is-sound-requires
-    returns-2)
+is-right-spec = tie.close (tie.spec covered-requires fnv1a-requires is-right-by-requires returns)

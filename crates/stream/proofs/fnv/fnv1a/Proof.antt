@@ -1,10 +1,10 @@
 -- What is left to hash, from the present value, is the hash of the whole.
-use Prim.Native.Nat.{ℕ, _+_, _-_, _≤_}
-use mathlib.Core.Path.{_≡_, refl, ap, sym, _∙_}
+use Prim.Native.Nat.{_-_, _≤_}
+use mathlib.Core.Path.{_≡_, refl}
 use native.Mathlib.Omega.{arith}
 use lib.ListN.{length, drop}
 use Rattle.rules.specs.Blocks.{fnv1a}
-use Rattle.stream.proofs.FnvLaws.{fnv-turn, fnv-end}
+use Rattle.stream.proofs.FnvLaws.{fnv-next, fnv-done}
 use borrow.Author.Needs.{needs}
 use Rattle.stream.proofs.fnv.fnv1a.Statement.{statement}
 use Rattle.stream.proofs.fnv.fnv1a.Tie as tie
@@ -18,14 +18,11 @@ abbrev μ-loop : tie.MeasureT-loop
 loop-holds : tie.Need-loop-holds Inv-loop μ-loop
 loop-holds c = (omega arith, refl)
 
-shared-slice-read-multiply : tie.Need-shared-slice-read-multiply Inv-loop μ-loop
-shared-slice-read-multiply c = search needs
+shared-slice-read-step : tie.Need-shared-slice-read-step Inv-loop μ-loop
+shared-slice-read-step c = search needs
 
-cast-multiply : tie.Need-cast-multiply Inv-loop μ-loop
-cast-multiply c = omega (arith, c .shared-slice-known2 .given (c .before .before .loop .i))
-
-multiply-requires : tie.Need-multiply-requires Inv-loop μ-loop
-multiply-requires c κs = search needs
+step-requires : tie.Need-step-requires Inv-loop μ-loop
+step-requires c κs = search needs
 
 add-i : tie.Need-add-i Inv-loop μ-loop
 add-i c = search needs
@@ -34,13 +31,10 @@ loop-less : tie.Need-loop-less Inv-loop μ-loop
 loop-less c = search needs
 
 loop-again : tie.Need-loop-again Inv-loop μ-loop
-loop-again c = (
-  omega arith,
-  ap (λ (h : ℕ). fnv1a h (drop (c .before .before .before .loop .i + 1) (c .before .before .before .before .before .args .s .now))) (c .multiply .ensures) ∙ fnv-turn _ _ _ (c .before .before .loop-test .taken) ∙ c .before .before .before .loop .inv .1,
-)
+loop-again c = (omega arith, fnv-next _ _ refl _ _ _ (c .before .before .before .loop .inv .1) _ (c .before .before .loop-test .taken) (c .step .ensures))
 
 returns : tie.Need-returns Inv-loop μ-loop
-returns c = sym (fnv-end _ _ _ (c .loop-test .left)) ∙ c .before .loop .inv .1
+returns c = fnv-done _ _ refl _ _ _ (c .before .loop .inv .1) (c .loop-test .left)
 
 pub fnv1a-spec : {M : Type 1} → statement M
 fnv1a-spec =
@@ -49,9 +43,8 @@ fnv1a-spec =
     Inv-loop
     μ-loop
     loop-holds
-    shared-slice-read-multiply
-    cast-multiply
-    multiply-requires
+    shared-slice-read-step
+    step-requires
     add-i
     loop-less
     loop-again
