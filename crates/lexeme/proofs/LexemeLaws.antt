@@ -5,8 +5,9 @@ use mathlib.Core.List.{List, _++_}
 use mathlib.Core.Bool.{Bool, true, false, and-true}
 use mathlib.Core.Option.{some}
 use native.Mathlib.Omega.{arith}
+use native.Mathlib.Nat.{zero-add}
 use lib.ListN.{length, getD, take, drop, length-take, length-drop, List·getD-eq-default}
-use lib.Seq.{getD-take, getD-drop}
+use lib.Seq.{getD-take, getD-drop, drop-length}
 use lib.Dec.{leb, ltb}
 use borrow.Author.Tests.{le-leb, ne-eqb, ltb-true, ltb-false}
 use Rattle.rules.specs.Records.{fieldB, fieldC}
@@ -16,6 +17,7 @@ use Rattle.stream.specs.declared.text.Text.{Text}
 use Rattle.stream.specs.Text.{textIn, payloadFrom, room, partOf, Rest}
 use Rattle.lexeme.specs.declared.scan.Scan.{Scan}
 use Rattle.lexeme.specs.Sets.{ClassSet, setOf, Ready}
+use Rattle.lexeme.specs.Runs.{Ran}
 use Rattle.lexeme.specs.Scan.{midway, clean, scanned, Tidy}
 use Rattle.lexeme.proofs.ScanLaws.{passes, scanned-append, lexeme-scan, lexeme-none}
 use Rattle.lexeme.proofs.PartLaws.{tidy-scanned, passes-bad, passes-past}
@@ -95,6 +97,24 @@ module _ (g : List ℕ) (p : ℕ) (s : List ℕ) (t : Text) (state : Scan) (rest
   pub read-whole : state .due ≡ 0 → leb (fieldB g p) (state .count) ≡ verdict g p s t
   unfolding passes
   read-whole d = sym (ap (passes g p) whole ∙ rw (h .tidy .good, d, le-leb (state .count) (fieldC g p) (h .most)) (and-true (leb (fieldB g p) (state .count))))
+
+-- one run, from the beginning of a text to its end
+module _ (g : List ℕ) (p : ℕ) (set₁ s part : List ℕ) (t rest : Text) (r : ClassSet g p set₁) (to n : ℕ) (h : Ran set₁ part 0 to n) (l : length part ≤ to)
+    (q : part ≡ partOf s t) (f : Rest s t rest) where
+  ran-whole : clean n ≡ scanned g (ranges g p) (clean 0) part
+  unfolding scanned
+  ran-whole =
+      let e : to ≡ length part = omega (arith, h .inside) in
+      sym (h .same g p r 0 ∙ rw (e, drop-length, zero-add))
+
+  pub run-past : fieldC g p < n → false ≡ passes g p (scanned g (ranges g p) (clean 0) (textIn s t))
+  unfolding clean midway
+  run-past m = read-past g p s t (clean 0) (clean n) t rest part (read-start g p s t (clean 0) refl) q ran-whole f m
+
+  pub run-whole : ((k : ℕ) → getD s k 0 < 256) → n ≤ fieldC g p → rest .left ≡ 0 → leb (fieldB g p) n ≡ passes g p (scanned g (ranges g p) (clean 0) (textIn s t))
+  unfolding clean midway
+  run-whole b m z =
+      read-whole g p s t (clean n) rest (read-turn g p s t (clean 0) (clean n) t rest part (read-start g p s t (clean 0) refl) q ran-whole f b refl m) (omega arith) refl
 
 -- by the class's number
 pub set-room : (g list words : List ℕ) (n : ℕ) → Ready g list words → n < length list → 32 * n + 32 ≤ length words

@@ -6,6 +6,7 @@ ghost use Rattle.rules.specs.Records.{fieldD};
 ghost use Rattle.rules.specs.Lexeme.{within, ranges, inSome};
 ghost use Rattle.lexeme.specs.Sets.{ClassSet};
 ghost use Rattle.lexeme.specs.Ranges.{RangeAt};
+use crate::hints::area;
 use crate::hints::guess;
 use crate::sets::has;
 use stream::record::fetch;
@@ -72,23 +73,26 @@ fn is_kth(g: &[u8], p: u16, k: usize, x: usize) -> bool
 }
 
 // First where a hint says, then everywhere. Only a code point of no range, or a table with no room for hints, costs more than the search for a hint.
-pub fn in_ranges(g: &[u8], p: u16, hints: &[u64], x: usize) -> bool
+pub fn in_ranges(g: &[u8], p: u16, table: &[u64], x: usize) -> bool
     ensures { λ r. ⌜ r ≡ inSome (now (g .entry)) (ranges (now (g .entry)) p) x ⌝ }
 {
-    if 0 < hints.len() {
-        if is_kth(g, p, guess(hints, x), x) {
+    let a = area(g, p, table.len());
+    let from = a.from;
+    let to = a.to;
+    if from < to {
+        if is_kth(g, p, guess(&table[from..to], x), x) {
             return true;
         }
     }
     search(g, p, x)
 }
 
-pub fn in_class(g: &[u8], p: u16, set: &[u64], hints: &[u64], x: usize) -> bool
+pub fn in_class(g: &[u8], p: u16, set: &[u64], table: &[u64], x: usize) -> bool
     requires { ⌜ ClassSet (now g) p (now set) ⌝ }
     ensures { λ r. ⌜ r ≡ inSome (now (g .entry)) (ranges (now (g .entry)) p) x ⌝ }
 {
     if x < 2048 {
         return has(set[x / 64], x);
     }
-    in_ranges(g, p, hints, x)
+    in_ranges(g, p, table, x)
 }

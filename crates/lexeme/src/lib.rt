@@ -14,7 +14,7 @@ pub mod runs;
 pub mod scan;
 pub mod sets;
 
-use hints::area;
+use runs::run_from;
 use scan::between;
 use scan::scan_part;
 use stream::record::fetch;
@@ -25,7 +25,7 @@ use stream::text::text_rest;
 
 // Whether a text is a lexeme of the class whose record is at p, by its number c. It is read where it lies, block by block, up to the part that
 // settles it.
-pub fn admits_text(g: &[u8], p: u16, set: &[u64], hints: &[u64], s: &[u8], t: Text) -> bool
+fn admits_parts(g: &[u8], p: u16, set: &[u64], table: &[u64], s: &[u8], t: Text) -> bool
     requires { ⌜ ClassSet (now g) p (now set) ⌝ }
     ensures { λ r. ⌜ ((c : ℕ) → class (now (g .entry)) c ≡ some p → r ≡ isLexeme (now (g .entry)) c (textIn (now (s .entry)) t)) ⌝ }
 {
@@ -37,7 +37,7 @@ pub fn admits_text(g: &[u8], p: u16, set: &[u64], hints: &[u64], s: &[u8], t: Te
     while 0 < rest.left {
         let part = text_part(s, rest);
         rest = text_rest(s, rest);
-        state = scan_part(g, p, set, hints, part, state);
+        state = scan_part(g, p, set, table, part, state);
         if !state.good {
             return false;
         }
@@ -51,20 +51,44 @@ pub fn admits_text(g: &[u8], p: u16, set: &[u64], hints: &[u64], s: &[u8], t: Te
     least <= state.count
 }
 
-// Whether the text of the head at record i of s is a lexeme of class c. There are no lexemes of a class that doesn't exist.
-pub fn is_lexeme(g: &[u8], classes: &[u16], sets: &[u64], c: u16, s: &[u8], i: usize) -> bool
+// The same. Most texts lie in one block and have no character of more than two bytes: one run settles them, and no state is carried.
+pub fn admits_text(g: &[u8], p: u16, set: &[u64], table: &[u64], s: &[u8], t: Text) -> bool
+    requires { ⌜ ClassSet (now g) p (now set) ⌝ }
+    ensures { λ r. ⌜ ((c : ℕ) → class (now (g .entry)) c ≡ some p → r ≡ isLexeme (now (g .entry)) c (textIn (now (s .entry)) t)) ⌝ }
+{
+    let part = text_part(s, t);
+    let rest = text_rest(s, t);
+    if rest.left == 0 {
+        let run = run_from(part, 0, set);
+        if part.len() <= run.at {
+            let head = fetch(g, p as usize);
+            if (head.c as usize) < run.count {
+                return false;
+            }
+            return head.b as usize <= run.count;
+        }
+    }
+    admits_parts(g, p, set, table, s, t)
+}
+
+// Whether a text is a lexeme of class c. There are no lexemes of a class that doesn't exist.
+pub fn admits(g: &[u8], classes: &[u16], sets: &[u64], c: u16, s: &[u8], t: Text) -> bool
     requires { ⌜ Ready (now g) (now classes) (now sets) ⌝ }
-    ensures { λ r. ⌜ r ≡ isLexeme (now (g .entry)) c (textOf (now (s .entry)) i) ⌝ }
+    ensures { λ r. ⌜ r ≡ isLexeme (now (g .entry)) c (textIn (now (s .entry)) t) ⌝ }
 {
     let n = c as usize;
     if classes.len() <= n {
         return false;
     }
-    let p = classes[n];
-    let a = area(g, p, sets.len());
-    let low = a.from;
-    let high = a.to;
     let from = 32 * n;
     let to = from + 32;
-    admits_text(g, p, &sets[from..to], &sets[low..high], s, text_of(s, i))
+    admits_text(g, classes[n], &sets[from..to], sets, s, t)
+}
+
+// Whether the text of the head at record i of s is a lexeme of class c.
+pub fn is_lexeme(g: &[u8], classes: &[u16], sets: &[u64], c: u16, s: &[u8], i: usize) -> bool
+    requires { ⌜ Ready (now g) (now classes) (now sets) ⌝ }
+    ensures { λ r. ⌜ r ≡ isLexeme (now (g .entry)) c (textOf (now (s .entry)) i) ⌝ }
+{
+    admits(g, classes, sets, c, s, text_of(s, i))
 }

@@ -124,7 +124,7 @@ fn first(g: &[u8], p: u16, set: &[u64], count: usize, b: usize) -> Scan
 }
 
 // A later byte of a character brings six bits.
-fn later(g: &[u8], p: u16, set: &[u64], hints: &[u64], s: Scan, b: usize) -> Scan
+fn later(g: &[u8], p: u16, set: &[u64], table: &[u64], s: Scan, b: usize) -> Scan
     requires { ⌜ Steps (now g) p (now set) s b ⌝ }
     requires { ⌜ 0 < s .due ⌝ }
     ensures { λ r. ⌜ r ≡ seen (now (g .entry)) (ranges (now (g .entry)) p) s b ⌝ }
@@ -137,20 +137,20 @@ fn later(g: &[u8], p: u16, set: &[u64], hints: &[u64], s: Scan, b: usize) -> Sca
     }
     let bits = s.bits * 64 + (b - 0x80);
     if s.due == 1 {
-        return judge(in_class(g, p, set, hints, bits), s.count);
+        return judge(in_class(g, p, set, table, bits), s.count);
     }
     inside(s.count, s.due - 1, 0x80, 0xbf, bits)
 }
 
 // A byte more.
-fn step(g: &[u8], p: u16, set: &[u64], hints: &[u64], s: Scan, b: usize) -> Scan
+fn step(g: &[u8], p: u16, set: &[u64], table: &[u64], s: Scan, b: usize) -> Scan
     requires { ⌜ Steps (now g) p (now set) s b ⌝ }
     ensures { λ r. ⌜ r ≡ seen (now (g .entry)) (ranges (now (g .entry)) p) s b ⌝ }
 {
     if s.due == 0 {
         return first(g, p, set, s.count, b);
     }
-    later(g, p, set, hints, s, b)
+    later(g, p, set, table, s, b)
 }
 
 // How far the hot loops get from here. They begin between two characters; a byte that begins a character of three or four isn't for them.
@@ -183,7 +183,7 @@ fn count_on(s: Scan, more: usize) -> Scan
 
 // One part of a text, from the state that the part before it left. Runs of characters of one and two bytes go through the hot loops; what they
 // leave, longer characters and the borders of blocks, goes byte by byte.
-pub fn scan_part(g: &[u8], p: u16, set: &[u64], hints: &[u64], part: &[u8], start: Scan) -> Scan
+pub fn scan_part(g: &[u8], p: u16, set: &[u64], table: &[u64], part: &[u8], start: Scan) -> Scan
     requires { ⌜ Scans (now g) p (now set) start ⌝ }
     ensures { λ r. ⌜ r ≡ scanned (now (g .entry)) (ranges (now (g .entry)) p) start (now (part .entry)) ⌝ }
 {
@@ -196,7 +196,7 @@ pub fn scan_part(g: &[u8], p: u16, set: &[u64], hints: &[u64], part: &[u8], star
         if part.len() <= at {
             return here;
         }
-        s = step(g, p, set, hints, here, wide(part[at]));
+        s = step(g, p, set, table, here, wide(part[at]));
         if !s.good {
             return s;
         }

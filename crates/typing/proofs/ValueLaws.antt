@@ -20,7 +20,9 @@ use Rattle.stream.specs.Fault.{faultOf}
 use Rattle.stream.specs.Record.{Fetched}
 use Rattle.stream.specs.declared.Fault.{Fault}
 use Rattle.stream.specs.declared.Fault.the-variants.{At, Nowhere}
+use Rattle.stream.specs.Text.{textIn, textAfter, Begins}
 use Rattle.stream.specs.declared.record.Record.{Record}
+use Rattle.stream.specs.declared.text.Text.{Text as StreamText}
 use Rattle.typing.specs.Answers.{kindForm, childCount, childType, sizeIn, typedRow}
 use Rattle.typing.specs.declared.Kind.{Kind}
 use Rattle.typing.specs.declared.Kind.the-variants.{Text, YesNo, Items, Fields, Missing}
@@ -50,9 +52,14 @@ length-heads size zero p = refl
 length-heads size (suc n) p = ap suc (length-heads size n (p + size p))
 
 module _ (g v t : List ℕ) (w : ℕ) (r : Record) (f : Fetched v w r) where
-  pub text-is : (c : ℕ) → r .kind ≡ 1 → isLexeme g c (textOf v w) ≡ hasForm g v (kindForm t (Text c)) w
+  text-is : (c : ℕ) → r .kind ≡ 1 → isLexeme g c (textOf v w) ≡ hasForm g v (kindForm t (Text c)) w
   unfolding hasForm asText onFound onlyIf
   text-is c h = sym (rw (eq-eqb _ _ (sym (f .kind) ∙ h)))
+
+  -- the same of the text as it was read
+  pub text-read : (c : ℕ) (x : StreamText) → Begins v (textAfter v w (r .b)) (r .b) x → r .kind ≡ 1 → isLexeme g c (textIn v x) ≡ hasForm g v (kindForm t (Text c)) w
+  unfolding textOf textAfter
+  text-read c x b h = ap (isLexeme g c) (b .text ∙ ap (textAfter v w) (f .b)) ∙ text-is c h
 
   pub text-other : (c : ℕ) → (r .kind ≡ 1 → ⊥) → false ≡ hasForm g v (kindForm t (Text c)) w
   unfolding hasForm asText onFound onlyIf

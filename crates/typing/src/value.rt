@@ -14,10 +14,11 @@ use crate::Found;
 use crate::Kind;
 use crate::kinds::type_of;
 use crate::templates::declared_type;
-use lexeme::is_lexeme;
+use lexeme::admits;
 use stream::Fault;
 use stream::record::Record;
 use stream::record::fetch;
+use stream::text::text_after;
 
 // Whether the value at w, whose record is r, is of a kind, whatever stands below it.
 fn has_form(
@@ -35,7 +36,7 @@ fn has_form(
     match kind {
         Kind::Text(c) => {
             if r.kind == 1 {
-                is_lexeme(g, classes, sets, c, v, w)
+                admits(g, classes, sets, c, v, text_after(v, w, r.b as usize))
             } else {
                 false
             }

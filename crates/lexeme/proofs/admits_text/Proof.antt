@@ -1,75 +1,49 @@
-use native.Mathlib.Omega.{arith}
-use borrow.Author.Tests.{not-true, not-false}
-use Rattle.lexeme.proofs.LexemeLaws.{by-scan, Reading, read-start, read-turn, read-bad, read-past, read-short, read-whole}
+use Rattle.lexeme.proofs.LexemeLaws.{by-scan, run-past, run-whole}
 use borrow.Author.Needs.{needs}
 use Rattle.lexeme.proofs.admits_text.Statement.{statement}
 use Rattle.lexeme.proofs.admits_text.Tie as tie
 
-abbrev Inv-loop : tie.InvT-loop
-Inv-loop g p set hints s least most state₀ rest₀ state rest = Reading g p s rest₀ state rest
-
-abbrev μ-loop : tie.MeasureT-loop
-μ-loop g p set hints s least most state₀ rest₀ state rest = rest .left
-
-fetch-requires : tie.Need-fetch-requires Inv-loop μ-loop
-fetch-requires c κs = search needs
-
-cast-least : tie.Need-cast-least Inv-loop μ-loop
-cast-least c = search needs
-
-cast-most : tie.Need-cast-most Inv-loop μ-loop
-cast-most c = search needs
-
-between-requires : tie.Need-between-requires Inv-loop μ-loop
-between-requires c κs = search needs
-
-loop-holds : tie.Need-loop-holds Inv-loop μ-loop
-loop-holds c = read-start _ _ _ _ _ (c .between .ensures)
-
-text-part-requires : tie.Need-text-part-requires Inv-loop μ-loop
+text-part-requires : tie.Need-text-part-requires
 text-part-requires c κs = search needs
 
-text-rest-requires : tie.Need-text-rest-requires Inv-loop μ-loop
+text-rest-requires : tie.Need-text-rest-requires
 text-rest-requires c κs = search needs
 
-scan-part-requires : tie.Need-scan-part-requires Inv-loop μ-loop
-scan-part-requires c κs = record { class = c .before .before .before .before .before .before .before .before .before .before .before .before .before .pre; state = c .before .before .before .before .loop .inv .tidy; room = omega (arith, c .before .before .before .before .loop .inv .most, c .before .before .before .before .before .before .before .before .fetch .ensures .c, c .before .before .before .before .before .before .struct-known2 .given) }
+run-from-requires : tie.Need-run-from-requires
+run-from-requires c κs = search needs
 
-returns : tie.Need-returns Inv-loop μ-loop
-returns c = by-scan _ _ _ _ _ (read-bad _ _ _ _ _ _ _ _ _ (c .before .before .before .before .before .before .before .loop .inv) (c .before .before .before .before .text-part .ensures) (c .before .before .scan-part .ensures) (c .before .before .before .text-rest .ensures) (not-true _ (c .if2 .taken)))
+fetch-requires : tie.Need-fetch-requires
+fetch-requires c κs = search needs
 
-returns-2 : tie.Need-returns-2 Inv-loop μ-loop
-returns-2 c = by-scan _ _ _ _ _ (read-past _ _ _ _ _ _ _ _ _ (c .before .before .before .before .before .before .before .before .before .loop .inv) (c .before .before .before .before .before .before .text-part .ensures) (c .before .before .before .before .scan-part .ensures) (c .before .before .before .before .before .text-rest .ensures) (rw (c .before .before .before .before .before .before .before .before .before .before .before .before .before .fetch .ensures .c) at (c .if3 .taken)))
+cast-if3 : tie.Need-cast-if3
+cast-if3 c = search needs
 
-loop-less : tie.Need-loop-less Inv-loop μ-loop
-loop-less c = c .before .before .before .before .before .text-rest .ensures .falls (c .before .before .before .before .before .before .before .if1 .taken)
+returns : tie.Need-returns
+returns c = by-scan _ _ _ _ _ (run-past _ _ _ _ _ _ _ (c .before .before .before .before .before .before .before .before .before .before .before .before .before .before .before .pre) _ _ (c .before .before .before .before .before .before .run-from .ensures) (c .before .before .before .before .if2 .taken) (c .before .before .before .before .before .before .before .before .before .before .text-part .ensures) (c .before .before .before .before .before .before .before .before .before .text-rest .ensures) (rw (c .before .before .before .fetch .ensures .c) at (c .if3 .taken)))
 
-loop-again : tie.Need-loop-again Inv-loop μ-loop
-loop-again c = read-turn _ _ _ _ _ _ _ _ _ (c .before .before .before .before .before .before .before .before .before .loop .inv) (c .before .before .before .before .before .before .text-part .ensures) (c .before .before .before .before .scan-part .ensures) (c .before .before .before .before .before .text-rest .ensures) (λ k. c .before .before .before .before .before .before .before .before .before .before .before .before .before .before .shared-slice-known4 .given k .fits) (not-false _ (c .before .before .if2 .left)) (rw (c .before .before .before .before .before .before .before .before .before .before .before .before .before .fetch .ensures .c) at (c .if3 .left))
+cast-result : tie.Need-cast-result
+cast-result c = search needs
 
-returns-3 : tie.Need-returns-3 Inv-loop μ-loop
-returns-3 c = by-scan _ _ _ _ _ (read-short _ _ _ _ _ _ (c .before .before .before .before .loop .inv) (c .before .before .if1 .left) (c .if4 .taken))
+returns-2 : tie.Need-returns-2
+returns-2 c = by-scan _ _ _ _ _ (rw (c .before .before .before .before .before .fetch .ensures .b) (run-whole _ _ _ _ _ _ _ (c .before .before .before .before .before .before .before .before .before .before .before .before .before .before .before .before .before .pre) _ _ (c .before .before .before .before .before .before .before .before .run-from .ensures) (c .before .before .before .before .before .before .if2 .taken) (c .before .before .before .before .before .before .before .before .before .before .before .before .text-part .ensures) (c .before .before .before .before .before .before .before .before .before .before .before .text-rest .ensures) (λ k. c .before .before .before .before .before .before .before .before .before .before .before .before .before .shared-slice-known4 .given k .fits) (rw (c .before .before .before .before .before .fetch .ensures .c) at (c .before .before .if3 .left)) (c .before .before .before .before .before .before .before .before .before .if1 .taken)))
 
-returns-4 : tie.Need-returns-4 Inv-loop μ-loop
-returns-4 c = by-scan _ _ _ _ _ (rw (c .before .before .before .before .before .before .before .before .before .fetch .ensures .b) (read-whole _ _ _ _ _ _ (c .before .before .before .before .before .loop .inv) (c .before .before .before .if1 .left) (c .before .if4 .left)))
+admits-parts-requires : tie.Need-admits-parts-requires
+admits-parts-requires c κs = search needs
+
+returns-3 : tie.Need-returns-3
+returns-3 c = search needs
 
 pub admits-text-spec : {M : Type 1} → statement M
 admits-text-spec =
     tie.close
     (tie.spec
-    Inv-loop
-    μ-loop
-    fetch-requires
-    cast-least
-    cast-most
-    between-requires
-    loop-holds
     text-part-requires
     text-rest-requires
-    scan-part-requires
+    run-from-requires
+    fetch-requires
+    cast-if3
     returns
+    cast-result
     returns-2
-    loop-less
-    loop-again
-    returns-3
-    returns-4)
+    admits-parts-requires
+    returns-3)

@@ -9,10 +9,10 @@ use Rattle.lexeme.proofs.scan.scan_part.Statement.{statement}
 use Rattle.lexeme.proofs.scan.scan_part.Tie as tie
 
 abbrev Inv-loop : tie.InvT-loop
-Inv-loop g p set hints part s₀ i₀ s i = Scanning g (ranges g p) part s₀ s i
+Inv-loop g p set table part s₀ i₀ s i = Scanning g (ranges g p) part s₀ s i
 
 abbrev μ-loop : tie.MeasureT-loop
-μ-loop g p set hints part s₀ i₀ s i = length part - i
+μ-loop g p set table part s₀ i₀ s i = length part - i
 
 loop-holds : tie.Need-loop-holds Inv-loop μ-loop
 loop-holds c = scan-start _ _ _ _ (c .before .before .before .before .pre .state)
