@@ -3,12 +3,12 @@ ghost use mathlib.Core.Path.{_≡_};
 ghost use Rattle.walk.specs.Run.{runOf};
 
 // How a run has come out so far: its number is 0 while it goes on; 10, 11 or 12 where a limit ended it, at the node at `place`; 99 where it
-// is stuck. `bytes` of the output are written.
+// is stuck. `bytes` of the output are written. The order of the fields leaves no gap between them: a run is copied at every return.
 pub struct Run {
-    pub number: u8,
     pub place: usize,
-    pub steps: u32,
     pub bytes: usize,
+    pub steps: u32,
+    pub number: u32,
 }
 
 // A node to visit: its place; its variables, `vars` numbers of the scratch from `base` on; the levels that are left for it and what is below
@@ -30,7 +30,7 @@ pub enum Found {
 }
 
 // A run that ends with a number, at a node.
-pub fn ended(number: u8, node: usize, steps: u32, bytes: usize) -> Run
+pub fn ended(number: u32, node: usize, steps: u32, bytes: usize) -> Run
     ensures { λ r. ⌜ r ≡ runOf number node steps bytes ⌝ }
 {
     Run {
