@@ -20,7 +20,7 @@ use stream::Fault;
 use typing::templates::templates_typing;
 
 // Whether 1,024 words have room for the sets of so many classes, and for hints to all ranges that the grammar could have.
-pub fn is_small(g: &[u8], classes: usize) -> bool
+pub(crate) fn is_small(g: &[u8], classes: usize) -> bool
     requires { ⌜ classes ≤ 256 ⌝ }
     ensures { λ r. ⌜ (r ≡ true → 32 * classes ≤ 1024) ⌝ }
 {
@@ -47,7 +47,7 @@ fn judge_names(
 
 // `value` is what refusal 4 says of the value that comes with them. The class sets are compiled on the way, for the texts of the templates and
 // of the value.
-pub fn judge_set(
+pub(crate) fn judge_set(
     g: &[u8],
     t: &[u8],
     value: Fault,

@@ -15,7 +15,7 @@ use stream::blocks::block_fault;
 use stream::blocks::length_fault;
 
 // Of a grammar and a template set.
-pub fn judge_two(g: &[u8], t: &[u8]) -> Verdict
+pub(crate) fn judge_two(g: &[u8], t: &[u8]) -> Verdict
     ensures { λ r. ⌜ verdictOf r ≡ streamsRefusal (grammar (now (g .entry)) ∷ templates (now (t .entry)) ∷ []) accept ⌝ }
 {
     if let Offence::In(kind, place) = first(length_fault(g), length_fault(t), Fault::Nowhere) {
@@ -33,7 +33,7 @@ pub fn judge_two(g: &[u8], t: &[u8]) -> Verdict
 }
 
 // Of these and a value.
-pub fn judge_all(g: &[u8], t: &[u8], v: &[u8]) -> Verdict
+pub(crate) fn judge_all(g: &[u8], t: &[u8], v: &[u8]) -> Verdict
     ensures { λ r. ⌜ verdictOf r ≡ streamsRefusal (grammar (now (g .entry)) ∷ templates (now (t .entry)) ∷ value (now (v .entry)) ∷ []) accept ⌝ }
 {
     if let Offence::In(kind, place) = first(length_fault(g), length_fault(t), length_fault(v)) {

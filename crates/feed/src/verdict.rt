@@ -21,14 +21,14 @@ pub enum Verdict {
 }
 
 // A test that fails at place 0.
-pub fn at_first(right: bool) -> Fault
+pub(crate) fn at_first(right: bool) -> Fault
     ensures { λ r. ⌜ faultOf r ≡ need right 0 ⌝ }
 {
     if right { Fault::Nowhere } else { Fault::At(0) }
 }
 
 // The first of the grammar's fault, the templates' and the value's.
-pub fn first(g: Fault, t: Fault, v: Fault) -> Offence
+pub(crate) fn first(g: Fault, t: Fault, v: Fault) -> Offence
     ensures { λ r. ⌜ offenceOf r ≡ firstOf (faultOf g) (faultOf t) (faultOf v) ⌝ }
 {
     if let Fault::At(place) = g {
@@ -44,7 +44,7 @@ pub fn first(g: Fault, t: Fault, v: Fault) -> Offence
 }
 
 // A refusal by 1 to 9: steps and bytes are 0.
-pub fn refused(number: u8, kind: u8, place: usize) -> Answer
+pub(crate) fn refused(number: u8, kind: u8, place: usize) -> Answer
     ensures { λ r. ⌜ r ≡ answer number kind place 0 0 ⌝ }
 {
     Answer {
@@ -57,7 +57,7 @@ pub fn refused(number: u8, kind: u8, place: usize) -> Answer
 }
 
 // Five zeros.
-pub fn accepted() -> Answer
+pub(crate) fn accepted() -> Answer
     ensures { λ r. ⌜ r ≡ answer 0 0 0 0 0 ⌝ }
 {
     Answer {
@@ -70,7 +70,7 @@ pub fn accepted() -> Answer
 }
 
 // The answer of a run: kind and place are 0 when it finished, and else those of the node that it ended at.
-pub fn ended(r: Run) -> Answer
+pub(crate) fn ended(r: Run) -> Answer
     ensures { λ a. ⌜ a ≡ runAnswer r ⌝ }
 {
     if r.number == 0 {
