@@ -1,0 +1,150 @@
+//! The file that the program reads. Its format is described where it is read, in
+//! crates/vectors/src/main.rt: pieces that are put into three streams, which keep their bytes from
+//! case to case, and calls.
+
+use crate::case::{Call, Case};
+use std::ops::Range;
+
+/// The bytes that each stream has room for.
+const ROOM: usize = 66_048;
+
+/// A run shorter than this is cheaper as the bytes that it is.
+const SHORTEST_RUN: usize = 32;
+
+/// A call as the file says it: its number, the number that it is given, what it is lent.
+struct Asked<'a> {
+    call: u32,
+    number: u32,
+    streams: [&'a [u8]; 3],
+    room: usize,
+    numbers: usize,
+}
+
+/// The file of these cases.
+///
+/// # Panics
+/// A stream of more bytes than the program has room for, or a label of more than 255.
+#[must_use]
+pub fn file(cases: &[Case]) -> Vec<u8> {
+    let mut writer = Writer {
+        file: Vec::new(),
+        streams: [(); 3].map(|()| vec![0; ROOM]),
+    };
+    cases.iter().for_each(|case| writer.case(case));
+    writer.file
+}
+
+/// The file so far, and what the program's streams then hold.
+struct Writer {
+    file: Vec<u8>,
+    streams: [Vec<u8>; 3],
+}
+
+impl Writer {
+    fn case(&mut self, case: &Case) {
+        let asked = asked(&case.call);
+        for (at, stream) in asked.streams.iter().enumerate() {
+            self.put(at, stream);
+        }
+        let label = case.label.as_bytes();
+        assert!(label.len() < 256, "a label of at most 255 bytes");
+        let [g, t, v] = asked.streams.map(<[u8]>::len);
+        let (call, number) = (asked.call as usize, asked.number as usize);
+        let head = [
+            call,
+            label.len(),
+            number,
+            g,
+            t,
+            v,
+            asked.room,
+            asked.numbers,
+        ];
+        self.part(head, label);
+    }
+
+    /// The pieces of a stream that it does not hold yet.
+    fn put(&mut self, stream: usize, bytes: &[u8]) {
+        for (literal, run) in pieces(bytes) {
+            let held = &mut self.streams[stream][literal.start..run.end];
+            let piece = &bytes[literal.start..run.end];
+            if held == piece {
+                continue;
+            }
+            held.copy_from_slice(piece);
+            let (first, step) = progression(&bytes[run.clone()]);
+            let (at, count) = (literal.start, literal.len());
+            let head = [stream + 1, at, count, run.len(), first, step, 0, 0];
+            self.part(head, &bytes[literal]);
+        }
+    }
+
+    /// A head of eight numbers of 32 bits, and the bytes after it.
+    fn part(&mut self, head: [usize; 8], bytes: &[u8]) {
+        for number in head {
+            let number = u32::try_from(number).expect("a number of 32 bits");
+            self.file.extend(number.to_le_bytes());
+        }
+        self.file.extend(bytes);
+    }
+}
+
+fn asked(call: &Call) -> Asked<'_> {
+    let of = |call, number: u8, bytes, room| Asked {
+        call,
+        number: number.into(),
+        streams: [bytes, &[], &[]],
+        room,
+        numbers: 0,
+    };
+    match call {
+        Call::Fnv1a(bytes) => of(10, 0, bytes, 0),
+        Call::BlockPayload(block) => of(11, 0, block, 0),
+        Call::Pack(kind, payload, room) => of(12, *kind, payload, *room),
+        Call::Unpack(kind, stream, room) => of(13, *kind, stream, *room),
+        Call::Evaluate(set, lent) => Asked {
+            call: 14,
+            number: lent.fuel,
+            streams: [&set.grammar, &set.templates, &set.value],
+            room: lent.room,
+            numbers: lent.numbers,
+        },
+    }
+}
+
+/// Where the pieces of some bytes lie: bytes as they are, and a run after them.
+fn pieces(bytes: &[u8]) -> Vec<(Range<usize>, Range<usize>)> {
+    let mut pieces = Vec::new();
+    let (mut start, mut at) = (0, 0);
+    while at < bytes.len() {
+        let end = at + run_length(&bytes[at..]);
+        if end - at >= SHORTEST_RUN {
+            pieces.push((start..at, at..end));
+            (start, at) = (end, end);
+        } else {
+            at += 1;
+        }
+    }
+    if start < bytes.len() {
+        pieces.push((start..at, at..at));
+    }
+    pieces
+}
+
+/// How many bytes from the first on are a run: each differs from the one before by the same number,
+/// modulo 256.
+fn run_length(bytes: &[u8]) -> usize {
+    let (first, step) = progression(bytes);
+    let expected = |at: usize| (first + at * step) as u8;
+    let is_expected = |(at, byte): &(usize, &u8)| **byte == expected(*at);
+    bytes.iter().enumerate().take_while(is_expected).count()
+}
+
+/// The first byte of a run, and the step to the next.
+fn progression(bytes: &[u8]) -> (usize, usize) {
+    match bytes {
+        [] => (0, 0),
+        [first] => ((*first).into(), 0),
+        [first, second, ..] => ((*first).into(), second.wrapping_sub(*first).into()),
+    }
+}

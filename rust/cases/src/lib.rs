@@ -1,0 +1,46 @@
+//! The cases that the proved program `vectors` runs, as data: it reads them from the file
+//! `crates/vectors/data/cases` and prints a line for each, and what it prints is held to
+//! `crates/vectors/stdout`. This crate makes both files. The lines come from the reference and not
+//! from the machine under proof.
+//!
+//! | module | cases |
+//! |---|---|
+//! | `blocks` | check values, single blocks, packing and unpacking |
+//! | `streams` | refusals 1 to 3, each at its edge, alone and ahead of what is tried later |
+//! | `sets` | refusals 4 to 7 |
+//! | `runs` | refusals 8 to 12, and runs that finish |
+//!
+//! To add a case, add it to one of these, then `cargo run -p cases`.
+
+mod blocks;
+mod case;
+mod example;
+mod expected;
+mod file;
+mod records;
+mod runs;
+mod sets;
+mod streams;
+
+use std::path::{Path, PathBuf};
+
+pub use case::{Call, Case, Lent, Set};
+pub use expected::stdout;
+pub use file::file;
+
+/// All cases, in the order in which they are run.
+#[must_use]
+pub fn all() -> Vec<Case> {
+    [blocks::all(), streams::all(), sets::all(), runs::all()].concat()
+}
+
+/// The files that this crate makes, each with what is to be in it.
+#[must_use]
+pub fn files() -> [(PathBuf, Vec<u8>); 2] {
+    let vectors = Path::new(env!("CARGO_MANIFEST_DIR")).join("../../crates/vectors");
+    let cases = all();
+    [
+        (vectors.join("data/cases"), file(&cases)),
+        (vectors.join("stdout"), stdout(&cases).into_bytes()),
+    ]
+}
