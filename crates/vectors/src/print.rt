@@ -1,4 +1,4 @@
-// Lines of text on standard output.
+// Text on standard output.
 use libc::STDOUT_FILENO;
 use rules::Answer;
 use stream::fnv::START;
@@ -14,7 +14,9 @@ pub fn labelled(label: &[u8], n: usize) {
     io::print_decimal(STDOUT_FILENO, n as u64);
 }
 
-pub fn hash(s: &[u8]) {
+// FNV-1a of some bytes after a label.
+pub fn hash(label: &[u8], s: &[u8]) {
+    text(label);
     io::print_hex(STDOUT_FILENO, fnv1a(START, s) as u64, 8);
 }
 
@@ -30,16 +32,4 @@ pub fn fields(a: Answer) {
     field(a.place);
     field(a.steps);
     field(a.bytes);
-}
-
-// The five fields of an answer, and FNV-1a of the bytes that it counts.
-pub fn written(a: Answer, out: &[u8]) {
-    text(b" ->");
-    fields(a);
-    let n = a.bytes as usize;
-    if n <= out.len() {
-        text(b"  bytes-fnv=");
-        hash(&out[0..n]);
-    }
-    text(b"\n");
 }

@@ -2,8 +2,8 @@
 use Prim.Native.Nat.{_≤_, _-_}
 use lib.ListN.{length}
 use borrow.Author.Needs.{needs}
-use Rattle.vectors.proofs.case.all_bytes.Statement.{statement}
-use Rattle.vectors.proofs.case.all_bytes.Tie as tie
+use Rattle.vectors.proofs.call.all_bytes.Statement.{statement}
+use Rattle.vectors.proofs.call.all_bytes.Tie as tie
 
 abbrev Inv-loop : tie.InvT-loop
 Inv-loop s x i₀ i = i ≤ length s
