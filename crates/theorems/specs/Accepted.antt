@@ -19,7 +19,7 @@ use Rattle.rules.specs.Value.{valuesBelow}
 use Rattle.rules.specs.Answers
 use Rattle.rules.specs.Answers.{answer, Stream, streamKind, bytesOf, layoutOf, limitsOf, over, accept, setRefusal, checkRefusal, scratchNeeded, evaluateRefusal, check}
 use Rattle.rules.specs.declared.Answer.{Answer}
-use Rattle.theorems.specs.Laws.{need-iff, both-none, both-iff, In, placed-iff, try-iff, leb-iff, Below}
+use Rattle.laws.specs.Faults.{need-iff, both-none, both-iff, In, placed-iff, try-iff, leb-iff, Below}
 use Rattle.theorems.specs.Refusals.{Refuses, check-refuses}
 use Rattle.theorems.specs.Streams.{WellSized, length-exactly, RightBlock, blocks-exactly}
 use Rattle.theorems.specs.LaidOut.{GrammarLaid, TemplatesLaid, ValueLaid}

@@ -13,7 +13,7 @@ use Rattle.rules.specs.Typing.{templatesTyping}
 use Rattle.rules.specs.declared.Form.{Form}
 use Rattle.rules.specs.declared.Form.the-variants.{Build, Literal, Place, Expand, If, For, Sequence}
 use Rattle.rules.specs.declared.Position.{Position}
-use Rattle.theorems.specs.Laws.{In, here, later, in-nth, nth-in, Below, itself, under}
+use Rattle.laws.specs.Faults.{In, here, later, in-nth, nth-in, Below, itself, under}
 use Rattle.theorems.specs.Judgement.{Arguments, no-argument, an-argument, Suits, by-build, by-literal, by-place, by-expand, by-if, by-for, by-sequence, as-item, Fills, no-child, a-lexeme, a-text, a-row, Items, an-item}
 use Rattle.theorems.specs.LimitsExactly.{TemplateWithin, limits-exactly}
 use Rattle.theorems.specs.TypingExactly.{typing-exactly}

@@ -23,7 +23,7 @@ use Rattle.rules.specs.Classes.{rangeRight, classBounds, grammarClasses}
 use Rattle.rules.specs.Typing.{site, suits, sitesBelow, misfit, bodySite, declaredType, templatesTyping, typed, hasType, typedBelow, mistyped, valueTyping}
 use Rattle.rules.specs.Answers
 use Rattle.rules.specs.Answers.{Stream, bytesOf, layoutOf, limitsOf}
-use Rattle.theorems.specs.Laws.{In, here, later, Below, exists-iff}
+use Rattle.laws.specs.Faults.{In, here, later, Below, exists-iff}
 use Rattle.theorems.specs.Streams.{WellSized, length-exactly, block-exactly, row-in, in-row}
 use Rattle.theorems.specs.LaidOut.{InRow, no-thing, one-thing, GrammarLaid, NamingAt, TypeAt, TemplateAt, TemplatesLaid, ValueLaid}
 use Rattle.theorems.specs.Heads.{element-size, element-grows}

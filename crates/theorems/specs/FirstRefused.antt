@@ -18,7 +18,7 @@ use Rattle.rules.specs.Typing.{declaredType, templatesTyping, valueTyping}
 use Rattle.rules.specs.Answers
 use Rattle.rules.specs.Answers.{answer, Stream, streamKind, bytesOf, limitsOf, placed, over, try, accept, setRefusal, checkRefusal, scratchNeeded, evaluateRefusal}
 use Rattle.rules.specs.declared.Answer.{Answer}
-use Rattle.theorems.specs.Laws.{In, here, later, both-none, every-in, placed-iff, need-none, exists-iff}
+use Rattle.laws.specs.Faults.{In, here, later, both-none, every-in, placed-iff, need-none, exists-iff}
 use Rattle.theorems.specs.Streams.{WellSized, length-exactly}
 use Rattle.theorems.specs.LaidOut.{GrammarLaid, TemplatesLaid}
 use Rattle.theorems.specs.TypingExactly.{declared-exactly}

@@ -9,7 +9,7 @@ use lib.Seq.{take-append-seam, drop-append-seam}
 use Rattle.rules.specs.Walk.{State, Limit, End, done, ended, stuck, walk}
 use Rattle.rules.specs.Answers.{answer, evaluateRefusal, limitNumber, Outcome, left, kept, walked, unlessRefused, input, evaluate}
 use Rattle.rules.specs.declared.Answer.{Answer}
-use Rattle.theorems.specs.Laws.{placed-iff, try-iff}
+use Rattle.laws.specs.Faults.{placed-iff, try-iff}
 use Rattle.theorems.specs.Refusals.{Refusal, evaluate-refuses}
 use Rattle.theorems.specs.Accepted.{set-none}
 use Rattle.theorems.specs.Sound.{WellTyped, never-stuck}

@@ -15,7 +15,7 @@ use Rattle.rules.specs.Faults.{onFound, onlyIf}
 use Rattle.rules.specs.Records.{base, recordCount, byteOf, kindOf, fieldA, fieldB, fieldC, fieldD, recordsFrom, units, zeros}
 use Rattle.rules.specs.Templates.{formNumbered, formOf}
 use Rattle.rules.specs.Layout.{thenRead, inRow, whileKind, textEnd, rangeEnd, classEnd, elementEnd, productionEnd, grammarEnd, namingEnd, typeFormEnd, typeEnd, pathEnd, formEnd, sized, nodeEnd, templateEnd, templatesEnd, childrenEnd, kindEnd, valueEnd, tailRight, layoutFault, grammarLayout, templatesLayout, valueLayout}
-use Rattle.theorems.specs.Laws.{need-iff, onFound-true, only-if-iff, and-iff, eqb-iff, leb-iff}
+use Rattle.laws.specs.Faults.{need-iff, onFound-true, only-if-iff, and-iff, eqb-iff, leb-iff}
 use Rattle.theorems.specs.Streams.{WellSized}
 use Rattle.theorems.specs.LaidOut.{InRow, no-thing, one-thing, Numbered, no-more, one-more, Padded, Tail, RangeAt, ClassAt, ElementHead, ElementAt, ProductionAt, GrammarLaid, NamingAt, TypeAt, PathAt, NodeHead, NodeAt, NodesAt, TemplateAt, TemplatesLaid, ValueAt, ValuesAt, ValueLaid}
 use Rattle.theorems.specs.LaidOut.ElementAt.{a-keyword, a-name}

@@ -8,7 +8,7 @@ use mathlib.Core.Option.{Option, none, some, Option·some-ne-none, Option·none-
 use native.Mathlib.Omega.{arith}
 use Rattle.rules.specs.Faults.{need, both, every, tree, at}
 use Rattle.rules.specs.Records.{heads}
-use Rattle.theorems.specs.Laws.{In, here, later, Below, itself, under}
+use Rattle.laws.specs.Faults.{In, here, later, Below, itself, under}
 use Rattle.theorems.specs.LaidOut.{InRow, no-thing, one-thing}
 
 -- f answers the first of all that offends, in an order, and none where nothing offends

@@ -9,7 +9,7 @@ use lib.ListN.{length}
 use Rattle.rules.specs.Records.{fieldB, fieldC}
 use Rattle.rules.specs.Grammar.{class}
 use Rattle.rules.specs.Lexeme.{within, charactersOf, lowest, highest, ranges, inSome, allInSome, admits, isLexeme}
-use Rattle.theorems.specs.Laws.{In, here, later, onFound-true, and-iff}
+use Rattle.laws.specs.Faults.{In, here, later, onFound-true, and-iff}
 use Rattle.theorems.specs.Utf8.{AllScalar, encodedAll, within-iff, utf8-exactly}
 
 -- "in some range": from the lowest to the highest code point of one of the ranges whose records are listed

@@ -1,4 +1,3 @@
-pub mod Laws
 pub mod Streams
 pub mod LaidOut
 pub mod Heads

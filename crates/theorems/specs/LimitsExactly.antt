@@ -18,7 +18,7 @@ use Rattle.rules.specs.Names.{elementNamed, grammarNames, typeNamed, typeNames,
 use Rattle.rules.specs.Classes.{rangeRight, classBounds, grammarClasses}
 use Rattle.rules.specs.declared.Form.{Form}
 use Rattle.rules.specs.declared.Form.the-variants.{Build, Literal, Place, Expand, If, For, Sequence, Unknown}
-use Rattle.theorems.specs.Laws.{need-none, need-iff, both-none, both-iff, In, here, later, in-map, every-in, in-every, every-nil, every-cons, exists-iff, and-iff, eqb-iff, leb-iff, ltb-iff, at-none, Below, itself, under, tree-in, in-tree}
+use Rattle.laws.specs.Faults.{need-none, need-iff, both-none, both-iff, In, here, later, in-map, every-in, in-every, every-nil, every-cons, exists-iff, and-iff, eqb-iff, leb-iff, ltb-iff, at-none, Below, itself, under, tree-in, in-tree}
 
 -- 4, of a template: the body counts 1, what stands d levels below it d + 1
 pub record TemplateWithin (t : List ℕ) (p : ℕ) : Type 0 where

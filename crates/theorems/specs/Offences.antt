@@ -14,7 +14,7 @@ use Rattle.rules.specs.Limits.{Looped, looped, loopedBelow}
 use Rattle.rules.specs.Typing.{Site, suits, sitesBelow, bodySite, Typed, typed, hasType, typedBelow}
 use Rattle.rules.specs.Answers
 use Rattle.rules.specs.Answers.{Stream, streamKind, bytesOf}
-use Rattle.theorems.specs.Laws.{In, Below}
+use Rattle.laws.specs.Faults.{In, Below}
 use Rattle.theorems.specs.Streams.{WellSized, RightBlock}
 use Rattle.theorems.specs.LaidOut.{GrammarLaid, TemplatesLaid, ValueLaid}
 use Rattle.theorems.specs.LimitsExactly.{Exists, HasProduction, ElementNames, TypeNames, NodeNames}

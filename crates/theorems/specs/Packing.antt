@@ -16,7 +16,7 @@ use lib.Seq.{length-take-le, take-at, drop-at, getD-append-add, take-all, drop-d
 use Rattle.rules.specs.Records.{word}
 use Rattle.rules.specs.Blocks.{fnvStart, multiplied, fnv1a, word32, isKind, streamLength, block, streamBlocks, bytes32, checked, filled, packedBlock, packedBlocks, packed, payloadLength, payloads, unpacked}
 use Rattle.rules.specs.Answers.{answer, accept, packRefusal, unpackRefusal, Written, written, pack, unpack}
-use Rattle.theorems.specs.Laws.{need-iff, both-iff, and-iff, leb-iff, placed-iff, try-iff}
+use Rattle.laws.specs.Faults.{need-iff, both-iff, and-iff, leb-iff, placed-iff, try-iff}
 use Rattle.theorems.specs.Streams.{length-exactly, RightBlock, blocks-exactly}
 
 -- the check is a number of 32 bits

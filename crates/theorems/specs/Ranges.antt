@@ -18,7 +18,7 @@ use Rattle.rules.specs.declared.Form.{Form}
 use Rattle.rules.specs.declared.Form.the-variants.{Build, Literal, Place, Expand, If, For, Sequence, Unknown}
 use Rattle.rules.specs.declared.Position.{Position}
 use Rattle.rules.specs.declared.Position.the-variants.{Nonterminal, Item}
-use Rattle.theorems.specs.Laws.{In, here, later, Below, itself, under}
+use Rattle.laws.specs.Faults.{In, here, later, Below, itself, under}
 use Rattle.theorems.specs.Streams.{WellSized}
 use Rattle.theorems.specs.LaidOut.{InRow, no-thing, one-thing, ClassAt, ProductionAt, GrammarLaid, TypeAt, TemplateAt, TemplatesLaid, PathAt, NodeAt, a-build, a-literal, a-place, an-expand, an-if, a-for, a-sequence, NodesAt, no-node, one-node, ValueAt, a-text, a-yes-no, a-list, a-record, ValuesAt, no-value, one-value}
 use Rattle.theorems.specs.Heads.{row-grows, each-numbered, class-size, production-size, type-size, template-size, classes-are, productions-are, types-are, templates-are, path-size, node-size, node-grows, value-size, value-grows}

@@ -18,7 +18,7 @@ use Rattle.rules.specs.Walk.{visitForm, counted, visit, walk}
 use Rattle.rules.specs.Derivation.{Derives, produced, Pieces, no-element, one-piece, own-bytes, a-lexeme as lexeme-of, derived, repeated, Row, no-text, one-text}
 use Rattle.rules.specs.declared.Position.{Position}
 use Rattle.rules.specs.declared.Position.the-variants.{Class, Nonterminal, Repetition, Item}
-use Rattle.theorems.specs.Laws.{both-none, nth-in, every-in, onFound-none, at-none}
+use Rattle.laws.specs.Faults.{both-none, nth-in, every-in, onFound-none, at-none}
 use Rattle.theorems.specs.Ends.{Ends, finished, limited, ends-map, then-ends, found-ends, reached-ends, write-ends, ends-done}
 use Rattle.theorems.specs.Judgement.{Along, arrived, a-field, PathTyped, Arguments, no-argument, an-argument}
 use Rattle.theorems.specs.Judgement.{Suits, by-build, by-literal, by-place, by-expand, by-if, by-for, by-sequence, as-item}

@@ -11,7 +11,7 @@ use lib.Dec.{eqb}
 use borrow.Author.Tests.{eqb-true, eqb-false}
 use Rattle.rules.specs.Records.{word, row, heads}
 use Rattle.rules.specs.Blocks.{fnv1a, fnvStart, word32, sound, streamLength, block, blockRight, streamBlocks}
-use Rattle.theorems.specs.Laws.{need-iff, every-in, in-every, and-iff, eqb-iff, leb-iff, In, here, later}
+use Rattle.laws.specs.Faults.{need-iff, every-in, in-every, and-iff, eqb-iff, leb-iff, In, here, later}
 
 -- 1: "A stream's length is zero, above 65,536 or no multiple of 512." None of these:
 pub record WellSized (s : List ℕ) : Type 0 where

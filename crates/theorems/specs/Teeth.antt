@@ -9,7 +9,7 @@ use Rattle.rules.specs.Records.{fieldB}
 use Rattle.rules.specs.Lexeme.{isLexeme}
 use Rattle.rules.specs.Grammar.{productions, production, Element, keyword, lexeme, nonterminal, repetition, elements, nonterminalExists}
 use Rattle.rules.specs.Derivation.{Derives, produced, Pieces, no-element, one-piece, Piece, own-bytes, a-lexeme, derived, repeated, Row, no-text, one-text}
-use Rattle.theorems.specs.Laws.{In, here, later, nth-in}
+use Rattle.laws.specs.Faults.{In, here, later, nth-in}
 use Rattle.theorems.specs.LimitsExactly.{has-in}
 
 -- "for a keyword its own bytes", and nothing else

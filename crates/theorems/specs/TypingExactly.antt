@@ -18,7 +18,7 @@ use Rattle.rules.specs.declared.Form.{Form}
 use Rattle.rules.specs.declared.Form.the-variants.{Build, Literal, Place, Expand, If, For, Sequence, Unknown}
 use Rattle.rules.specs.declared.Position.{Position}
 use Rattle.rules.specs.declared.Position.the-variants.{Class, Nonterminal, Repetition, Item}
-use Rattle.theorems.specs.Laws.{need-none, need-iff, both-none, both-iff, In, here, later, every-in, in-every, every-nil, every-cons, exists-iff, onFound-true, onFound-some, found, and-iff, eqb-iff, at-none, Below, itself, under}
+use Rattle.laws.specs.Faults.{need-none, need-iff, both-none, both-iff, In, here, later, every-in, in-every, every-nil, every-cons, exists-iff, onFound-true, onFound-some, on-some, and-iff, eqb-iff, at-none, Below, itself, under}
 use Rattle.rules.specs.Limits.{deepest}
 use Rattle.theorems.specs.LimitsExactly.{TemplateWithin, not-deep}
 use Rattle.theorems.specs.Judgement.{Along, arrived, a-field, PathTyped, Arguments, no-argument, an-argument, Suits, by-build, by-literal, by-place, by-expand, by-if, by-for, by-sequence, as-item, Fills, all-filled, no-child, a-lexeme, a-text, a-row, Items, no-item, an-item}
@@ -162,7 +162,7 @@ module _ (g t : List ℕ) (check : Site → Option Site) (below : (x : Site) →
       let c = and-iff _ _ .0 (b .2) in
       suits-asked (x .position) (a .0) (a .1)
       (by-build (x .vars) (x .node) (a .0) (b .0) f (b .1) (eqb-iff _ _ .0 (c .0))
-      (fills (x .vars) (elements g (b .0)) (nodes t (x .node)) (eqb-iff _ _ .0 (c .1) ∙ sym (length-nodes t (x .node))) (subst (λ (l : List Site). every check l ≡ none) (found [] _ (b .1)) s)))
+      (fills (x .vars) (elements g (b .0)) (nodes t (x .node)) (eqb-iff _ _ .0 (c .1) ∙ sym (length-nodes t (x .node))) (subst (λ (l : List Site). every check l ≡ none) (on-some [] _ (b .1)) s)))
   suits-form Literal x f e s =
       let a = onFound-true (asksClass (x .position)) _ .0 e in
       rw (asked-class (x .position) (a .0) (a .1)) (by-literal (x .vars) (x .node) (a .0) f (a .2))
@@ -182,7 +182,7 @@ module _ (g t : List ℕ) (check : Site → Option Site) (below : (x : Site) →
       let a = onFound-true (asksNonterminal (x .position)) _ .0 e in
       let b = onFound-true (pathType t (x .vars) (path (x .node))) _ .0 (a .2) in
       let r : every check (site (x .vars) (Nonterminal (a .0)) (first (x .node)) ∷ site (x .vars) (Nonterminal (a .0)) (second t (x .node)) ∷ []) ≡ none =
-      subst (λ (l : List Site). every check l ≡ none) (found [] _ (a .1)) s in
+      subst (λ (l : List Site). every check l ≡ none) (on-some [] _ (a .1)) s in
       suits-asked (x .position) (a .0) (a .1)
       (by-if (x .vars) (x .node) (a .0) (b .0) f (path-exactly t _ _ (b .0) .0 (b .1)) (yes-no-is _ (b .2))
       (below _ (every-in check r (here _))) (below _ (every-in check r (later _ _ (here _)))))
@@ -191,13 +191,13 @@ module _ (g t : List ℕ) (check : Site → Option Site) (below : (x : Site) →
       let b = onFound-true (pathType t (x .vars) (path (x .node))) _ .0 (a .2) in
       let c = exists-iff (itemType (typeOf t (b .0))) .0 (b .2) in
       let r : every check (site (x .vars ++ c .0 ∷ []) (Nonterminal (a .0)) (first (x .node)) ∷ []) ≡ none =
-      subst (λ (l : List Site). every check l ≡ none) (found [] _ (a .1) ∙ found [] _ (b .1) ∙ found [] _ (c .1)) s in
+      subst (λ (l : List Site). every check l ≡ none) (on-some [] _ (a .1) ∙ on-some [] _ (b .1) ∙ on-some [] _ (c .1)) s in
       rw (asked-item (x .position) (a .0) (a .1))
       (by-for (x .vars) (x .node) (a .0) (b .0) (c .0) f (path-exactly t _ _ (b .0) .0 (b .1)) (item-type _ (c .0) (c .1)) (below _ (every-in check r (here _))))
   suits-form Sequence x f e s =
       let a = exists-iff (asksRepetition (x .position)) .0 e in
       rw (asked-repetition (x .position) (a .0) (a .1))
-      (by-sequence (x .vars) (x .node) (a .0) f (items (x .vars) (a .0) (nodes t (x .node)) (subst (λ (l : List Site). every check l ≡ none) (found [] _ (a .1)) s)))
+      (by-sequence (x .vars) (x .node) (a .0) f (items (x .vars) (a .0) (nodes t (x .node)) (subst (λ (l : List Site). every check l ≡ none) (on-some [] _ (a .1)) s)))
   suits-form Unknown x f e s = absurd (false≢true e)
 
 pub misfit-suits : (g t : List ℕ) (k : ℕ) (x : Site) → misfit g t k x ≡ none → SuitsAt g t x

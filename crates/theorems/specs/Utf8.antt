@@ -10,7 +10,7 @@ use lib.ListN.{length}
 use lib.Dec.{eqb, leb}
 use borrow.Author.Tests.{leb-true, leb-false, le-leb, lt-leb, ne-eqb}
 use Rattle.rules.specs.Lexeme.{within, Decoding, between, inside, broken, firstByte, laterByte, nextByte, decode, decoded, charactersOf}
-use Rattle.theorems.specs.Laws.{In, here, later, and-iff, leb-iff}
+use Rattle.laws.specs.Faults.{In, here, later, and-iff, leb-iff}
 
 -- RFC 3629, section 3: "characters from the U+0000..U+10FFFF range"; it "prohibits encoding character numbers between U+D800 and U+DFFF"
 pub record Scalar (x : ℕ) : Type 0 where

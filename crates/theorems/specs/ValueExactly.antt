@@ -15,7 +15,7 @@ use Rattle.rules.specs.Templates.{TypeForm, text, yes-no, list, fields, no-type
 use Rattle.rules.specs.Value.{children, asText, asYesNo, asList, asRecord, valuesBelow}
 use Rattle.rules.specs.Limits.{deepest, valueLimits}
 use Rattle.rules.specs.Typing.{Typed, typed, hasForm, hasType, paired, typedOf, typedBelow, mistyped, declaredType, valueTyping}
-use Rattle.theorems.specs.Laws.{need-none, both-none, In, here, later, every-nil, every-cons, exists-iff, onFound-true, onFound-none, only-if-iff, found, eqb-iff, leb-iff, at-none, Below, itself, under, tree-in}
+use Rattle.laws.specs.Faults.{need-none, both-none, In, here, later, every-nil, every-cons, exists-iff, onFound-true, onFound-none, only-if-iff, on-some, eqb-iff, leb-iff, at-none, Below, itself, under, tree-in}
 use Rattle.theorems.specs.TypingExactly.{Declared, declared-exactly}
 use Rattle.theorems.specs.Judgement.{OfType, of-text, of-yes-no, of-list, of-record, AllOf, none-left, one-of, EachOf, no-field, a-field}
 
@@ -53,11 +53,11 @@ module _ (g t v : List ℕ) (check : Typed → Option Typed) (below : (x : Typed
   of-form (list item) ty w f e s =
       let a = exists-iff (asList v w) .0 e in
       let k = of-kind v w 3 (children v w) (a .0) (a .1) in
-      of-list ty w item f (k .0) (rw (k .1) (all-of item (a .0) (subst (λ (l : List Typed). every check l ≡ none) (found [] _ (a .1)) s)))
+      of-list ty w item f (k .0) (rw (k .1) (all-of item (a .0) (subst (λ (l : List Typed). every check l ≡ none) (on-some [] _ (a .1)) s)))
   of-form (fields tys) ty w f e s =
       let a = onFound-true (asRecord v w) _ .0 e in
       let k = of-kind v w 4 (children v w) (a .0) (a .1) in
-      of-record ty w tys f (k .0) (rw (k .1) (each-of tys (a .0) (eqb-iff _ _ .0 (a .2)) (subst (λ (l : List Typed). every check l ≡ none) (found [] _ (a .1)) s)))
+      of-record ty w tys f (k .0) (rw (k .1) (each-of tys (a .0) (eqb-iff _ _ .0 (a .2)) (subst (λ (l : List Typed). every check l ≡ none) (on-some [] _ (a .1)) s)))
   of-form no-type ty w f e s = absurd (false≢true e)
 
 pub mistyped-of : (g t v : List ℕ) (k : ℕ) (x : Typed) → mistyped g t v k x ≡ none → OfType g t v (x .type) (x .value)

@@ -1,7 +1,7 @@
--- What a check says when it finds nothing: one law for each way in which checks are put together.
-use mathlib.Core.Path.{_≡_, refl, sym, ap, subst}
+-- What a check says, when it finds nothing and when it does: laws for each way in which checks are put together.
+use mathlib.Core.Path.{_≡_, refl, sym, ap, subst, _∙_}
 use mathlib.Core.Logic.{_↔_}
-use Prim.Native.Nat.{ℕ, zero, suc, _≤_, _<_}
+use Prim.Native.Nat.{ℕ, zero, suc, _-_, _≤_, _<_}
 use mathlib.Core.List.{List, [], _∷_, map}
 use mathlib.Core.Bool.{Bool, true, false, _&&_, false≢true}
 use mathlib.Core.Option.{Option, none, some, Option·some-ne-none, Option·none-ne-some, Option·some-injective}
@@ -33,6 +33,28 @@ unfolding both
 both-iff none b = (λ e. (refl, e), λ e. e .1)
 both-iff (some x) b = (λ e. absurd (Option·some-ne-none x e), λ e. absurd (Option·some-ne-none x (e .0)))
 
+-- a test that holds, or fails; a check that passes, or offends, and then another
+pub need-right : {A : Type 0} {b : Bool} (x : A) → b ≡ true → need b x ≡ none
+unfolding need
+need-right x e = rw e
+
+pub need-wrong : {A : Type 0} {b : Bool} (x : A) → b ≡ false → need b x ≡ some x
+unfolding need
+need-wrong x e = rw e
+
+pub both-right : {A : Type 0} {a : Option A} (b : Option A) → a ≡ none → both a b ≡ b
+unfolding both
+both-right b e = rw e
+
+pub both-wrong : {A : Type 0} {a : Option A} (b : Option A) {x : A} → a ≡ some x → both a b ≡ some x
+unfolding both
+both-wrong b e = rw e
+
+pub both-nil : {A : Type 0} (a : Option A) → both a none ≡ a
+unfolding both
+both-nil none = refl
+both-nil (some x) = refl
+
 pub every-nil : {A B : Type 0} (f : A → Option B) → every f [] ≡ none
 unfolding every
 every-nil f = refl
@@ -40,6 +62,28 @@ every-nil f = refl
 pub every-cons : {A B : Type 0} (f : A → Option B) (x : A) (xs : List A) → f x ≡ none → every f xs ≡ none → every f (x ∷ xs) ≡ none
 unfolding every both
 every-cons f x xs e r = rw e r
+
+pub every-first : {A B : Type 0} (f : A → Option B) (x : A) (xs : List A) → every f (x ∷ xs) ≡ none → (f x ≡ none) × (every f xs ≡ none)
+unfolding every
+every-first f x xs e = both-none _ _ e
+
+pub every-one : {A B : Type 0} (f : A → Option B) (x : A) → every f (x ∷ []) ≡ f x
+unfolding every
+every-one f x = both-nil (f x)
+
+-- a loop's turn: the next entry is right, or it offends; after the last turn nothing is left
+module _ {A B : Type 0} (f : A → Option B) {whole : Option B} {xs : List A} (rest : every f xs ≡ whole) where
+  pub every-next : {y : A} {ys : List A} → xs ≡ y ∷ ys → f y ≡ none → every f ys ≡ whole
+  unfolding every
+  every-next e h = sym (ap (every f) e ∙ both-right _ h) ∙ rest
+
+  pub every-stop : {y : A} {ys : List A} {x : B} → xs ≡ y ∷ ys → f y ≡ some x → some x ≡ whole
+  unfolding every
+  every-stop e h = sym (ap (every f) e ∙ both-wrong _ h) ∙ rest
+
+  pub every-end : xs ≡ [] → none ≡ whole
+  unfolding every
+  every-end e = sym (ap (every f) e) ∙ rest
 
 -- x is an entry of xs
 pub data In {A : Type 0} (x : A) : List A → Type 0 where
@@ -90,6 +134,19 @@ unfolding onlyIf
 only-if-iff true x y = (λ e. (refl, Option·some-injective x y e), λ h. ap some (h .1))
 only-if-iff false x y = (λ e. absurd (Option·none-ne-some y e), λ h. absurd (false≢true (h .0)))
 
+pub only-yes : {A : Type 0} (b : Bool) (x : A) → b ≡ true → onlyIf b x ≡ some x
+unfolding onlyIf
+only-yes b x e = rw e
+
+pub only-no : {A : Type 0} (b : Bool) (x : A) → b ≡ false → onlyIf b x ≡ none
+unfolding onlyIf
+only-no b x e = rw e
+
+pub if-exists : {A : Type 0} (b : Bool) (a : A) → exists (onlyIf b a) ≡ b
+unfolding exists onlyIf
+if-exists true a = refl
+if-exists false a = refl
+
 pub onFound-some : {A B : Type 0} (o : Option A) (f : A → Option B) (b : B) → onFound o none f ≡ some b → (a : A) × (o ≡ some a) × (f a ≡ some b)
 unfolding onFound
 onFound-some none f b e = absurd (Option·none-ne-some b e)
@@ -100,9 +157,13 @@ unfolding onFound
 onFound-none none b f = (λ e. absurd (Option·some-ne-none b e), λ e. absurd (Option·none-ne-some (e .0) (e .1)))
 onFound-none (some a) b f = (λ e. (a, refl, e), λ e. subst (λ x. f x ≡ none) (sym (Option·some-injective a (e .0) (e .1))) (e .2))
 
-pub found : {A B : Type 0} {o : Option A} {a : A} (b : B) (f : A → B) → o ≡ some a → onFound o b f ≡ f a
+pub on-some : {A B : Type 0} {o : Option A} {a : A} (b : B) (f : A → B) → o ≡ some a → onFound o b f ≡ f a
 unfolding onFound
-found b f e = rw e
+on-some b f e = rw e
+
+pub on-none : {A B : Type 0} {o : Option A} (b : B) (f : A → B) → o ≡ none → onFound o b f ≡ b
+unfolding onFound
+on-none b f e = rw e
 
 pub at-none : {A : Type 0} (place : A → ℕ) (o : Option A) → (at place o ≡ none) ↔ (o ≡ none)
 unfolding at
@@ -114,9 +175,18 @@ unfolding at
 at-some place none p e = absurd (Option·none-ne-some p e)
 at-some place (some x) p e = (x, refl, Option·some-injective (place x) p e)
 
+pub at-both : {A : Type 0} (place : A → ℕ) (a b : Option A) → at place (both a b) ≡ both (at place a) (at place b)
+unfolding at both
+at-both place none b = refl
+at-both place (some x) b = refl
+
+pub and-true : (a b : Bool) → (a && b) ≡ true → (a ≡ true) × (b ≡ true)
+and-true true b e = (refl, e)
+and-true false b e = absurd (false≢true e)
+
 pub and-iff : (a b : Bool) → ((a && b) ≡ true) ↔ ((a ≡ true) × (b ≡ true))
-and-iff true b = (λ e. (refl, e), λ e. e .1)
-and-iff false b = (λ e. absurd (false≢true e), λ e. absurd (false≢true (e .0)))
+and-iff true b = (and-true true b, λ e. e .1)
+and-iff false b = (and-true false b, λ e. absurd (false≢true (e .0)))
 
 pub eqb-iff : (a b : ℕ) → (eqb a b ≡ true) ↔ (a ≡ b)
 eqb-iff a b = (eqb-true a b, eq-eqb a b)
@@ -159,3 +229,25 @@ in-tree ok below zero x h = absurd (let z : 0 < 0 = h 0 x (itself x) .0 in omega
 in-tree ok below (suc k) x h =
     rw (h 0 x (itself x) .1)
     (in-every (tree ok below k) (below x) λ c i. in-tree ok below k c λ d y b. let r = h (suc d) y (under x c y d i b) in (omega arith, r .1))
+
+-- a tree with a level left: its own test, then all below it; with none left it offends
+module _ {A : Type 0} (ok : A → Bool) (below : A → List A) where
+  pub tree-right : (left : ℕ) (x : A) → 0 < left → ok x ≡ true → tree ok below left x ≡ every (tree ok below (left - 1)) (below x)
+  unfolding tree
+  tree-right zero x l e = absurd (omega arith)
+  tree-right (suc k) x l e = let p : suc k - 1 ≡ k = omega arith in rw p (both-right _ (need-right x e))
+
+  pub tree-wrong : (left : ℕ) (x : A) → 0 < left → ok x ≡ false → tree ok below left x ≡ some x
+  unfolding tree
+  tree-wrong zero x l e = absurd (omega arith)
+  tree-wrong (suc k) x l e = both-wrong _ (need-wrong x e)
+
+  pub tree-deep : (left : ℕ) (x : A) → left ≡ 0 → tree ok below left x ≡ some x
+  unfolding tree
+  tree-deep zero x e = refl
+  tree-deep (suc k) x e = absurd (omega arith)
+
+  pub tree-none : (k : ℕ) (x : A) → tree ok below k x ≡ none → (j : ℕ) × (ok x ≡ true) × (every (tree ok below j) (below x) ≡ none)
+  unfolding tree
+  tree-none zero x e = absurd (Option·some-ne-none x e)
+  tree-none (suc k) x e = let h = both-none _ _ e in (k, need-none (ok x) x (h .0), h .1)
