@@ -2,7 +2,7 @@
 use Prim.Native.Nat.{ℕ, _+_, _*_, _/_, _%_, _<_, _^_}
 use mathlib.Core.Path.{_≡_}
 use mathlib.Core.List.{List}
-use lib.ListN.{length, getD}
+use lib.ListN.{getD}
 use Rattle.rules.specs.Records.{base, word, byteOf, kindOf, fieldA, fieldB, fieldC, fieldD}
 use Rattle.stream.specs.declared.record.Record.{Record}
 use Rattle.stream.specs.declared.record.Place.{Place}
@@ -10,11 +10,6 @@ use Rattle.stream.specs.declared.record.Place.{Place}
 -- the record whose 8 bytes begin at an address
 unfoldable pub recordAt : List ℕ → ℕ → Record
 recordAt s at = record { kind = getD s at 0; a = getD s (at + 1) 0; b = word s (at + 2); c = word s (at + 4); d = word s (at + 6) }
-
--- r is the 8 bytes that begin at an address
-pub record Padded (s : List ℕ) (at : ℕ) (r : List ℕ) : Type 0 where
-  pub eight : length r ≡ 8
-  pub same : (k : ℕ) → k < 8 → getD r k 0 ≡ getD s (at + k) 0
 
 -- record i of a stream
 unfoldable pub recordOf : List ℕ → ℕ → Record

@@ -1,3 +1,4 @@
+// The copy of a part: a plain loop, which the compiler turns into a block copy.
 ghost use mathlib.Core.Path.{_≡_};
 ghost use mathlib.Core.List.{_++_};
 ghost use Prim.Native.Nat.{_≤_};

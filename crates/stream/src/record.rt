@@ -1,9 +1,11 @@
 // The fetch of a record, whole: by its index, or by a place that a scan carries from head to head.
 ghost use mathlib.Core.Path.{_≡_};
-ghost use Prim.Native.Nat.{ℕ, _+_, _-_, _*_, _/_, min, _≤_, _<_, _^_};
+ghost use mathlib.Core.Option.{none};
+ghost use Prim.Native.Nat.{ℕ, _+_, _*_, _/_, _≤_, _<_, _^_};
 ghost use lib.ListN.{length};
+ghost use Rattle.rules.specs.Blocks.{streamLength};
 ghost use Rattle.rules.specs.Records.{base};
-ghost use Rattle.stream.specs.Record.{Fetched, recordAt, Padded, placeOf, Reach};
+ghost use Rattle.stream.specs.Record.{Fetched, recordAt, placeOf, Reach};
 
 // A record: byte 0, byte 1, and three words of 16 bits. Bytes 2 to 7 are the words' low and high bytes.
 pub struct Record {
@@ -67,64 +69,31 @@ fn zeros() -> Record
     }
 }
 
-// How many of the 8 bytes at an address a slice of n bytes holds.
-fn held(n: usize, at: usize) -> usize
-    ensures { λ r. ⌜ r ≡ min 8 (n - at) ⌝ }
-{
-    if n <= at {
-        return 0;
-    }
-    if 8 < n - at { 8 } else { n - at }
-}
-
-// The 8 bytes at an address, 0 for each past the end of the slice.
-fn padded(s: &[u8], at: usize) -> [u8; 8]
-    ensures { λ r. ⌜ Padded (now (s .entry)) at r ⌝ }
-{
-    let n = held(s.len(), at);
-    let mut bytes = [0u8; 8];
-    let mut j = 0;
-    while j < n {
-        bytes[j] = s[at + j];
-        j += 1;
-    }
-    bytes
-}
-
-// The record at an address, where the end of the slice cuts it. It is read from a copy, so that this rare case stays small where it is inlined.
-fn cut(s: &[u8], at: usize) -> Record
-    ensures { λ r. ⌜ r ≡ recordAt (now (s .entry)) at ⌝ }
-{
-    let bytes = padded(s, at);
-    inside(&bytes, 0)
-}
-
-// Record i: one test and one address where its block is whole, which it is in every stream that is let through.
+// Record i: one test and one address. Refusal 1 was tried, so that blocks are whole and no record is cut short; past the end all fields are 0.
 pub fn fetch(s: &[u8], i: usize) -> Record
+    requires { ⌜ streamLength (now s) ≡ none ⌝ }
     ensures { λ r. ⌜ Fetched (now (s .entry)) i r ⌝ }
 {
     let block = block_of(i);
-    let blocks = s.len() / 512;
-    if block < blocks {
+    if block < s.len() / 512 {
         return inside(s, address(i, block));
     }
-    if blocks < block {
-        return zeros();
-    }
-    cut(s, address(i, block))
+    zeros()
 }
 
 // The record at a place.
 pub fn fetch_at(s: &[u8], p: Place) -> Record
+    requires { ⌜ streamLength (now s) ≡ none ⌝ }
     ensures { λ r. ⌜ ((i : ℕ) → p ≡ placeOf i → Fetched (now (s .entry)) i r) ⌝ }
 {
     let at = p.at;
-    if at < s.len() {
-        if 8 <= s.len() - at {
-            return inside(s, at);
-        }
+    if s.len() <= at {
+        return zeros();
     }
-    cut(s, at)
+    if s.len() - at < 8 {
+        return zeros();
+    }
+    inside(s, at)
 }
 
 // The record at a place whose 8 bytes lie in the stream: nothing is tested.

@@ -3,11 +3,9 @@ ghost use mathlib.Core.Path.{_≡_};
 ghost use mathlib.Core.List.{_++_};
 ghost use Prim.Native.Nat.{min, _≤_, _<_, _^_};
 ghost use lib.ListN.{length, drop};
-ghost use Rattle.rules.specs.Records.{textOf};
 ghost use Rattle.stream.specs.Text.{textIn, textAfter, Begins, BeginsAt, room, partOf, Rest, Copied};
 use crate::copy::copy_into;
 use crate::record::Place;
-use crate::record::fetch;
 use crate::record::place_of;
 
 // A text, or what is left of one: the address of its first byte, and the number of its bytes.
@@ -24,14 +22,6 @@ pub fn text_after(s: &[u8], i: usize, n: usize) -> Text
         return Text { at: 0, left: 0 };
     }
     text_from(place_of(i + 1), n)
-}
-
-// The text of the head at record i, of as many bytes as its field b says.
-pub fn text_of(s: &[u8], i: usize) -> Text
-    ensures { λ t. ⌜ Begins (now (s .entry)) (textOf (now (s .entry)) i) 65535 t ⌝ }
-{
-    let head = fetch(s, i);
-    text_after(s, i, head.b as usize)
 }
 
 // The text of n bytes whose first unit is the record at a place, after a head that was carried there.

@@ -1,6 +1,6 @@
 use native.Mathlib.Omega.{arith}
 use Rattle.rules.specs.Records.{base}
-use Rattle.stream.proofs.RecordLaws.{fetched, fetched-none}
+use Rattle.stream.proofs.RecordLaws.{fetched, fetched-none, past-blocks}
 use borrow.Author.Needs.{needs}
 use Rattle.stream.proofs.record.fetch.Statement.{statement}
 use Rattle.stream.proofs.record.fetch.Tie as tie
@@ -22,27 +22,7 @@ zeros-requires : tie.Need-zeros-requires
 zeros-requires c κs = search needs
 
 returns-2 : tie.Need-returns-2
-returns-2 c = fetched-none _ _ _ (λ k. c .before .before .before .before .shared-slice-known .given k .fits) (omega arith) (c .zeros .ensures)
-
-address-requires-2 : tie.Need-address-requires-2
-address-requires-2 c κs = search needs
-
-cut-requires : tie.Need-cut-requires
-cut-requires c κs = search needs
-
-returns-3 : tie.Need-returns-3
-returns-3 c = fetched _ _ _ (λ k. c .before .before .before .before .before .shared-slice-known .given k .fits) (rw (c .before .address2 .ensures) at (c .cut .ensures))
+returns-2 c = fetched-none _ _ _ (λ k. c .before .before .before .shared-slice-known .given k .fits) (past-blocks _ _ (c .before .before .before .before .pre) (omega arith)) (c .zeros .ensures)
 
 pub fetch-spec : {M : Type 1} → statement M
-fetch-spec =
-    tie.close
-    (tie.spec
-    block-of-requires
-    address-requires
-    inside-requires
-    returns
-    zeros-requires
-    returns-2
-    address-requires-2
-    cut-requires
-    returns-3)
+fetch-spec = tie.close (tie.spec block-of-requires address-requires inside-requires returns zeros-requires returns-2)
