@@ -1,0 +1,3 @@
+pub mod NodeLaws
+pub mod SizeLaws
+pub mod PathLaws

@@ -1,0 +1,4 @@
+pub mod Sizes
+pub mod Paths
+pub mod Ranges
+pub mod Children

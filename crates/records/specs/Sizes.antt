@@ -1,0 +1,18 @@
+-- "Size is the number of records of a thing, head and all below it": of a value and of an element, whatever stream their record was fetched from.
+use Prim.Native.Nat.{ℕ, _≤_, _<_}
+use mathlib.Core.Path.{_≡_}
+use mathlib.Core.List.{List}
+use Rattle.rules.specs.Grammar.{elementSize}
+use Rattle.rules.specs.Value.{valueSize}
+use Rattle.stream.specs.Record.{Fetched}
+use Rattle.stream.specs.declared.record.Record.{Record}
+
+-- n is the size of the value whose head is r
+pub record ValueSize (r : Record) (n : ℕ) : Type 0 where
+  pub is : (v : List ℕ) (w : ℕ) → Fetched v w r → n ≡ valueSize v w
+  pub small : n < 65536
+
+-- n is the size of the element whose record is r
+pub record ElementSize (r : Record) (n : ℕ) : Type 0 where
+  pub is : (g : List ℕ) (e : ℕ) → Fetched g e r → n ≡ elementSize g e
+  pub small : n ≤ 8193
