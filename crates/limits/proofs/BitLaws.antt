@@ -14,7 +14,7 @@ use borrow.Author.Tests.{eqb-true, eqb-false, ltb-true, ltb-false}
 use Rattle.rules.specs.Records.{fieldB}
 use Rattle.rules.specs.Grammar.{productions, hasProduction, nonterminalExists}
 use Rattle.limits.specs.Bits.{isMarked, withBit, Nonterminals}
-use Rattle.limits.proofs.RowLaws.{drop-done, drop-more}
+use Rattle.laws.specs.Lists.{drop-done, drop-more}
 
 -- the code's shift
 pub with-bit : (word bit : ℕ) → bit < 64 → bitOr word (1 * 2 ^ bit % 18446744073709551616) ≡ withBit word bit

@@ -1,4 +1,4 @@
-pub mod RowLaws
+pub mod FormLaws
 pub mod TreeLaws
 pub mod NameLaws
 pub mod BitLaws

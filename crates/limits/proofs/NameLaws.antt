@@ -1,18 +1,22 @@
--- Names by number: what exists is below the length of its table. The forms of elements, types and nodes by their numbers; ranges.
-use Prim.Native.Nat.{ℕ, zero, suc, _+_, _*_, _/_, _%_, _≤_, _<_, zero-le}
+-- Names by number: what exists is below the length of its table. What elements, types and nodes name.
+use Prim.Native.Nat.{ℕ, zero, suc, _≤_, _<_, zero-le}
 use mathlib.Core.Path.{_≡_, refl, sym, _∙_}
 use mathlib.Core.List.{List, [], _∷_}
 use mathlib.Core.Bool.{true, false}
 use native.Mathlib.Omega.{arith}
 use lib.ListN.{length}
 use lib.Dec.{ltb, leb·suc-suc}
-use borrow.Author.Tests.{lt-ltb, le-ltb, ne-eqb}
+use borrow.Author.Tests.{lt-ltb, le-ltb}
 use Rattle.rules.specs.Faults.{exists}
-use Rattle.rules.specs.Records.{byteOf, word, base, fieldA, fieldB, fieldC, fieldD, nth, units}
-use Rattle.rules.specs.Grammar.{class, classes, production, productions, elementNumbered, elementAt, elementSize, nonterminalExists}
-use Rattle.rules.specs.Templates.{type, types, template, templates, typeNumbered, typeAt, formNumbered, formOf}
-use Rattle.rules.specs.Lexeme.{lowest, highest}
+use Rattle.rules.specs.Records.{fieldA, fieldB, nth}
+use Rattle.rules.specs.Grammar.{class, classes, production, productions, elementNumbered, elementAt, nonterminalExists}
+use Rattle.rules.specs.Templates.{type, types, template, templates, typeNumbered, typeAt, formOf}
 use Rattle.rules.specs.Names.{elementNamed, typeNamed, formNamed, nodeNamed}
+use Rattle.rules.specs.declared.Form.{Form}
+use Rattle.rules.specs.declared.Form.the-variants.{Build, Expand}
+use Rattle.stream.specs.declared.record.Record.{Record}
+use Rattle.stream.specs.Record.{Fetched}
+use Rattle.limits.proofs.FormLaws.{Among, nameless, names-nothing}
 
 -- entry n of a list exists exactly if n is below its length
 pub exists-nth : (xs : List ℕ) (n : ℕ) → exists (nth xs n) ≡ ltb n (length xs)
@@ -53,16 +57,6 @@ module _ (t : List ℕ) (q b n : ℕ) (hb : b ≡ fieldB t q) where
   parameter-right h l = sym (type-there t (fieldB t q) n h) ∙ field-earlier l
 
 -- an element by its number a: a keyword, a class, or a nonterminal
-pub element-keyword : (g : List ℕ) (e b : ℕ) → fieldA g e ≡ 0 → b ≡ fieldB g e
-    → (1 + (b + 7) / 8 ≡ elementSize g e) × (true ≡ elementNamed g (elementAt g e))
-unfolding elementSize elementNamed elementAt elementNumbered units
-element-keyword g e b h k = (sym (rw (h, k)), sym (rw h))
-
-pub element-class : (g : List ℕ) (e b : ℕ) → fieldA g e ≡ 1 → b ≡ fieldB g e
-    → (1 ≡ elementSize g e) × (exists (class g b) ≡ elementNamed g (elementAt g e))
-unfolding elementSize elementNamed elementAt elementNumbered
-element-class g e b h k = (sym (rw h), sym (rw (h, k)))
-
 named-other : (g : List ℕ) (a e : ℕ) → (a ≡ 0 → ⊥) → (a ≡ 1 → ⊥) → nonterminalExists g (fieldB g e) ≡ elementNamed g (elementNumbered g a e)
 unfolding elementNamed elementNumbered
 named-other g zero e h k = absurd (h refl)
@@ -70,10 +64,18 @@ named-other g (suc zero) e h k = absurd (k refl)
 named-other g (suc (suc zero)) e h k = refl
 named-other g (suc (suc (suc a))) e h k = refl
 
-pub element-other : (g : List ℕ) (e a b : ℕ) → a ≡ fieldA g e → (a ≡ 0 → ⊥) → (a ≡ 1 → ⊥) → b ≡ fieldB g e
-    → (1 ≡ elementSize g e) × (nonterminalExists g b ≡ elementNamed g (elementAt g e))
-unfolding elementSize elementAt
-element-other g e a b ha h k hb = (sym (rw (← ha, ne-eqb a 0 h)), rw (hb, ← ha) (named-other g a e h k))
+module _ (g : List ℕ) (e : ℕ) (x : Record) (h : Fetched g e x) where
+  pub element-keyword : x .a ≡ 0 → true ≡ elementNamed g (elementAt g e)
+  unfolding elementNamed elementAt elementNumbered
+  element-keyword k = sym (rw (← h .a, k))
+
+  pub element-class : x .a ≡ 1 → exists (class g (x .b)) ≡ elementNamed g (elementAt g e)
+  unfolding elementNamed elementAt elementNumbered
+  element-class k = sym (rw (← h .a, k, ← h .b))
+
+  pub element-other : (x .a ≡ 0 → ⊥) → (x .a ≡ 1 → ⊥) → nonterminalExists g (x .b) ≡ elementNamed g (elementAt g e)
+  unfolding elementAt
+  element-other k l = rw (h .b, ← h .a) (named-other g (x .a) e k l)
 
 -- a type by its number a: of a text, of a list, or another
 pub type-text : (g t : List ℕ) (p b : ℕ) → fieldA t p ≡ 0 → b ≡ fieldB t p → exists (class g b) ≡ typeNamed g t (typeAt t p)
@@ -96,37 +98,16 @@ pub type-other : (g t : List ℕ) (p a : ℕ) → a ≡ fieldA t p → (a ≡ 0 
 unfolding typeAt
 type-other g t p a e h k = rw (← e) (type-numbered g t a p h k)
 
--- a node by the number of its form: a build, an expand, or another
-pub node-build : (g t : List ℕ) (p b : ℕ) → fieldA t p ≡ 0 → b ≡ fieldB t p → exists (production g b) ≡ nodeNamed g t p
-unfolding nodeNamed formNamed formOf formNumbered
-node-build g t p b h k = sym (rw (h, k))
+-- a node by its form: a build, an expand, or another, which names nothing
+module _ (g t : List ℕ) (p : ℕ) (form : Form) (hf : form ≡ formOf t p) where
+  pub node-build : form ≡ Build → (b : ℕ) → b ≡ fieldB t p → exists (production g b) ≡ nodeNamed g t p
+  unfolding nodeNamed formNamed
+  node-build e b k = sym (rw (← hf, e, k))
 
-pub node-expand : (g t : List ℕ) (p b : ℕ) → fieldA t p ≡ 3 → b ≡ fieldB t p → exists (template t b) ≡ nodeNamed g t p
-unfolding nodeNamed formNamed formOf formNumbered
-node-expand g t p b h k = sym (rw (h, k))
+  pub node-expand : form ≡ Expand → (b : ℕ) → b ≡ fieldB t p → exists (template t b) ≡ nodeNamed g t p
+  unfolding nodeNamed formNamed
+  node-expand e b k = sym (rw (← hf, e, k))
 
-form-numbered : (g t : List ℕ) (a b : ℕ) → (a ≡ 0 → ⊥) → (a ≡ 3 → ⊥) → true ≡ formNamed g t (formNumbered a) b
-unfolding formNamed formNumbered
-form-numbered g t zero b h k = absurd (h refl)
-form-numbered g t (suc zero) b h k = refl
-form-numbered g t (suc (suc zero)) b h k = refl
-form-numbered g t (suc (suc (suc zero))) b h k = absurd (k refl)
-form-numbered g t (suc (suc (suc (suc zero)))) b h k = refl
-form-numbered g t (suc (suc (suc (suc (suc zero))))) b h k = refl
-form-numbered g t (suc (suc (suc (suc (suc (suc zero)))))) b h k = refl
-form-numbered g t (suc (suc (suc (suc (suc (suc (suc a))))))) b h k = refl
-
-pub node-other : (g t : List ℕ) (p a : ℕ) → a ≡ fieldA t p → (a ≡ 0 → ⊥) → (a ≡ 3 → ⊥) → true ≡ nodeNamed g t p
-unfolding nodeNamed formOf
-node-other g t p a e h k = rw (← e) (form-numbered g t a (fieldB t p) h k)
-
--- a range's bounds of three bytes, from the record's fields
-pub lowest-is : (g : List ℕ) (r : ℕ) → fieldA g r + 256 * fieldB g r ≡ lowest g r
-unfolding lowest fieldA fieldB byteOf word
-lowest-is g r = let e : base r + 2 + 1 ≡ base r + 3 = omega arith in rw e (omega arith)
-
-pub highest-is : (g : List ℕ) (r : ℕ) → byteOf g r 6 < 256 → fieldC g r + 65536 * (fieldD g r % 256) ≡ highest g r
-unfolding highest fieldC fieldD byteOf word
-highest-is g r l =
-    let e : base r + 4 + 1 ≡ base r + 5 = omega arith in
-    rw e (omega arith)
+  pub node-other : Among nameless form → true ≡ nodeNamed g t p
+  unfolding nodeNamed
+  node-other h = rw (← hf) (names-nothing g t form (fieldB t p) h)

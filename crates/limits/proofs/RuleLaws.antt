@@ -1,13 +1,13 @@
 -- Each rule from its parts, in the order in which the code tries them.
-use Prim.Native.Nat.{ℕ, _+_, _*_, _%_, _≤_, _<_}
+use Prim.Native.Nat.{ℕ, _+_, _≤_, _<_}
 use mathlib.Core.Path.{_≡_, sym, _∙_}
 use mathlib.Core.List.{List}
 use mathlib.Core.Bool.{Bool, true, false}
 use mathlib.Core.Option.{none, some}
 use lib.Dec.{leb}
 use borrow.Author.Tests.{le-leb, lt-leb}
-use Rattle.rules.specs.Records.{fieldA, fieldB}
-use Rattle.rules.specs.Lexeme.{lowest, highest, ranges}
+use Rattle.rules.specs.Records.{fieldA, fieldB, heads}
+use Rattle.rules.specs.Lexeme.{ranges}
 use Rattle.rules.specs.Grammar.{nonterminalExists}
 use Rattle.rules.specs.Templates.{types, templates, typeAt, parameterHeads, body}
 use Rattle.rules.specs.Limits.{deepest, templateLimits, valueLimits}
@@ -17,25 +17,19 @@ use Rattle.stream.specs.declared.record.Record.{Record}
 use Rattle.stream.specs.Record.{Fetched}
 use Rattle.limits.specs.Bits.{isMarked, Nonterminals}
 use Rattle.limits.specs.Rows.{valuesWithin, nodeWithin, nodesWithin, nodesNamed, fieldsEarlier, typesNamed, parametersNamed, templatesNamed, rangesRight}
-use Rattle.limits.proofs.RowLaws.{need-right, need-wrong, both-right, both-wrong}
-use Rattle.limits.proofs.TreeLaws.{row-one}
-use Rattle.limits.proofs.NameLaws.{lowest-is, highest-is}
+use Rattle.records.specs.Ranges.{RangeAt}
+use Rattle.records.specs.declared.range.Range.{Range}
+use Rattle.laws.specs.Faults.{every-one, need-right, need-wrong, both-right, both-wrong}
 
--- a range: its lowest and its highest from the fields of its record
-module _ (g : List ℕ) (r : ℕ) (x : Record) (h : Fetched g r x) where
-  range-lowest : x .a + 256 * x .b ≡ lowest g r
-  range-lowest = rw (h .a, h .b) (lowest-is g r)
-
-  range-highest : x .c + 65536 * (x .d % 256) ≡ highest g r
-  range-highest = rw (h .c, h .d) (highest-is g r (h .small 6))
-
-  pub range-wrong : x .c + 65536 * (x .d % 256) < x .a + 256 * x .b → false ≡ rangeRight g r
+-- a range: its lowest, then its highest
+module _ (g : List ℕ) (r : ℕ) (x : Range) (h : RangeAt g r x) where
+  pub range-wrong : x .highest < x .lowest → false ≡ rangeRight g r
   unfolding rangeRight
-  range-wrong l = sym (rw (← range-lowest, ← range-highest, lt-leb _ _ l))
+  range-wrong l = sym (rw (← h .from, ← h .to, lt-leb _ _ l))
 
-  pub range-rest : x .a + 256 * x .b ≤ x .c + 65536 * (x .d % 256) → leb (x .c + 65536 * (x .d % 256)) 0x10ffff ≡ rangeRight g r
+  pub range-rest : x .lowest ≤ x .highest → leb (x .highest) 0x10ffff ≡ rangeRight g r
   unfolding rangeRight
-  range-rest l = sym (rw (← range-lowest, ← range-highest, le-leb _ _ l))
+  range-rest l = sym (rw (← h .from, ← h .to, le-leb _ _ l))
 
 -- a class: least and most, then the ranges
 module _ (g : List ℕ) (p : ℕ) (x : Record) (h : Fetched g p x) where
@@ -64,12 +58,12 @@ module _ (t : List ℕ) (p a : ℕ) (h : a ≡ fieldA t p) where
   template-many l = sym (both-wrong _ (need-wrong p (rw (← h) (lt-leb a 8 l))))
 
   pub template-within : a ≤ 8 → nodesWithin t 200 0 1 (p + 1 + a) ≡ templateLimits t p
-  unfolding templateLimits nodesWithin deepest body nodeWithin
-  template-within l = row-one _ _ _ ∙ sym (both-right _ (need-right p (rw (← h) (le-leb a 8 l))) ∙ rw (← h))
+  unfolding templateLimits nodesWithin deepest body nodeWithin heads
+  template-within l = every-one _ _ ∙ sym (both-right _ (need-right p (rw (← h) (le-leb a 8 l))) ∙ rw (← h))
 
 pub value-within : (v : List ℕ) → valuesWithin v 200 1 0 ≡ valueLimits v
-unfolding valuesWithin valueLimits deepest
-value-within v = row-one _ _ _
+unfolding valuesWithin valueLimits deepest heads
+value-within v = every-one _ _
 
 -- what a template names: its nonterminal b, then the types of its parameters, then what is in its body
 module _ (g t : List ℕ) (p a b : ℕ) (ha : a ≡ fieldA t p) (hb : b ≡ fieldB t p) (bits : List ℕ) (small : b < 65536) (hn : Nonterminals g bits)
@@ -86,8 +80,8 @@ module _ (g t : List ℕ) (p a b : ℕ) (ha : a ≡ fieldA t p) (hb : b ≡ fiel
   template-parameters e f = sym (both-right _ (need-right p (sym exists-is ∙ e)) ∙ both-wrong _ (rw (← ha) f))
 
   pub template-body : named ≡ true → parametersNamed t a p ≡ none → nodesNamed g t 200 1 (p + 1 + a) ≡ templateNames g t p
-  unfolding templateNames parametersNamed parameterHeads nodesNamed deepest body
-  template-body e f = row-one _ _ _ ∙ sym (both-right _ (need-right p (sym exists-is ∙ e)) ∙ both-right _ (rw (← ha) f) ∙ rw (← ha))
+  unfolding templateNames parametersNamed parameterHeads nodesNamed deepest body heads
+  template-body e f = every-one _ _ ∙ sym (both-right _ (need-right p (sym exists-is ∙ e)) ∙ both-right _ (rw (← ha) f) ∙ rw (← ha))
 
 -- what a template set names: types, then templates
 module _ (g t us ts : List ℕ) (hu : us ≡ types t) (ht : ts ≡ templates t) where

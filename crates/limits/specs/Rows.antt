@@ -2,44 +2,46 @@
 use Prim.Native.Nat.{ℕ, _+_, _*_, _^_, _≤_, _<_}
 use mathlib.Core.Path.{_≡_}
 use mathlib.Core.List.{List}
-use mathlib.Core.Bool.{true, cond}
-use mathlib.Core.Option.{Option}
-use lib.Dec.{eqb, ltb}
+use mathlib.Core.Bool.{true}
+use mathlib.Core.Option.{Option, none}
+use lib.Dec.{ltb}
+use Rattle.rules.specs.Blocks.{streamLength}
 use Rattle.rules.specs.Faults.{need, every, tree, at, exists}
-use Rattle.rules.specs.Records.{fieldA, fieldB, fieldC, heads, row, numbered}
-use Rattle.rules.specs.Grammar.{elementSize, elementAt, elementHeads}
+use Rattle.rules.specs.Records.{fieldB, fieldC, heads, row, numbered}
+use Rattle.rules.specs.Grammar.{elementAt, elementHeads}
 use Rattle.rules.specs.Value.{valueSize, valuesBelow}
-use Rattle.rules.specs.Templates.{nodesBelow, fieldHeads, type}
+use Rattle.rules.specs.Templates.{formOf, nodesBelow, fieldHeads, type}
 use Rattle.rules.specs.Limits.{looped, loopedBelow, fewLoops}
 use Rattle.rules.specs.Names.{elementNamed, typeNames, nodeNamed, templateNames}
 use Rattle.rules.specs.Classes.{rangeRight}
+use Rattle.rules.specs.declared.Form.{Form}
 use Rattle.stream.specs.declared.record.Record.{Record}
 use Rattle.stream.specs.declared.record.Place.{Place}
 use Rattle.stream.specs.Record.{Fetched, placeOf}
-use Rattle.limits.specs.declared.names.Counts.{Counts}
-use Rattle.limits.specs.Tables.{Counted}
-use Rattle.limits.specs.declared.node.Row.{Row}
+use Rattle.limits.specs.declared.names.NameCounts.{NameCounts}
+use Rattle.limits.specs.Tables.{Nameable, Counted}
+use Rattle.limits.specs.declared.node.Nodes.{Nodes}
 use Rattle.limits.specs.declared.node.Node.{Node}
-use Rattle.limits.specs.declared.grammar.Element.{Element}
 
 -- A row is near enough that the places of left levels below it are numbers of 64 bits: each level adds less than 2^32.
-pub record Near (left first count : ℕ) : Type 0 where
+pub record RowNear (left first count : ℕ) : Type 0 where
   pub place : first + (left + 1) * 0x100000000 ≤ 0x10000000000
   pub few : count < 65536
 
 -- a row of values, with the place of its first
-pub record ValueRow (left first : ℕ) (from : Place) (count : ℕ) : Type 0 where
-  pub near : Near left first count
+pub record ValueRow (v : List ℕ) (left first : ℕ) (from : Place) (count : ℕ) : Type 0 where
+  pub sized : streamLength v ≡ none
+  pub near : RowNear left first count
   pub from-is : from ≡ placeOf first
 
--- a row of nodes, with how many there are of what they may name
-pub record NamingRow (g t : List ℕ) (counts : Counts) (left first count : ℕ) : Type 0 where
-  pub near : Near left first count
-  pub counted : Counted g t counts
+-- a row of nodes; and one with how many there are of what they may name
+pub record NodeRow (t : List ℕ) (left first count : ℕ) : Type 0 where
+  pub sized : streamLength t ≡ none
+  pub near : RowNear left first count
 
--- the records of a value by its head
-unfoldable pub sizeOf : Record → ℕ
-sizeOf r = cond (eqb (r .kind) 2) 1 (r .c)
+pub record NamingRow (g t : List ℕ) (counts : NameCounts) (left first count : ℕ) : Type 0 where
+  pub near : RowNear left first count
+  pub counted : Counted g t counts
 
 -- refusal 4 in a row of values, each at most left deep
 unfoldable pub valuesWithin : List ℕ → ℕ → ℕ → ℕ → Option ℕ
@@ -76,32 +78,35 @@ templatesNamed g t ts = every (templateNames g t) ts
 unfoldable pub rangesRight : List ℕ → ℕ → ℕ → Option ℕ
 rangesRight g count p = every (λ r. need (rangeRight g r) r) (row count (p + 1))
 
--- the head of the node at p
-pub record HeadIs (t : List ℕ) (p : ℕ) (head : Record) : Type 0 where
+-- a node may be read at p; its head, and its form
+pub record Readable (t : List ℕ) (p : ℕ) : Type 0 where
+  pub sized : streamLength t ≡ none
+  pub near : p < 2 ^ 60
+
+pub record HeadIs (t : List ℕ) (p : ℕ) (head : Record) (form : Form) : Type 0 where
   pub near : p < 2 ^ 60
   pub fetched : Fetched t p head
+  pub form-is : form ≡ formOf t p
 
 -- r is the row of nodes directly below the node at p
-pub record RowBelow (t : List ℕ) (p : ℕ) (r : Row) : Type 0 where
+pub record NodesBelow (t : List ℕ) (p : ℕ) (r : Nodes) : Type 0 where
   pub below : heads (fieldC t) (r .count) (r .first) ≡ nodesBelow t p
   pub near : r .first ≤ p + 2
   pub few : r .count < 65536
 
 -- r is the node at p
 pub record NodeIs (t : List ℕ) (p : ℕ) (r : Node) : Type 0 where
-  pub form : r .form ≡ fieldA t p
+  pub form : r .form ≡ formOf t p
   pub names : r .names ≡ fieldB t p
   pub size : r .size ≡ fieldC t p
-  pub below : RowBelow t p (r .below)
+  pub below : NodesBelow t p (r .below)
   pub small : r .size < 65536
 
--- the node at p, with how many there are of what it may name
-pub record NamingNode (g t : List ℕ) (counts : Counts) (p : ℕ) (node : Node) : Type 0 where
+-- the node at p, the element at e, with how many there are of what they may name
+pub record NamingNode (g t : List ℕ) (counts : NameCounts) (p : ℕ) (node : Node) : Type 0 where
   pub counted : Counted g t counts
   pub node-is : NodeIs t p node
 
--- r is the element at e
-pub record ElementIs (g : List ℕ) (e : ℕ) (r : Element) : Type 0 where
-  pub size : r .size ≡ elementSize g e
-  pub named : r .named ≡ elementNamed g (elementAt g e)
-  pub small : r .size < 65536
+pub record NamingElement (g : List ℕ) (e : ℕ) (element : Record) (classes : ℕ) (bits : List ℕ) : Type 0 where
+  pub nameable : Nameable g classes bits
+  pub fetched : Fetched g e element

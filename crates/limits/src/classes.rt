@@ -1,27 +1,33 @@
 // Refusal 6: the bounds of classes and of their ranges.
 ghost use mathlib.Core.Path.{_≡_};
+ghost use mathlib.Core.Option.{none};
+ghost use Rattle.rules.specs.Blocks.{streamLength};
 ghost use Rattle.rules.specs.Classes.{rangeRight, classBounds, grammarClasses};
 ghost use Rattle.stream.specs.Fault.{faultOf};
 ghost use Rattle.limits.specs.Tables.{ClassTable};
 ghost use Rattle.limits.specs.Rows.{rangesRight};
+use records::range::range_at;
 use stream::Fault;
 use stream::record::fetch;
 
-// Whether the range at r has lowest at most highest, and that within Unicode. Both have three bytes: a and b; c and the low byte of d.
+// The last code point of Unicode.
+const LAST: usize = 0x10ffff;
+
+// Whether the range at r has lowest at most highest, and that within Unicode.
 fn is_right(g: &[u8], r: usize) -> bool
+    requires { ⌜ streamLength (now g) ≡ none ⌝ }
     ensures { λ b. ⌜ b ≡ rangeRight (now (g .entry)) r ⌝ }
 {
-    let range = fetch(g, r);
-    let lowest = range.a as usize + 256 * (range.b as usize);
-    let highest = range.c as usize + 65536 * (range.d as usize % 256);
-    if highest < lowest {
+    let range = range_at(g, r);
+    if range.highest < range.lowest {
         return false;
     }
-    highest <= 0x10ffff
+    range.highest <= LAST
 }
 
 // The ranges of the class at p, so many.
 fn ranges_right(g: &[u8], p: u16, count: u16) -> Fault
+    requires { ⌜ streamLength (now g) ≡ none ⌝ }
     ensures { λ r. ⌜ faultOf r ≡ rangesRight (now (g .entry)) count p ⌝ }
 {
     let mut at = p as usize + 1;
@@ -38,6 +44,7 @@ fn ranges_right(g: &[u8], p: u16, count: u16) -> Fault
 
 // The class at p: its least and most, then its ranges.
 fn class_bounds(g: &[u8], p: u16) -> Fault
+    requires { ⌜ streamLength (now g) ≡ none ⌝ }
     ensures { λ r. ⌜ faultOf r ≡ classBounds (now (g .entry)) p ⌝ }
 {
     let head = fetch(g, p as usize);

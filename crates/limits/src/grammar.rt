@@ -1,46 +1,40 @@
 // Refusal 5 of a grammar: the classes and nonterminals that its elements name.
 ghost use mathlib.Core.Path.{_≡_};
-ghost use Rattle.rules.specs.Names.{grammarNames};
+ghost use Rattle.rules.specs.Grammar.{elementAt};
+ghost use Rattle.rules.specs.Names.{elementNamed, grammarNames};
 ghost use Rattle.stream.specs.Fault.{faultOf};
 ghost use Rattle.limits.specs.Tables.{GrammarTables, Nameable};
-ghost use Rattle.limits.specs.Rows.{ElementIs, elementsNamed};
+ghost use Rattle.limits.specs.Rows.{NamingElement, elementsNamed};
+use crate::nonterminals::WORDS;
 use crate::nonterminals::is_marked;
+use records::element::size_of;
 use stream::Fault;
+use stream::record::Record;
 use stream::record::fetch;
 
-// An element: its records, and whether what it names exists.
-struct Element {
-    size: usize,
-    named: bool,
-}
-
-// The element at e. A keyword names nothing, and its text follows it.
-fn element_at(g: &[u8], e: usize, classes: usize, nonterminals: &[u64; 1024]) -> Element
-    requires { ⌜ Nameable (now g) classes (now nonterminals) ⌝ }
-    ensures { λ r. ⌜ ElementIs (now (g .entry)) e r ⌝ }
+// Whether what the element at e names exists: a class, or a nonterminal. A keyword names nothing.
+fn is_named(
+    g: &[u8],
+    e: usize,
+    element: Record,
+    classes: usize,
+    nonterminals: &[u64; WORDS],
+) -> bool
+    requires { ⌜ NamingElement (now g) e element classes (now nonterminals) ⌝ }
+    ensures { λ r. ⌜ r ≡ elementNamed (now (g .entry)) (elementAt (now (g .entry)) e) ⌝ }
 {
-    let head = fetch(g, e);
-    let a = head.a;
+    let a = element.a;
     if a == 0 {
-        return Element {
-            size: 1 + (head.b as usize + 7) / 8,
-            named: true,
-        };
+        return true;
     }
     if a == 1 {
-        return Element {
-            size: 1,
-            named: (head.b as usize) < classes,
-        };
+        return (element.b as usize) < classes;
     }
-    Element {
-        size: 1,
-        named: is_marked(nonterminals, head.b),
-    }
+    is_marked(nonterminals, element.b)
 }
 
 // The elements of the production at p.
-fn elements_named(g: &[u8], p: u16, classes: usize, nonterminals: &[u64; 1024]) -> Fault
+fn elements_named(g: &[u8], p: u16, classes: usize, nonterminals: &[u64; WORDS]) -> Fault
     requires { ⌜ Nameable (now g) classes (now nonterminals) ⌝ }
     ensures { λ r. ⌜ faultOf r ≡ elementsNamed (now (g .entry)) p ⌝ }
 {
@@ -49,11 +43,11 @@ fn elements_named(g: &[u8], p: u16, classes: usize, nonterminals: &[u64; 1024]) 
     let mut e = p as usize + 1;
     let mut i = 0;
     while i < count {
-        let element = element_at(g, e, classes, nonterminals);
-        if !element.named {
+        let element = fetch(g, e);
+        if !is_named(g, e, element, classes, nonterminals) {
             return Fault::At(e);
         }
-        e += element.size;
+        e += size_of(element);
         i += 1;
     }
     Fault::Nowhere
@@ -64,7 +58,7 @@ pub fn grammar_names(
     g: &[u8],
     classes: &[u16],
     productions: &[u16],
-    nonterminals: &[u64; 1024],
+    nonterminals: &[u64; WORDS],
 ) -> Fault
     requires { ⌜ GrammarTables (now g) (now classes) (now productions) (now nonterminals) ⌝ }
     ensures { λ r. ⌜ faultOf r ≡ grammarNames (now (g .entry)) ⌝ }

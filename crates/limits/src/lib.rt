@@ -4,7 +4,10 @@
 pub mod classes;
 pub mod grammar;
 pub mod names;
-pub mod node;
+mod node;
 pub mod nonterminals;
 pub mod templates;
 pub mod value;
+
+// So many levels template nodes and values may nest.
+pub(crate) const DEEPEST: usize = 200;

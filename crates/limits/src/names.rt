@@ -1,20 +1,23 @@
 // Refusal 5 of a template set: the classes, nonterminals, productions, types and templates that its records name.
 ghost use mathlib.Core.Path.{_≡_};
+ghost use mathlib.Core.Option.{none};
+ghost use Rattle.rules.specs.Blocks.{streamLength};
 ghost use Rattle.rules.specs.Names.{typeNamed, typeNames, nodeNamed, templateNames, templatesNames};
 ghost use Rattle.rules.specs.Templates.{typeAt};
 ghost use Rattle.stream.specs.Fault.{faultOf};
 ghost use Rattle.limits.specs.Tables.{TypeCount, TypeCounts, Counted, Naming, AllTables};
 ghost use Rattle.limits.specs.Rows.{NamingNode, NamingRow, fieldsEarlier, typesNamed, nodesNamed, parametersNamed, templatesNamed};
-use crate::node::BUILD;
-use crate::node::EXPAND;
+use crate::DEEPEST;
 use crate::node::Node;
 use crate::node::node_at;
+use crate::nonterminals::WORDS;
 use crate::nonterminals::is_marked;
+use rules::Form;
 use stream::Fault;
 use stream::record::fetch;
 
 // How many there are of what a template set names by number.
-struct Counts {
+struct NameCounts {
     classes: usize,
     productions: usize,
     types: usize,
@@ -39,6 +42,7 @@ fn type_named(g: &[u8], t: &[u8], classes: usize, types: usize, p: u16) -> bool
 
 // The fields of type n, whose head is at p: each names an earlier type.
 fn fields_earlier(t: &[u8], n: usize, p: u16) -> Fault
+    requires { ⌜ streamLength (now t) ≡ none ⌝ }
     ensures { λ r. ⌜ faultOf r ≡ fieldsEarlier (now (t .entry)) n p ⌝ }
 {
     let head = fetch(t, p as usize);
@@ -57,7 +61,7 @@ fn fields_earlier(t: &[u8], n: usize, p: u16) -> Fault
 }
 
 // What type n names, its head first.
-fn type_names(g: &[u8], t: &[u8], counts: Counts, n: usize, p: u16) -> Fault
+fn type_names(g: &[u8], t: &[u8], counts: NameCounts, n: usize, p: u16) -> Fault
     requires { ⌜ Counted (now g) (now t) counts ⌝ }
     ensures { λ r. ⌜ faultOf r ≡ typeNames (now (g .entry)) (now (t .entry)) (n, p) ⌝ }
 {
@@ -68,7 +72,7 @@ fn type_names(g: &[u8], t: &[u8], counts: Counts, n: usize, p: u16) -> Fault
 }
 
 // What all types name.
-fn types_named(g: &[u8], t: &[u8], types: &[u16], counts: Counts) -> Fault
+fn types_named(g: &[u8], t: &[u8], types: &[u16], counts: NameCounts) -> Fault
     requires { ⌜ Counted (now g) (now t) counts ⌝ }
     ensures { λ r. ⌜ faultOf r ≡ typesNamed (now (g .entry)) (now (t .entry)) (now (types .entry)) ⌝ }
 {
@@ -84,22 +88,27 @@ fn types_named(g: &[u8], t: &[u8], types: &[u16], counts: Counts) -> Fault
 }
 
 // A build names a production, an expand a template.
-fn is_named(g: &[u8], t: &[u8], counts: Counts, p: usize, node: Node) -> bool
+fn is_named(g: &[u8], t: &[u8], counts: NameCounts, p: usize, node: Node) -> bool
     requires { ⌜ NamingNode (now g) (now t) counts p node ⌝ }
     ensures { λ r. ⌜ r ≡ nodeNamed (now (g .entry)) (now (t .entry)) p ⌝ }
 {
     let form = node.form;
-    if form == BUILD {
-        return node.names < counts.productions;
+    match form {
+        Form::Build => node.names < counts.productions,
+        Form::Expand => node.names < counts.templates,
+        Form::Literal | Form::Place | Form::If | Form::For | Form::Sequence | Form::Unknown => true,
     }
-    if form == EXPAND {
-        return node.names < counts.templates;
-    }
-    true
 }
 
 // What a row of nodes and all below them name, where left levels may follow each other.
-fn nodes_named(g: &[u8], t: &[u8], counts: Counts, first: usize, count: usize, left: usize) -> Fault
+fn nodes_named(
+    g: &[u8],
+    t: &[u8],
+    counts: NameCounts,
+    first: usize,
+    count: usize,
+    left: usize,
+) -> Fault
     requires { ⌜ NamingRow (now g) (now t) counts left first count ⌝ }
     ensures { λ r. ⌜ faultOf r ≡ nodesNamed (now (g .entry)) (now (t .entry)) left count first ⌝ }
 {
@@ -146,7 +155,13 @@ fn parameters_named(t: &[u8], types: usize, p: u16, count: u8) -> Fault
 }
 
 // What the template at p names: its nonterminal, the types of its parameters, what its body names.
-fn template_names(g: &[u8], t: &[u8], counts: Counts, nonterminals: &[u64; 1024], p: u16) -> Fault
+fn template_names(
+    g: &[u8],
+    t: &[u8],
+    counts: NameCounts,
+    nonterminals: &[u64; WORDS],
+    p: u16,
+) -> Fault
     requires { ⌜ Naming (now g) (now t) counts (now nonterminals) ⌝ }
     ensures { λ r. ⌜ faultOf r ≡ templateNames (now (g .entry)) (now (t .entry)) p ⌝ }
 {
@@ -158,7 +173,7 @@ fn template_names(g: &[u8], t: &[u8], counts: Counts, nonterminals: &[u64; 1024]
     if let Fault::At(a) = fault {
         return Fault::At(a);
     }
-    nodes_named(g, t, counts, p as usize + 1 + head.a as usize, 1, 200)
+    nodes_named(g, t, counts, p as usize + 1 + head.a as usize, 1, DEEPEST)
 }
 
 // What all templates name.
@@ -166,8 +181,8 @@ fn templates_named(
     g: &[u8],
     t: &[u8],
     templates: &[u16],
-    counts: Counts,
-    nonterminals: &[u64; 1024],
+    counts: NameCounts,
+    nonterminals: &[u64; WORDS],
 ) -> Fault
     requires { ⌜ Naming (now g) (now t) counts (now nonterminals) ⌝ }
     ensures { λ r. ⌜ faultOf r ≡ templatesNamed (now (g .entry)) (now (t .entry)) (now (templates .entry)) ⌝ }
@@ -191,12 +206,12 @@ pub fn templates_names(
     productions: &[u16],
     types: &[u16],
     templates: &[u16],
-    nonterminals: &[u64; 1024],
+    nonterminals: &[u64; WORDS],
 ) -> Fault
     requires { ⌜ AllTables (now g) (now t) (now classes) (now productions) (now types) (now templates) (now nonterminals) ⌝ }
     ensures { λ r. ⌜ faultOf r ≡ templatesNames (now (g .entry)) (now (t .entry)) ⌝ }
 {
-    let counts = Counts {
+    let counts = NameCounts {
         classes: classes.len(),
         productions: productions.len(),
         types: types.len(),

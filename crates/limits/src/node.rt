@@ -1,54 +1,43 @@
-// The head of a template node, with the row of nodes directly below it.
-ghost use Prim.Native.Nat.{_<_, _^_};
-ghost use Rattle.limits.specs.Rows.{HeadIs, RowBelow, NodeIs};
+// A template node, from its head, with the row of nodes directly below it.
+ghost use Rattle.limits.specs.Rows.{Readable, HeadIs, NodesBelow, NodeIs};
+use records::node::form_of;
+use rules::Form;
 use stream::record::Record;
 use stream::record::fetch;
 
-// The numbers of the forms that matter here.
-pub const BUILD: u8 = 0;
-
-pub const EXPAND: u8 = 3;
-
-pub const IF: u8 = 4;
-
-pub const FOR: u8 = 5;
-
-pub const SEQUENCE: u8 = 6;
-
 // Nodes in a row: where they begin, and how many.
-pub struct Row {
+pub(crate) struct Nodes {
     pub first: usize,
     pub count: usize,
 }
 
-// A node: the number of its form, the number that it names, its records, and the nodes directly below it.
-pub struct Node {
-    pub form: u8,
+// A node: its form, the number that it names, its records, and the nodes directly below it.
+pub(crate) struct Node {
+    pub form: Form,
     pub names: usize,
     pub size: usize,
-    pub below: Row,
+    pub below: Nodes,
 }
 
-// The row below the node at p: the d nodes of a build or a sequence; behind a path, the two of an if and the one of a for.
-fn row_below(t: &[u8], p: usize, head: Record) -> Row
-    requires { ⌜ HeadIs (now t) p head ⌝ }
-    ensures { λ r. ⌜ RowBelow (now (t .entry)) p r ⌝ }
+// The d nodes of a build or a sequence follow the head; behind a path come the two of an if and the one of a for. Other forms have none.
+fn nodes_below(t: &[u8], p: usize, head: Record, form: Form) -> Nodes
+    requires { ⌜ HeadIs (now t) p head form ⌝ }
+    ensures { λ r. ⌜ NodesBelow (now (t .entry)) p r ⌝ }
 {
-    let form = head.a;
     match form {
-        BUILD | SEQUENCE => Row {
+        Form::Build | Form::Sequence => Nodes {
             first: p + 1,
             count: head.d as usize,
         },
-        IF => Row {
+        Form::If => Nodes {
             first: p + 2,
             count: 2,
         },
-        FOR => Row {
+        Form::For => Nodes {
             first: p + 2,
             count: 1,
         },
-        _ => Row {
+        Form::Literal | Form::Place | Form::Expand | Form::Unknown => Nodes {
             first: p + 1,
             count: 0,
         },
@@ -56,14 +45,15 @@ fn row_below(t: &[u8], p: usize, head: Record) -> Row
 }
 
 // The node at p.
-pub fn node_at(t: &[u8], p: usize) -> Node
-    requires { ⌜ p < 2 ^ 60 ⌝ }
+pub(crate) fn node_at(t: &[u8], p: usize) -> Node
+    requires { ⌜ Readable (now t) p ⌝ }
     ensures { λ r. ⌜ NodeIs (now (t .entry)) p r ⌝ }
 {
     let head = fetch(t, p);
-    let below = row_below(t, p, head);
+    let form = form_of(head);
+    let below = nodes_below(t, p, head, form);
     Node {
-        form: head.a,
+        form: form,
         names: head.b as usize,
         size: head.c as usize,
         below: below,

@@ -5,8 +5,11 @@ ghost use Rattle.limits.specs.Tables.{ProductionTable};
 ghost use Rattle.limits.specs.Bits.{isMarked, withBit, Nonterminals};
 use stream::record::fetch;
 
+// The words of 64 bits that have a bit for each number.
+pub const WORDS: usize = 1024;
+
 // Whether the bit of n is set.
-pub fn is_marked(bits: &[u64; 1024], n: u16) -> bool
+pub(crate) fn is_marked(bits: &[u64; WORDS], n: u16) -> bool
     ensures { λ r. ⌜ r ≡ isMarked (now (bits .entry)) n ⌝ }
 {
     let at = n as usize;
@@ -23,11 +26,11 @@ fn with_bit(word: u64, bit: usize) -> u64
 }
 
 // The nonterminals that the productions are of.
-pub fn nonterminals(g: &[u8], productions: &[u16]) -> [u64; 1024]
+pub fn nonterminals(g: &[u8], productions: &[u16]) -> [u64; WORDS]
     requires { ⌜ ProductionTable (now g) (now productions) ⌝ }
     ensures { λ r. ⌜ Nonterminals (now (g .entry)) r ⌝ }
 {
-    let mut bits = [0u64; 1024];
+    let mut bits = [0u64; WORDS];
     let mut i = 0;
     while i < productions.len() {
         let head = fetch(g, productions[i] as usize);

@@ -5,7 +5,9 @@ use native.Mathlib.Omega.{arith}
 use lib.ListN.{length, drop}
 use Rattle.rules.specs.Classes.{classBounds, grammarClasses}
 use Rattle.rules.specs.Faults.{every}
-use Rattle.limits.proofs.RowLaws.{found-at, found-none, every-next, every-stop, every-end, drop-more, drop-done}
+use Rattle.laws.specs.Faults.{every-next, every-stop, every-end}
+use Rattle.laws.specs.Lists.{drop-more, drop-done}
+use Rattle.stream.proofs.BlockLaws.{found, unfound}
 use borrow.Author.Needs.{needs}
 use Rattle.limits.proofs.classes.grammar_classes.Statement.{statement}
 use Rattle.limits.proofs.classes.grammar_classes.Tie as tie
@@ -33,7 +35,7 @@ enum-known-fault : tie.Need-enum-known-fault Inv-loop μ-loop
 enum-known-fault c = search needs
 
 returns : tie.Need-returns Inv-loop μ-loop
-returns c = every-stop _ (c .before .before .before .before .before .before .loop .inv .1) (drop-more _ _ (c .before .before .before .before .before .loop-test .taken)) (found-at (c .before .before .before .class-bounds .ensures) (c .before .fault .given .1))
+returns c = every-stop _ (c .before .before .before .before .before .before .loop .inv .1) (drop-more _ _ (c .before .before .before .before .before .loop-test .taken)) (found _ _ _ (c .before .before .before .class-bounds .ensures) (c .before .fault .given .1))
 
 enum-told : tie.Need-enum-told Inv-loop μ-loop
 enum-told c = search needs
@@ -45,7 +47,7 @@ loop-less : tie.Need-loop-less Inv-loop μ-loop
 loop-less c = search needs
 
 loop-again : tie.Need-loop-again Inv-loop μ-loop
-loop-again c = (omega arith, every-next _ (c .before .before .before .before .before .loop .inv .1) (drop-more _ _ (c .before .before .before .before .loop-test .taken)) (found-none (c .before .before .class-bounds .ensures) (c .enum-told .given .1)))
+loop-again c = (omega arith, every-next _ (c .before .before .before .before .before .loop .inv .1) (drop-more _ _ (c .before .before .before .before .loop-test .taken)) (unfound _ _ (c .before .before .class-bounds .ensures) (c .enum-told .given .1)))
 
 returns-2 : tie.Need-returns-2 Inv-loop μ-loop
 returns-2 c = every-end _ (c .before .loop .inv .1) (drop-done _ _ (c .loop-test .left))

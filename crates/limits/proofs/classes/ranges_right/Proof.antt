@@ -7,7 +7,8 @@ use Rattle.rules.specs.Classes.{rangeRight}
 use Rattle.rules.specs.Faults.{need, every}
 use Rattle.rules.specs.Records.{heads, row}
 use Rattle.limits.specs.Rows.{rangesRight}
-use Rattle.limits.proofs.RowLaws.{need-right, need-wrong, every-next, every-stop, every-end, heads-more, heads-done, heads-all}
+use Rattle.laws.specs.Faults.{need-right, need-wrong, every-next, every-stop, every-end}
+use Rattle.laws.specs.Rows.{heads-more, heads-done, heads-all}
 use borrow.Author.Needs.{needs}
 use Rattle.limits.proofs.classes.ranges_right.Statement.{statement}
 use Rattle.limits.proofs.classes.ranges_right.Tie as tie

@@ -6,7 +6,9 @@ use lib.ListN.{length, drop}
 use Rattle.rules.specs.Faults.{every}
 use Rattle.rules.specs.Names.{grammarNames}
 use Rattle.limits.specs.Rows.{elementsNamed}
-use Rattle.limits.proofs.RowLaws.{found-at, found-none, every-next, every-stop, every-end, drop-more, drop-done}
+use Rattle.laws.specs.Faults.{every-next, every-stop, every-end}
+use Rattle.laws.specs.Lists.{drop-more, drop-done}
+use Rattle.stream.proofs.BlockLaws.{found, unfound}
 use borrow.Author.Needs.{needs}
 use Rattle.limits.proofs.grammar.grammar_names.Statement.{statement}
 use Rattle.limits.proofs.grammar.grammar_names.Tie as tie
@@ -28,13 +30,13 @@ shared-slice-read-elements-named : tie.Need-shared-slice-read-elements-named Inv
 shared-slice-read-elements-named c = search needs
 
 elements-named-requires : tie.Need-elements-named-requires Inv-loop μ-loop
-elements-named-requires c κs = record { classes-are = ap length (c .before .before .before .before .before .before .pre .classes-are); nonterminals-are = c .before .before .before .before .before .before .pre .nonterminals-are }
+elements-named-requires c κs = record { sized = c .before .before .before .before .before .before .pre .sized; classes-are = ap length (c .before .before .before .before .before .before .pre .classes-are); nonterminals-are = c .before .before .before .before .before .before .pre .nonterminals-are }
 
 enum-known-fault : tie.Need-enum-known-fault Inv-loop μ-loop
 enum-known-fault c = search needs
 
 returns : tie.Need-returns Inv-loop μ-loop
-returns c = every-stop _ (c .before .before .before .before .before .before .loop .inv .1) (drop-more _ _ (c .before .before .before .before .before .loop-test .taken)) (found-at (c .before .before .before .elements-named .ensures) (c .before .fault .given .1))
+returns c = every-stop _ (c .before .before .before .before .before .before .loop .inv .1) (drop-more _ _ (c .before .before .before .before .before .loop-test .taken)) (found _ _ _ (c .before .before .before .elements-named .ensures) (c .before .fault .given .1))
 
 enum-told : tie.Need-enum-told Inv-loop μ-loop
 enum-told c = search needs
@@ -46,7 +48,7 @@ loop-less : tie.Need-loop-less Inv-loop μ-loop
 loop-less c = search needs
 
 loop-again : tie.Need-loop-again Inv-loop μ-loop
-loop-again c = (omega arith, every-next _ (c .before .before .before .before .before .loop .inv .1) (drop-more _ _ (c .before .before .before .before .loop-test .taken)) (found-none (c .before .before .elements-named .ensures) (c .enum-told .given .1)))
+loop-again c = (omega arith, every-next _ (c .before .before .before .before .before .loop .inv .1) (drop-more _ _ (c .before .before .before .before .loop-test .taken)) (unfound _ _ (c .before .before .elements-named .ensures) (c .enum-told .given .1)))
 
 returns-2 : tie.Need-returns-2 Inv-loop μ-loop
 returns-2 c = every-end _ (c .before .loop .inv .1) (drop-done _ _ (c .loop-test .left))

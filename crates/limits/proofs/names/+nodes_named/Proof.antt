@@ -9,8 +9,10 @@ use Rattle.rules.specs.Names.{nodeNamed}
 use Rattle.rules.specs.Records.{fieldC, heads}
 use Rattle.rules.specs.Templates.{nodesBelow}
 use Rattle.limits.specs.Rows.{nodesNamed}
-use Rattle.limits.proofs.RowLaws.{found-at, found-none, every-next, every-stop, every-end, heads-more, heads-done, heads-all}
-use Rattle.limits.proofs.TreeLaws.{row-none, row-first, tree-deep, named-wrong, named-below}
+use Rattle.laws.specs.Faults.{every-next, every-stop, every-end, tree-deep}
+use Rattle.laws.specs.Rows.{heads-more, heads-done, heads-all, every-none, every-offends}
+use Rattle.stream.proofs.BlockLaws.{found, unfound}
+use Rattle.limits.proofs.TreeLaws.{named-wrong, named-below}
 use borrow.Author.Needs.{needs}
 use borrow.Fn.Kinds.{In}
 use borrow.Fn.PlainCycle.{Measures, is, falls, and}
@@ -44,11 +46,11 @@ nodes-named-μ-loop g t counts first count left at₀ i₀ at i = count - i
 
 nodes-named-returns : (t : ℕ) → nodes-named-lts.Need-returns (nodes-named-claims t) (nodes-named-at t) nodes-named.Post nodes-named-Inv-loop nodes-named-μ-loop
 unfolding nodesNamed
-nodes-named-returns t c = row-none _ _ _ _ (c .if1 .taken)
+nodes-named-returns t c = every-none _ _ _ _ (c .if1 .taken)
 
 nodes-named-returns-2 : (t : ℕ) → nodes-named-lts.Need-returns-2 (nodes-named-claims t) (nodes-named-at t) nodes-named.Post nodes-named-Inv-loop nodes-named-μ-loop
 unfolding nodesNamed
-nodes-named-returns-2 t c = row-first _ _ _ _ (c .before .if1 .left) (tree-deep _ _ _ _ (c .if2 .taken))
+nodes-named-returns-2 t c = every-offends _ _ _ _ (c .before .if1 .left) _ (tree-deep _ _ _ _ (c .if2 .taken))
 
 nodes-named-loop-holds : (t : ℕ) → nodes-named-lts.Need-loop-holds (nodes-named-claims t) (nodes-named-at t) nodes-named.Post nodes-named-Inv-loop nodes-named-μ-loop
 unfolding nodesNamed
@@ -73,7 +75,7 @@ nodes-named-enum-known-fault : (t : ℕ) → nodes-named-lts.Need-enum-known-fau
 nodes-named-enum-known-fault t c = search needs
 
 nodes-named-returns-4 : (t : ℕ) → nodes-named-lts.Need-returns-4 (nodes-named-claims t) (nodes-named-at t) nodes-named.Post nodes-named-Inv-loop nodes-named-μ-loop
-nodes-named-returns-4 t c = every-stop _ (c .before .before .before .before .before .before .before .before .before .loop .inv .2) (heads-more _ _ _ _ (c .before .before .before .before .before .before .before .before .loop-test .taken) _ (c .before .before .before .before .before .before .before .node-at .ensures .size)) (named-below _ _ _ _ (omega arith) _ (c .before .before .before .before .before .before .is-named .ensures) (not-false _ (c .before .before .before .before .before .if3 .left)) _ _ (c .before .before .before .before .before .before .before .node-at .ensures .below .below) ∙ (found-at (c .before .before .before .nodes-named .ensures) (c .before .fault .given .1)))
+nodes-named-returns-4 t c = every-stop _ (c .before .before .before .before .before .before .before .before .before .loop .inv .2) (heads-more _ _ _ _ (c .before .before .before .before .before .before .before .before .loop-test .taken) _ (c .before .before .before .before .before .before .before .node-at .ensures .size)) (named-below _ _ _ _ (omega arith) _ (c .before .before .before .before .before .before .is-named .ensures) (not-false _ (c .before .before .before .before .before .if3 .left)) _ _ (c .before .before .before .before .before .before .before .node-at .ensures .below .below) ∙ (found _ _ _ (c .before .before .before .nodes-named .ensures) (c .before .fault .given .1)))
 
 nodes-named-enum-told : (t : ℕ) → nodes-named-lts.Need-enum-told (nodes-named-claims t) (nodes-named-at t) nodes-named.Post nodes-named-Inv-loop nodes-named-μ-loop
 nodes-named-enum-told t c = search needs
@@ -88,7 +90,7 @@ nodes-named-loop-less : (t : ℕ) → nodes-named-lts.Need-loop-less (nodes-name
 nodes-named-loop-less t c = search needs
 
 nodes-named-loop-again : (t : ℕ) → nodes-named-lts.Need-loop-again (nodes-named-claims t) (nodes-named-at t) nodes-named.Post nodes-named-Inv-loop nodes-named-μ-loop
-nodes-named-loop-again t c = (omega arith, omega arith, every-next _ (c .before .before .before .before .before .before .before .before .before .loop .inv .2) (heads-more _ _ _ _ (c .before .before .before .before .before .before .before .before .loop-test .taken) _ (c .before .before .before .before .before .before .before .node-at .ensures .size)) (named-below _ _ _ _ (omega arith) _ (c .before .before .before .before .before .before .is-named .ensures) (not-false _ (c .before .before .before .before .before .if3 .left)) _ _ (c .before .before .before .before .before .before .before .node-at .ensures .below .below) ∙ (found-none (c .before .before .before .nodes-named .ensures) (c .before .enum-told .given .1))))
+nodes-named-loop-again t c = (omega arith, omega arith, every-next _ (c .before .before .before .before .before .before .before .before .before .loop .inv .2) (heads-more _ _ _ _ (c .before .before .before .before .before .before .before .before .loop-test .taken) _ (c .before .before .before .before .before .before .before .node-at .ensures .size)) (named-below _ _ _ _ (omega arith) _ (c .before .before .before .before .before .before .is-named .ensures) (not-false _ (c .before .before .before .before .before .if3 .left)) _ _ (c .before .before .before .before .before .before .before .node-at .ensures .below .below) ∙ (unfound _ _ (c .before .before .before .nodes-named .ensures) (c .before .enum-told .given .1))))
 
 nodes-named-returns-5 : (t : ℕ) → nodes-named-lts.Need-returns-5 (nodes-named-claims t) (nodes-named-at t) nodes-named.Post nodes-named-Inv-loop nodes-named-μ-loop
 nodes-named-returns-5 t c = every-end _ (c .before .loop .inv .2) (heads-done _ _ _ _ (c .loop-test .left))

@@ -8,7 +8,8 @@ use Rattle.rules.specs.Records.{fieldB, heads, row}
 use Rattle.rules.specs.Templates.{type}
 use Rattle.limits.specs.Rows.{parametersNamed}
 use Rattle.limits.proofs.NameLaws.{parameter-wrong, parameter-right}
-use Rattle.limits.proofs.RowLaws.{need-right, need-wrong, every-next, every-stop, every-end, heads-more, heads-done, heads-all}
+use Rattle.laws.specs.Faults.{need-right, need-wrong, every-next, every-stop, every-end}
+use Rattle.laws.specs.Rows.{heads-more, heads-done, heads-all}
 use borrow.Author.Needs.{needs}
 use Rattle.limits.proofs.names.parameters_named.Statement.{statement}
 use Rattle.limits.proofs.names.parameters_named.Tie as tie

@@ -6,7 +6,9 @@ use lib.ListN.{length, drop}
 use Rattle.rules.specs.Faults.{every}
 use Rattle.rules.specs.Names.{templateNames}
 use Rattle.limits.specs.Rows.{templatesNamed}
-use Rattle.limits.proofs.RowLaws.{found-at, found-none, every-next, every-stop, every-end, drop-more, drop-done}
+use Rattle.laws.specs.Faults.{every-next, every-stop, every-end}
+use Rattle.laws.specs.Lists.{drop-more, drop-done}
+use Rattle.stream.proofs.BlockLaws.{found, unfound}
 use borrow.Author.Needs.{needs}
 use Rattle.limits.proofs.names.templates_named.Statement.{statement}
 use Rattle.limits.proofs.names.templates_named.Tie as tie
@@ -34,7 +36,7 @@ enum-known-fault : tie.Need-enum-known-fault Inv-loop μ-loop
 enum-known-fault c = search needs
 
 returns : tie.Need-returns Inv-loop μ-loop
-returns c = every-stop _ (c .before .before .before .before .before .before .loop .inv .1) (drop-more _ _ (c .before .before .before .before .before .loop-test .taken)) (found-at (c .before .before .before .template-names .ensures) (c .before .fault .given .1))
+returns c = every-stop _ (c .before .before .before .before .before .before .loop .inv .1) (drop-more _ _ (c .before .before .before .before .before .loop-test .taken)) (found _ _ _ (c .before .before .before .template-names .ensures) (c .before .fault .given .1))
 
 enum-told : tie.Need-enum-told Inv-loop μ-loop
 enum-told c = search needs
@@ -46,7 +48,7 @@ loop-less : tie.Need-loop-less Inv-loop μ-loop
 loop-less c = search needs
 
 loop-again : tie.Need-loop-again Inv-loop μ-loop
-loop-again c = (omega arith, every-next _ (c .before .before .before .before .before .loop .inv .1) (drop-more _ _ (c .before .before .before .before .loop-test .taken)) (found-none (c .before .before .template-names .ensures) (c .enum-told .given .1)))
+loop-again c = (omega arith, every-next _ (c .before .before .before .before .before .loop .inv .1) (drop-more _ _ (c .before .before .before .before .loop-test .taken)) (unfound _ _ (c .before .before .template-names .ensures) (c .enum-told .given .1)))
 
 returns-2 : tie.Need-returns-2 Inv-loop μ-loop
 returns-2 c = every-end _ (c .before .loop .inv .1) (drop-done _ _ (c .loop-test .left))

@@ -5,8 +5,10 @@ use native.Mathlib.Omega.{arith}
 use Rattle.rules.specs.Faults.{every}
 use Rattle.rules.specs.Records.{fieldC, heads}
 use Rattle.limits.specs.Rows.{nodeWithin, nodesWithin}
-use Rattle.limits.proofs.RowLaws.{found-at, found-none, every-next, every-stop, every-end, heads-more, heads-done, heads-all}
-use Rattle.limits.proofs.TreeLaws.{row-none, row-first, node-deep, node-many, node-below}
+use Rattle.laws.specs.Faults.{every-next, every-stop, every-end}
+use Rattle.laws.specs.Rows.{heads-more, heads-done, heads-all, every-none, every-offends}
+use Rattle.stream.proofs.BlockLaws.{found, unfound}
+use Rattle.limits.proofs.TreeLaws.{node-deep, node-many, node-below}
 use borrow.Author.Needs.{needs}
 use borrow.Fn.Kinds.{In}
 use borrow.Fn.PlainCycle.{Measures, is, falls, and}
@@ -44,15 +46,15 @@ nodes-within-μ-loop t first count left loops at₀ i₀ at i = count - i
 
 nodes-within-returns : (t : ℕ) → nodes-within-lts.Need-returns (nodes-within-claims t) (nodes-within-at t) nodes-within.Post nodes-within-Inv-loop nodes-within-μ-loop
 unfolding nodesWithin
-nodes-within-returns t c = row-none _ _ _ _ (c .if1 .taken)
+nodes-within-returns t c = every-none _ _ _ _ (c .if1 .taken)
 
 nodes-within-returns-2 : (t : ℕ) → nodes-within-lts.Need-returns-2 (nodes-within-claims t) (nodes-within-at t) nodes-within.Post nodes-within-Inv-loop nodes-within-μ-loop
 unfolding nodesWithin
-nodes-within-returns-2 t c = row-first _ _ _ _ (c .before .if1 .left) (node-deep _ _ _ _ (c .if2 .taken))
+nodes-within-returns-2 t c = every-offends _ _ _ _ (c .before .if1 .left) _ (node-deep _ _ _ _ (c .if2 .taken))
 
 nodes-within-returns-3 : (t : ℕ) → nodes-within-lts.Need-returns-3 (nodes-within-claims t) (nodes-within-at t) nodes-within.Post nodes-within-Inv-loop nodes-within-μ-loop
 unfolding nodesWithin
-nodes-within-returns-3 t c = row-first _ _ _ _ (c .before .before .if1 .left) (node-many _ _ _ _ (omega arith) (omega arith))
+nodes-within-returns-3 t c = every-offends _ _ _ _ (c .before .before .if1 .left) _ (node-many _ _ _ _ (omega arith) (omega arith))
 
 nodes-within-loop-holds : (t : ℕ) → nodes-within-lts.Need-loop-holds (nodes-within-claims t) (nodes-within-at t) nodes-within.Post nodes-within-Inv-loop nodes-within-μ-loop
 unfolding nodesWithin
@@ -68,13 +70,13 @@ nodes-within-sub-nodes-within : (t : ℕ) → nodes-within-lts.Need-sub-nodes-wi
 nodes-within-sub-nodes-within t c = search needs
 
 nodes-within-nodes-within-requires : (t : ℕ) → nodes-within-lts.Need-nodes-within-requires (nodes-within-claims t) (nodes-within-at t) nodes-within.Post nodes-within-Inv-loop nodes-within-μ-loop
-nodes-within-nodes-within-requires t c κs = (omega arith, record { place = omega arith; few = c .before .before .node-at .ensures .below .few })
+nodes-within-nodes-within-requires t c κs = (omega arith, record { sized = c .before .before .before .before .before .before .before .before .before .pre .1 .sized; near = record { place = omega arith; few = c .before .before .node-at .ensures .below .few } })
 
 nodes-within-enum-known-fault : (t : ℕ) → nodes-within-lts.Need-enum-known-fault (nodes-within-claims t) (nodes-within-at t) nodes-within.Post nodes-within-Inv-loop nodes-within-μ-loop
 nodes-within-enum-known-fault t c = search needs
 
 nodes-within-returns-4 : (t : ℕ) → nodes-within-lts.Need-returns-4 (nodes-within-claims t) (nodes-within-at t) nodes-within.Post nodes-within-Inv-loop nodes-within-μ-loop
-nodes-within-returns-4 t c = every-stop _ (c .before .before .before .before .before .before .before .before .loop .inv .2) (heads-more _ _ _ _ (c .before .before .before .before .before .before .before .loop-test .taken) _ (c .before .before .before .before .before .before .node-at .ensures .size)) (node-below _ _ _ _ (omega arith) (omega arith) _ _ _ _ (c .before .before .before .before .before .before .node-at .ensures .form) (c .before .before .before .before .loops-inside .ensures) (c .before .before .before .before .before .before .node-at .ensures .below .below) ∙ (found-at (c .before .before .before .nodes-within .ensures) (c .before .fault .given .1)))
+nodes-within-returns-4 t c = every-stop _ (c .before .before .before .before .before .before .before .before .loop .inv .2) (heads-more _ _ _ _ (c .before .before .before .before .before .before .before .loop-test .taken) _ (c .before .before .before .before .before .before .node-at .ensures .size)) (node-below _ _ _ _ (omega arith) (omega arith) _ _ _ _ (c .before .before .before .before .before .before .node-at .ensures .form) (c .before .before .before .before .loops-inside .ensures) (c .before .before .before .before .before .before .node-at .ensures .below .below) ∙ (found _ _ _ (c .before .before .before .nodes-within .ensures) (c .before .fault .given .1)))
 
 nodes-within-enum-told : (t : ℕ) → nodes-within-lts.Need-enum-told (nodes-within-claims t) (nodes-within-at t) nodes-within.Post nodes-within-Inv-loop nodes-within-μ-loop
 nodes-within-enum-told t c = search needs
@@ -89,7 +91,7 @@ nodes-within-loop-less : (t : ℕ) → nodes-within-lts.Need-loop-less (nodes-wi
 nodes-within-loop-less t c = search needs
 
 nodes-within-loop-again : (t : ℕ) → nodes-within-lts.Need-loop-again (nodes-within-claims t) (nodes-within-at t) nodes-within.Post nodes-within-Inv-loop nodes-within-μ-loop
-nodes-within-loop-again t c = (omega arith, omega arith, every-next _ (c .before .before .before .before .before .before .before .before .loop .inv .2) (heads-more _ _ _ _ (c .before .before .before .before .before .before .before .loop-test .taken) _ (c .before .before .before .before .before .before .node-at .ensures .size)) (node-below _ _ _ _ (omega arith) (omega arith) _ _ _ _ (c .before .before .before .before .before .before .node-at .ensures .form) (c .before .before .before .before .loops-inside .ensures) (c .before .before .before .before .before .before .node-at .ensures .below .below) ∙ (found-none (c .before .before .before .nodes-within .ensures) (c .before .enum-told .given .1))))
+nodes-within-loop-again t c = (omega arith, omega arith, every-next _ (c .before .before .before .before .before .before .before .before .loop .inv .2) (heads-more _ _ _ _ (c .before .before .before .before .before .before .before .loop-test .taken) _ (c .before .before .before .before .before .before .node-at .ensures .size)) (node-below _ _ _ _ (omega arith) (omega arith) _ _ _ _ (c .before .before .before .before .before .before .node-at .ensures .form) (c .before .before .before .before .loops-inside .ensures) (c .before .before .before .before .before .before .node-at .ensures .below .below) ∙ (unfound _ _ (c .before .before .before .nodes-within .ensures) (c .before .enum-told .given .1))))
 
 nodes-within-returns-5 : (t : ℕ) → nodes-within-lts.Need-returns-5 (nodes-within-claims t) (nodes-within-at t) nodes-within.Post nodes-within-Inv-loop nodes-within-μ-loop
 nodes-within-returns-5 t c = every-end _ (c .before .loop .inv .2) (heads-done _ _ _ _ (c .loop-test .left))

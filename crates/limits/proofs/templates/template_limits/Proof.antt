@@ -22,7 +22,7 @@ add-nodes-within-2 : tie.Need-add-nodes-within-2
 add-nodes-within-2 c = search needs
 
 nodes-within-requires : tie.Need-nodes-within-requires
-nodes-within-requires c κs = record { place = omega arith; few = omega arith }
+nodes-within-requires c κs = record { sized = c .before .before .before .before .before .pre; near = record { place = omega arith; few = omega arith } }
 
 returns-2 : tie.Need-returns-2
 returns-2 c = c .nodes-within .ensures ∙ template-within _ _ _ (c .before .before .before .before .fetch .ensures .a) (omega arith)

@@ -10,15 +10,17 @@ use Rattle.rules.specs.Value.{valueSize, valuesBelow}
 use Rattle.stream.proofs.RecordLaws.{reach}
 use Rattle.stream.specs.Record.{placeOf}
 use Rattle.limits.specs.Rows.{valuesWithin}
-use Rattle.limits.proofs.RowLaws.{found-at, found-none, every-next, every-stop, every-end, heads-more, heads-done, heads-all}
-use Rattle.limits.proofs.TreeLaws.{row-none, row-first, tree-deep, size-is, value-leaf, value-below}
+use Rattle.laws.specs.Faults.{every-next, every-stop, every-end, tree-deep}
+use Rattle.laws.specs.Rows.{heads-more, heads-done, heads-all, every-none, every-offends}
+use Rattle.stream.proofs.BlockLaws.{found, unfound}
+use Rattle.limits.proofs.TreeLaws.{value-leaf, value-below}
 use borrow.Author.Needs.{needs}
 use borrow.Fn.Kinds.{In}
 use borrow.Fn.PlainCycle.{Measures, is, falls, and}
 use Rattle.limits.proofs.value.values_within.Reads as values-within
 use Rattle.limits.proofs.value.values_within.Kinds as values-within-kinds
 use Rattle.limits.proofs.value.+values_within.Lts-values_within as values-within-lts
-use Rattle.limits.proofs.value.size_of.Reads as size-of-reads
+use Rattle.records.proofs.value.size_of.Reads as size-of-reads
 use Rattle.stream.proofs.record.fetch_at.Reads as fetch-at-reads
 use Rattle.stream.proofs.record.forward.Reads as forward-reads
 use Rattle.limits.proofs.value.+values_within.{statement}
@@ -50,11 +52,11 @@ values-within-μ-loop v first count left at₀ place₀ i₀ at place i = count 
 
 values-within-returns : (t : ℕ) → values-within-lts.Need-returns (values-within-claims t) (values-within-at t) values-within.Post values-within-Inv-loop values-within-μ-loop
 unfolding valuesWithin
-values-within-returns t c = row-none _ _ _ _ (c .if1 .taken)
+values-within-returns t c = every-none _ _ _ _ (c .if1 .taken)
 
 values-within-returns-2 : (t : ℕ) → values-within-lts.Need-returns-2 (values-within-claims t) (values-within-at t) values-within.Post values-within-Inv-loop values-within-μ-loop
 unfolding valuesWithin
-values-within-returns-2 t c = row-first _ _ _ _ (c .before .if1 .left) (tree-deep _ _ _ _ (c .if2 .taken))
+values-within-returns-2 t c = every-offends _ _ _ _ (c .before .if1 .left) _ (tree-deep _ _ _ _ (c .if2 .taken))
 
 values-within-loop-holds : (t : ℕ) → values-within-lts.Need-loop-holds (values-within-claims t) (values-within-at t) values-within.Post values-within-Inv-loop values-within-μ-loop
 unfolding valuesWithin
@@ -88,13 +90,13 @@ values-within-sub-values-within : (t : ℕ) → values-within-lts.Need-sub-value
 values-within-sub-values-within t c = search needs
 
 values-within-values-within-requires : (t : ℕ) → values-within-lts.Need-values-within-requires (values-within-claims t) (values-within-at t) values-within.Post values-within-Inv-loop values-within-μ-loop
-values-within-values-within-requires t c κs = (omega arith, record { near = record { place = omega arith; few = omega arith }; from-is = c .before .forward2 .ensures _ (c .before .before .before .before .before .before .before .before .loop .inv .3) })
+values-within-values-within-requires t c κs = (omega arith, record { sized = c .before .before .before .before .before .before .before .before .before .before .before .before .pre .1 .sized; near = record { place = omega arith; few = omega arith }; from-is = c .before .forward2 .ensures _ (c .before .before .before .before .before .before .before .before .loop .inv .3) })
 
 values-within-enum-known-fault : (t : ℕ) → values-within-lts.Need-enum-known-fault (values-within-claims t) (values-within-at t) values-within.Post values-within-Inv-loop values-within-μ-loop
 values-within-enum-known-fault t c = search needs
 
 values-within-returns-3 : (t : ℕ) → values-within-lts.Need-returns-3 (values-within-claims t) (values-within-at t) values-within.Post values-within-Inv-loop values-within-μ-loop
-values-within-returns-3 t c = every-stop _ (c .before .before .before .before .before .before .before .before .before .before .before .before .loop .inv .2) (heads-more _ _ _ _ (c .before .before .before .before .before .before .before .before .before .before .before .loop-test .taken) _ (c .before .before .before .before .before .before .before .before .before .size-of .ensures .0 ∙ size-is _ _ _ (c .before .before .before .before .before .before .before .before .before .before .fetch-at .ensures _ (c .before .before .before .before .before .before .before .before .before .before .before .before .loop .inv .3)))) (value-below _ _ _ (omega arith) _ ((c .before .before .before .before .before .before .before .before .before .before .fetch-at .ensures _ (c .before .before .before .before .before .before .before .before .before .before .before .before .loop .inv .3)) .kind) (c .before .before .before .before .before .before .if3 .taken) _ ((c .before .before .before .before .before .before .before .before .before .before .fetch-at .ensures _ (c .before .before .before .before .before .before .before .before .before .before .before .before .loop .inv .3)) .d) ∙ (found-at (c .before .before .before .values-within .ensures) (c .before .fault .given .1)))
+values-within-returns-3 t c = every-stop _ (c .before .before .before .before .before .before .before .before .before .before .before .before .loop .inv .2) (heads-more _ _ _ _ (c .before .before .before .before .before .before .before .before .before .before .before .loop-test .taken) _ (c .before .before .before .before .before .before .before .before .before .size-of .ensures .is _ _ (c .before .before .before .before .before .before .before .before .before .before .fetch-at .ensures _ (c .before .before .before .before .before .before .before .before .before .before .before .before .loop .inv .3)))) (value-below _ _ _ (omega arith) _ ((c .before .before .before .before .before .before .before .before .before .before .fetch-at .ensures _ (c .before .before .before .before .before .before .before .before .before .before .before .before .loop .inv .3)) .kind) (c .before .before .before .before .before .before .if3 .taken) _ ((c .before .before .before .before .before .before .before .before .before .before .fetch-at .ensures _ (c .before .before .before .before .before .before .before .before .before .before .before .before .loop .inv .3)) .d) ∙ (found _ _ _ (c .before .before .before .values-within .ensures) (c .before .fault .given .1)))
 
 values-within-enum-told : (t : ℕ) → values-within-lts.Need-enum-told (values-within-claims t) (values-within-at t) values-within.Post values-within-Inv-loop values-within-μ-loop
 values-within-enum-told t c = search needs
@@ -103,13 +105,13 @@ values-within-loop-less : (t : ℕ) → values-within-lts.Need-loop-less (values
 values-within-loop-less t c = search needs
 
 values-within-loop-again : (t : ℕ) → values-within-lts.Need-loop-again (values-within-claims t) (values-within-at t) values-within.Post values-within-Inv-loop values-within-μ-loop
-values-within-loop-again t c = (omega arith, omega arith, every-next _ (c .before .before .before .before .before .before .before .before .before .before .before .loop .inv .2) (heads-more _ _ _ _ (c .before .before .before .before .before .before .before .before .before .before .loop-test .taken) _ (c .before .before .before .before .before .before .before .before .size-of .ensures .0 ∙ size-is _ _ _ (c .before .before .before .before .before .before .before .before .before .fetch-at .ensures _ (c .before .before .before .before .before .before .before .before .before .before .before .loop .inv .3)))) (value-below _ _ _ (omega arith) _ ((c .before .before .before .before .before .before .before .before .before .fetch-at .ensures _ (c .before .before .before .before .before .before .before .before .before .before .before .loop .inv .3)) .kind) (c .before .before .before .before .before .if3 .taken) _ ((c .before .before .before .before .before .before .before .before .before .fetch-at .ensures _ (c .before .before .before .before .before .before .before .before .before .before .before .loop .inv .3)) .d) ∙ (found-none (c .before .before .values-within .ensures) (c .enum-told .given .1))), c .before .before .before .before .before .before .before .forward .ensures _ (c .before .before .before .before .before .before .before .before .before .before .before .loop .inv .3))
+values-within-loop-again t c = (omega arith, omega arith, every-next _ (c .before .before .before .before .before .before .before .before .before .before .before .loop .inv .2) (heads-more _ _ _ _ (c .before .before .before .before .before .before .before .before .before .before .loop-test .taken) _ (c .before .before .before .before .before .before .before .before .size-of .ensures .is _ _ (c .before .before .before .before .before .before .before .before .before .fetch-at .ensures _ (c .before .before .before .before .before .before .before .before .before .before .before .loop .inv .3)))) (value-below _ _ _ (omega arith) _ ((c .before .before .before .before .before .before .before .before .before .fetch-at .ensures _ (c .before .before .before .before .before .before .before .before .before .before .before .loop .inv .3)) .kind) (c .before .before .before .before .before .if3 .taken) _ ((c .before .before .before .before .before .before .before .before .before .fetch-at .ensures _ (c .before .before .before .before .before .before .before .before .before .before .before .loop .inv .3)) .d) ∙ (unfound _ _ (c .before .before .values-within .ensures) (c .enum-told .given .1))), c .before .before .before .before .before .before .before .forward .ensures _ (c .before .before .before .before .before .before .before .before .before .before .before .loop .inv .3))
 
 values-within-loop-less-2 : (t : ℕ) → values-within-lts.Need-loop-less-2 (values-within-claims t) (values-within-at t) values-within.Post values-within-Inv-loop values-within-μ-loop
 values-within-loop-less-2 t c = search needs
 
 values-within-loop-again-2 : (t : ℕ) → values-within-lts.Need-loop-again-2 (values-within-claims t) (values-within-at t) values-within.Post values-within-Inv-loop values-within-μ-loop
-values-within-loop-again-2 t c = (omega arith, omega arith, every-next _ (c .before .before .before .before .before .before .loop .inv .2) (heads-more _ _ _ _ (c .before .before .before .before .before .loop-test .taken) _ (c .before .before .before .size-of .ensures .0 ∙ size-is _ _ _ (c .before .before .before .before .fetch-at .ensures _ (c .before .before .before .before .before .before .loop .inv .3)))) (value-leaf _ _ _ (omega arith) _ ((c .before .before .before .before .fetch-at .ensures _ (c .before .before .before .before .before .before .loop .inv .3)) .kind) (c .if3 .left)), c .before .before .forward .ensures _ (c .before .before .before .before .before .before .loop .inv .3))
+values-within-loop-again-2 t c = (omega arith, omega arith, every-next _ (c .before .before .before .before .before .before .loop .inv .2) (heads-more _ _ _ _ (c .before .before .before .before .before .loop-test .taken) _ (c .before .before .before .size-of .ensures .is _ _ (c .before .before .before .before .fetch-at .ensures _ (c .before .before .before .before .before .before .loop .inv .3)))) (value-leaf _ _ _ (omega arith) _ ((c .before .before .before .before .fetch-at .ensures _ (c .before .before .before .before .before .before .loop .inv .3)) .kind) (c .if3 .left)), c .before .before .forward .ensures _ (c .before .before .before .before .before .before .loop .inv .3))
 
 values-within-returns-4 : (t : ℕ) → values-within-lts.Need-returns-4 (values-within-claims t) (values-within-at t) values-within.Post values-within-Inv-loop values-within-μ-loop
 values-within-returns-4 t c = every-end _ (c .before .loop .inv .2) (heads-done _ _ _ _ (c .loop-test .left))

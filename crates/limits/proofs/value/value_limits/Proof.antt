@@ -10,7 +10,7 @@ place-of-requires : tie.Need-place-of-requires
 place-of-requires c κs = search needs
 
 values-within-requires : tie.Need-values-within-requires
-values-within-requires c κs = record { near = record { place = omega arith; few = omega arith }; from-is = c .place-of .ensures }
+values-within-requires c κs = record { sized = c .before .before .pre; near = record { place = omega arith; few = omega arith }; from-is = c .place-of .ensures }
 
 returns : tie.Need-returns
 returns c = c .values-within .ensures ∙ value-within _
