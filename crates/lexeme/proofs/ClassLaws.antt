@@ -11,37 +11,18 @@ use lib.Seq.{length-take-le, take-append-le, drop-append-le, take-at, drop-at, t
 use lib.Dec.{ltb}
 use borrow.Author.Tests.{ltb-true, ltb-false}
 use borrow.Rule.Slice.PartMut.{putMid, same-len-mid}
+use Rattle.rules.specs.Blocks.{streamLength}
 use Rattle.rules.specs.Records.{fieldD, heads, row, nth}
 use Rattle.rules.specs.Grammar.{classes, class}
 use Rattle.rules.specs.Lexeme.{within, lowest, highest, ranges, inSome}
-use Rattle.stream.specs.declared.record.Record.{Record}
-use Rattle.stream.specs.Record.{Fetched}
-use Rattle.stream.proofs.RecordLaws.{eight-bytes}
-use Rattle.lexeme.specs.declared.class.Range.{Range}
-use Rattle.lexeme.specs.Ranges.{RangeAt}
+use Rattle.laws.specs.Lists.{nth-some, nth-within}
+use Rattle.laws.specs.Rows.{row-more, row-done}
+use Rattle.records.specs.declared.range.Range.{Range}
+use Rattle.records.specs.Ranges.{RangeAt}
 use Rattle.lexeme.specs.Sets.{isIn, ClassSet, setOf, Compiled}
 use Rattle.lexeme.proofs.SetLaws.{none-in}
 
--- both ends of a range from the fields of its record
-pub range-low : (g : List ℕ) (i : ℕ) (r : Record) → Fetched g i r → r .a + 256 * r .b ≡ lowest g i
-unfolding lowest
-range-low g i r f = let e = eight-bytes g i r f in omega (arith, e .byte1, e .byte2, e .byte3)
-
-pub range-high : (g : List ℕ) (i : ℕ) (r : Record) → Fetched g i r → r .c + 65536 * (r .d % 256) ≡ highest g i
-unfolding highest
-range-high g i r f = let e = eight-bytes g i r f in omega (arith, e .byte4, e .byte5, e .byte6)
-
 -- the ranges that are left
-row-more : (n k q : ℕ) → k < n → row (n - k) (q + k) ≡ (q + k) ∷ row (n - (k + 1)) (q + (k + 1))
-unfolding row heads
-row-more n k q l =
-    let e : n - k ≡ suc (n - (k + 1)) = omega arith in
-    rw (e, heads, add-assoc q k 1)
-
-row-none : (n k q : ℕ) → n ≤ k → row (n - k) q ≡ []
-unfolding row heads
-row-none n k q l = let e : n - k ≡ 0 = omega arith in rw e
-
 pub left-start : (g : List ℕ) (p count x : ℕ) → count ≡ fieldD g p → inSome g (row (count - 0) (p + 1 + 0)) x ≡ inSome g (ranges g p) x
 unfolding ranges
 left-start g p count x e = rw (sub-zero, add-zero, e)
@@ -49,7 +30,7 @@ left-start g p count x e = rw (sub-zero, add-zero, e)
 left-turn : (g : List ℕ) (q count k x : ℕ) (r : Range) → k < count → RangeAt g (q + k) r
     → inSome g (row (count - k) (q + k)) x ≡ (within (r .lowest) (r .highest) x || inSome g (row (count - (k + 1)) (q + (k + 1))) x)
 unfolding inSome
-left-turn g q count k x r l e = rw (row-more count k q l, e .from, e .to)
+left-turn g q count k x r l e = rw (row-more count q k l, e .from, e .to)
 
 -- the search
 module _ (g : List ℕ) (p q count k x : ℕ) (inv : inSome g (row (count - k) (q + k)) x ≡ inSome g (ranges g p) x) where
@@ -62,7 +43,7 @@ module _ (g : List ℕ) (p q count k x : ℕ) (inv : inSome g (row (count - k) (
 
   pub search-end : count ≤ k → false ≡ inSome g (ranges g p) x
   unfolding inSome
-  search-end l = sym (ap (λ (rs : List ℕ). inSome g rs x) (row-none count k (q + k) l)) ∙ inv
+  search-end l = sym (ap (λ (rs : List ℕ). inSome g rs x) (row-done count q k l)) ∙ inv
 
 -- a range of the class that has the code point
 in-kth : (g : List ℕ) (n k q x : ℕ) → k < n → within (lowest g (q + k)) (highest g (q + k)) x ≡ true → inSome g (row n q) x ≡ true
@@ -82,19 +63,22 @@ unfolding ranges
 kth-found g p k x r l e b f h = in-kth g (fieldD g p) k (p + 1) x l (rw (← e .from, ← e .to) (sym f ∙ h))
 
 -- the set, and the ranges that are not in it yet
-pub record Filling (g : List ℕ) (p count q k : ℕ) (set₁ : List ℕ) : Type 0 where
-  pub size : length set₁ ≡ 32
+pub record SetFilling (g : List ℕ) (p count q k : ℕ) (set₁ : List ℕ) : Type 0 where
+  pub grammar-sized : streamLength g ≡ none
+  pub size : length set₁ ≡ 128
   pub same : (x : ℕ) → x < 2048 → (isIn set₁ x || inSome g (row (count - k) (q + k)) x) ≡ inSome g (ranges g p) x
 
-pub fill-start : (g : List ℕ) (p count : ℕ) (set₁ : List ℕ) → count ≡ fieldD g p → length set₁ ≡ 32 → set₁ ≡ replicate 32 0 → Filling g p count (p + 1) 0 set₁
-fill-start g p count set₁ e l f = record {
+pub fill-start : (g : List ℕ) (p count : ℕ) (set₁ : List ℕ) → streamLength g ≡ none → count ≡ fieldD g p → length set₁ ≡ 128 → set₁ ≡ replicate 128 0 → SetFilling g p count (p + 1) 0 set₁
+fill-start g p count set₁ w e l f = record {
+  grammar-sized = w;
   size = l;
-  same = λ x m. ap (λ (b : Bool). b || inSome g (row (count - 0) (p + 1 + 0)) x) (ap (λ (s : List ℕ). isIn s x) f ∙ none-in 32 x) ∙ left-start g p count x e;
+  same = λ x m. ap (λ (b : Bool). b || inSome g (row (count - 0) (p + 1 + 0)) x) (ap (λ (s : List ℕ). isIn s x) f ∙ none-in 128 x) ∙ left-start g p count x e;
 }
 
-pub fill-turn : (g : List ℕ) (p count q k : ℕ) (set₁ set₂ : List ℕ) (r : Range) → Filling g p count q k set₁ → k < count → RangeAt g (q + k) r → length set₂ ≡ length set₁
-    → ((x : ℕ) → x < 2048 → isIn set₂ x ≡ (isIn set₁ x || within (r .lowest) (r .highest) x)) → Filling g p count q (k + 1) set₂
+pub fill-turn : (g : List ℕ) (p count q k : ℕ) (set₁ set₂ : List ℕ) (r : Range) → SetFilling g p count q k set₁ → k < count → RangeAt g (q + k) r → length set₂ ≡ length set₁
+    → ((x : ℕ) → x < 2048 → isIn set₂ x ≡ (isIn set₁ x || within (r .lowest) (r .highest) x)) → SetFilling g p count q (k + 1) set₂
 fill-turn g p count q k set₁ set₂ r f l e s h = record {
+  grammar-sized = f .grammar-sized;
   size = s ∙ f .size;
   same = λ x m.
       ap (λ (b : Bool). b || inSome g (row (count - (k + 1)) (q + (k + 1))) x) (h x m)
@@ -103,35 +87,16 @@ fill-turn g p count q k set₁ set₂ r f l e s h = record {
       ∙ f .same x m;
 }
 
-pub fill-end : (g : List ℕ) (p count q k : ℕ) (set₁ : List ℕ) → Filling g p count q k set₁ → count ≤ k → ClassSet g p set₁
+pub fill-end : (g : List ℕ) (p count q k : ℕ) (set₁ : List ℕ) → SetFilling g p count q k set₁ → count ≤ k → ClassSet g p set₁
 unfolding inSome
 fill-end g p count q k set₁ f l = record {
+  grammar-sized = f .grammar-sized;
   size = f .size;
   same = λ x m.
       sym (or-false (isIn set₁ x))
-      ∙ ap (λ (rs : List ℕ). isIn set₁ x || inSome g rs x) (sym (row-none count k (q + k) l))
+      ∙ ap (λ (rs : List ℕ). isIn set₁ x || inSome g rs x) (sym (row-done count q k l))
       ∙ f .same x m;
 }
-
--- entry n of a list
-pub nth-at : (xs : List ℕ) (n : ℕ) → n < length xs → nth xs n ≡ some (getD xs n 0)
-unfolding nth
-nth-at [] n l = absurd (omega arith)
-nth-at (x ∷ xs) zero l = refl
-nth-at (x ∷ xs) (suc n) l = nth-at xs n (omega arith)
-
-pub nth-past : (xs : List ℕ) (n : ℕ) → length xs ≤ n → nth xs n ≡ none
-unfolding nth
-nth-past [] n l = refl
-nth-past (x ∷ xs) zero l = absurd (omega arith)
-nth-past (x ∷ xs) (suc n) l = nth-past xs n (omega arith)
-
-nth-below : (xs : List ℕ) (n p : ℕ) → nth xs n ≡ some p → n < length xs
-nth-below xs n p e = go (ltb n (length xs)) refl
-  where
-    go : (b : Bool) → ltb n (length xs) ≡ b → n < length xs
-    go true f = ltb-true n (length xs) f
-    go false f = absurd (Option·none-ne-some p (sym (nth-past xs n (ltb-false n (length xs) f)) ∙ e))
 
 -- the sets of the first n classes
 pub record Compiling (g list sets₀ sets₁ : List ℕ) (n : ℕ) : Type 0 where
@@ -143,76 +108,51 @@ pub compile-start : (g list sets₀ : List ℕ) → Compiling g list sets₀ set
 compile-start g list sets₀ = record { near = omega arith; size = refl; done = λ m p l e. absurd (omega arith) }
 
 -- a set put in its place is there, and those before it stay
-module _ (sets₁ ys : List ℕ) (n : ℕ) (room : 32 * n + 32 ≤ length sets₁) (size : length ys ≡ 32) where
-  front : length (take (32 * n) sets₁) ≡ 32 * n
-  front = length-take-le (32 * n) sets₁ (omega arith)
+module _ (sets₁ ys : List ℕ) (n : ℕ) (room : 128 * n + 128 ≤ length sets₁) (size : length ys ≡ 128) where
+  front : length (take (128 * n) sets₁) ≡ 128 * n
+  front = length-take-le (128 * n) sets₁ (omega arith)
 
-  put-here : setOf (putMid (32 * n) (32 * n + 32 - 32 * n) sets₁ ys) n ≡ ys
+  put-here : setOf (putMid (128 * n) (128 * n + 128 - 128 * n) sets₁ ys) n ≡ ys
   unfolding setOf
   put-here =
-      ap (take 32) (drop-at (take (32 * n) sets₁) (ys ++ drop (32 * n + 32 - 32 * n) (drop (32 * n) sets₁)) (32 * n) front)
-      ∙ take-at ys (drop (32 * n + 32 - 32 * n) (drop (32 * n) sets₁)) 32 size
+      ap (take 128) (drop-at (take (128 * n) sets₁) (ys ++ drop (128 * n + 128 - 128 * n) (drop (128 * n) sets₁)) (128 * n) front)
+      ∙ take-at ys (drop (128 * n + 128 - 128 * n) (drop (128 * n) sets₁)) 128 size
 
-  before : (m : ℕ) (rest : List ℕ) → m < n → take 32 (drop (32 * m) (take (32 * n) sets₁ ++ rest)) ≡ take 32 (drop (32 * m) (take (32 * n) sets₁))
+  before : (m : ℕ) (rest : List ℕ) → m < n → take 128 (drop (128 * m) (take (128 * n) sets₁ ++ rest)) ≡ take 128 (drop (128 * m) (take (128 * n) sets₁))
   before m rest l =
-      ap (take 32) (drop-append-le (32 * m) (take (32 * n) sets₁) rest (omega (arith, front)))
-      ∙ take-append-le 32 (drop (32 * m) (take (32 * n) sets₁)) rest (rw length-drop (omega (arith, front)))
+      ap (take 128) (drop-append-le (128 * m) (take (128 * n) sets₁) rest (omega (arith, front)))
+      ∙ take-append-le 128 (drop (128 * m) (take (128 * n) sets₁)) rest (rw length-drop (omega (arith, front)))
 
-  put-other : (m : ℕ) → m < n → setOf (putMid (32 * n) (32 * n + 32 - 32 * n) sets₁ ys) m ≡ setOf sets₁ m
+  put-other : (m : ℕ) → m < n → setOf (putMid (128 * n) (128 * n + 128 - 128 * n) sets₁ ys) m ≡ setOf sets₁ m
   unfolding setOf
   put-other m l =
-      before m (ys ++ drop (32 * n + 32 - 32 * n) (drop (32 * n) sets₁)) l
-      ∙ sym (before m (drop (32 * n) sets₁) l)
-      ∙ ap (λ (xs : List ℕ). take 32 (drop (32 * m) xs)) (take-append-drop (32 * n) sets₁)
+      before m (ys ++ drop (128 * n + 128 - 128 * n) (drop (128 * n) sets₁)) l
+      ∙ sym (before m (drop (128 * n) sets₁) l)
+      ∙ ap (λ (xs : List ℕ). take 128 (drop (128 * m) xs)) (take-append-drop (128 * n) sets₁)
 
-pub compile-turn : (g list sets₀ sets₁ ys : List ℕ) (n : ℕ) → Compiling g list sets₀ sets₁ n → n < length list → 32 * n + 32 ≤ length sets₁
-    → ClassSet g (getD list n 0) ys → Compiling g list sets₀ (putMid (32 * n) (32 * n + 32 - 32 * n) sets₁ ys) (n + 1)
+pub compile-turn : (g list sets₀ sets₁ ys : List ℕ) (n : ℕ) → Compiling g list sets₀ sets₁ n → n < length list → 128 * n + 128 ≤ length sets₁
+    → ClassSet g (getD list n 0) ys → Compiling g list sets₀ (putMid (128 * n) (128 * n + 128 - 128 * n) sets₁ ys) (n + 1)
 compile-turn g list sets₀ sets₁ ys n c l room s = record {
   near = omega arith;
-  size = same-len-mid (32 * n) (32 * n + 32 - 32 * n) sets₁ ys (s .size ∙ sym part) ∙ c .size;
+  size = same-len-mid (128 * n) (128 * n + 128 - 128 * n) sets₁ ys (s .size ∙ sym part) ∙ c .size;
   done = λ m p k e. go m p k e (ltb m n) refl;
 }
   where
-    part : length (take (32 * n + 32 - 32 * n) (drop (32 * n) sets₁)) ≡ 32
+    part : length (take (128 * n + 128 - 128 * n) (drop (128 * n) sets₁)) ≡ 128
     part = simp (length-take, length-drop) (omega arith)
 
-    go : (m p : ℕ) → m < n + 1 → nth list m ≡ some p → (b : Bool) → ltb m n ≡ b → ClassSet g p (setOf (putMid (32 * n) (32 * n + 32 - 32 * n) sets₁ ys) m)
+    go : (m p : ℕ) → m < n + 1 → nth list m ≡ some p → (b : Bool) → ltb m n ≡ b → ClassSet g p (setOf (putMid (128 * n) (128 * n + 128 - 128 * n) sets₁ ys) m)
     go m p k e true f =
         let q : m < n = ltb-true m n f in
         rw (put-other sets₁ ys n room (s .size) m q) (c .done m p q e)
     go m p k e false f =
         let q : n ≤ m = ltb-false m n f in
         let z : m ≡ n = omega arith in
-        let h : getD list n 0 ≡ p = Option·some-injective (getD list n 0) p (sym (nth-at list n l) ∙ (rw z at e)) in
+        let h : getD list n 0 ≡ p = Option·some-injective (getD list n 0) p (sym (nth-some list n l) ∙ (rw z at e)) in
         rw (z, put-here sets₁ ys n room (s .size), ← h) s
 
 pub compile-end : (g list sets₀ sets₁ : List ℕ) (n : ℕ) → Compiling g list sets₀ sets₁ n → length list ≤ n → list ≡ classes g → Compiled g sets₁
 unfolding class
 compile-end g list sets₀ sets₁ n c l e = record {
-  each = λ m p f. c .done m p (omega (arith, nth-below list m p (rw e f))) (rw e f);
+  each = λ m p f. c .done m p (omega (arith, nth-within list m p (rw e f))) (rw e f);
 }
-
--- what goes behind the sets leaves them as they are
-pub front-kept : (xs rest : List ℕ) (end a : ℕ) → end ≤ a → a ≤ length xs → take end (take a xs ++ rest) ≡ take end xs
-front-kept xs rest end a l m = take-append-le end (take a xs) rest (omega (arith, length-take-le a xs m)) ∙ take-take end a xs l
-
-within-front : (xs : List ℕ) (e m : ℕ) → 32 * m + 32 ≤ e → length (take e xs) ≡ e → setOf xs m ≡ setOf (take e xs) m
-unfolding setOf
-within-front xs e m l f =
-    ap (λ (ys : List ℕ). take 32 (drop (32 * m) ys)) (sym (take-append-drop e xs))
-    ∙ ap (take 32) (drop-append-le (32 * m) (take e xs) (drop e xs) (omega arith))
-    ∙ take-append-le 32 (drop (32 * m) (take e xs)) (drop e xs) (rw length-drop (omega arith))
-
-pub compile-kept : (g list sets₁ sets₂ : List ℕ) → Compiled g sets₁ → list ≡ classes g → 32 * length list ≤ length sets₁
-    → take (32 * length list) sets₂ ≡ take (32 * length list) sets₁ → Compiled g sets₂
-unfolding class
-compile-kept g list sets₁ sets₂ c e l k = record { each = λ m p f. rw (same m (omega (arith, nth-below list m p (rw e f)))) (c .each m p f) }
-  where
-    full : length (take (32 * length list) sets₁) ≡ 32 * length list
-    full = length-take-le (32 * length list) sets₁ l
-
-    same : (m : ℕ) → m < length list → setOf sets₂ m ≡ setOf sets₁ m
-    same m n =
-        within-front sets₂ (32 * length list) m (omega arith) (ap length k ∙ full)
-        ∙ ap (λ (xs : List ℕ). setOf xs m) k
-        ∙ sym (within-front sets₁ (32 * length list) m (omega arith) full)

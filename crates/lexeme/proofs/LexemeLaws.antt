@@ -13,15 +13,15 @@ use borrow.Author.Tests.{le-leb, ne-eqb, ltb-true, ltb-false}
 use Rattle.rules.specs.Records.{fieldB, fieldC}
 use Rattle.rules.specs.Grammar.{classes, class}
 use Rattle.rules.specs.Lexeme.{ranges, isLexeme}
+use Rattle.laws.specs.Lists.{nth-some, nth-none}
 use Rattle.stream.specs.declared.text.Text.{Text}
 use Rattle.stream.specs.Text.{textIn, payloadFrom, room, partOf, Rest}
 use Rattle.lexeme.specs.declared.scan.Scan.{Scan}
-use Rattle.lexeme.specs.Sets.{ClassSet, setOf, Ready}
-use Rattle.lexeme.specs.Runs.{Ran}
+use Rattle.lexeme.specs.Sets.{ClassSet, setOf, LexemesReady}
+use Rattle.lexeme.specs.Runs.{RunsTo}
 use Rattle.lexeme.specs.Scan.{midway, clean, scanned, Tidy}
 use Rattle.lexeme.proofs.ScanLaws.{passes, scanned-append, lexeme-scan, lexeme-none}
 use Rattle.lexeme.proofs.PartLaws.{tidy-scanned, passes-bad, passes-past}
-use Rattle.lexeme.proofs.ClassLaws.{nth-at, nth-past}
 
 tidy-clean : (n : ℕ) → Tidy (clean n)
 unfolding clean midway
@@ -29,7 +29,7 @@ tidy-clean n = record { good = refl; fresh = λ e. refl; from = λ l. absurd (om
 
 found : (g list : List ℕ) (n : ℕ) → list ≡ classes g → n < length list → class g n ≡ some (getD list n 0)
 unfolding class
-found g list n e l = rw (← e) (nth-at list n l)
+found g list n e l = rw (← e) (nth-some list n l)
 
 -- a part of bytes
 bytes-part : (xs : List ℕ) (m a : ℕ) → ((k : ℕ) → getD xs k 0 < 256) → (k : ℕ) → getD (take m (drop a xs)) k 0 < 256
@@ -99,7 +99,7 @@ module _ (g : List ℕ) (p : ℕ) (s : List ℕ) (t : Text) (state : Scan) (rest
   read-whole d = sym (ap (passes g p) whole ∙ rw (h .tidy .good, d, le-leb (state .count) (fieldC g p) (h .most)) (and-true (leb (fieldB g p) (state .count))))
 
 -- one run, from the beginning of a text to its end
-module _ (g : List ℕ) (p : ℕ) (set₁ s part : List ℕ) (t rest : Text) (r : ClassSet g p set₁) (to n : ℕ) (h : Ran set₁ part 0 to n) (l : length part ≤ to)
+module _ (g : List ℕ) (p : ℕ) (set₁ s part : List ℕ) (t rest : Text) (r : ClassSet g p set₁) (to n : ℕ) (h : RunsTo set₁ part 0 to n) (l : length part ≤ to)
     (q : part ≡ partOf s t) (f : Rest s t rest) where
   ran-whole : clean n ≡ scanned g (ranges g p) (clean 0) part
   unfolding scanned
@@ -117,22 +117,22 @@ module _ (g : List ℕ) (p : ℕ) (set₁ s part : List ℕ) (t rest : Text) (r 
       read-whole g p s t (clean n) rest (read-turn g p s t (clean 0) (clean n) t rest part (read-start g p s t (clean 0) refl) q ran-whole f b refl m) (omega arith) refl
 
 -- by the class's number
-pub set-room : (g list words : List ℕ) (n : ℕ) → Ready g list words → n < length list → 32 * n + 32 ≤ length words
+pub set-room : (g list table : List ℕ) (n : ℕ) → LexemesReady g list table → n < length list → 128 * n + 128 ≤ length table
 unfolding setOf class
-set-room g list words n r l =
+set-room g list table n r l =
     let e : class g n ≡ some (getD list n 0) = found g list n (r .heads) l in
     omega (arith, simp (length-take, length-drop) at (r .sets .each n (getD list n 0) e .size))
 
-pub set-there : (g list words : List ℕ) (n : ℕ) → Ready g list words → n < length list → ClassSet g (getD list n 0) (take (32 * n + 32 - 32 * n) (drop (32 * n) words))
+pub set-there : (g list table : List ℕ) (n : ℕ) → LexemesReady g list table → n < length list → ClassSet g (getD list n 0) (take (128 * n + 128 - 128 * n) (drop (128 * n) table))
 unfolding setOf
-set-there g list words n r l =
-    let e : 32 * n + 32 - 32 * n ≡ 32 = omega arith in
+set-there g list table n r l =
+    let e : 128 * n + 128 - 128 * n ≡ 128 = omega arith in
     rw e (r .sets .each n (getD list n 0) (found g list n (r .heads) l))
 
-pub lexeme-of : (g list words : List ℕ) (n : ℕ) (r : Bool) (read text : List ℕ) → Ready g list words → n < length list → read ≡ text
+pub lexeme-of : (g list table : List ℕ) (n : ℕ) (r : Bool) (read text : List ℕ) → LexemesReady g list table → n < length list → read ≡ text
     → ((c : ℕ) → class g c ≡ some (getD list n 0) → r ≡ isLexeme g c read) → r ≡ isLexeme g n text
-lexeme-of g list words n r read text q l e f = f n (found g list n (q .heads) l) ∙ ap (isLexeme g n) e
+lexeme-of g list table n r read text q l e f = f n (found g list n (q .heads) l) ∙ ap (isLexeme g n) e
 
-pub no-class : (g list words : List ℕ) (n : ℕ) (text : List ℕ) → Ready g list words → length list ≤ n → false ≡ isLexeme g n text
+pub no-class : (g list table : List ℕ) (n : ℕ) (text : List ℕ) → LexemesReady g list table → length list ≤ n → false ≡ isLexeme g n text
 unfolding class
-no-class g list words n text r l = sym (lexeme-none g n text (rw (← r .heads) (nth-past list n l)))
+no-class g list table n text r l = sym (lexeme-none g n text (rw (← r .heads) (nth-none list n l)))

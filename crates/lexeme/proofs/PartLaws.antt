@@ -14,7 +14,7 @@ use borrow.Author.Tests.{lt-leb, eqb-true, eqb-false, leb-true}
 use Rattle.rules.specs.Records.{fieldB, fieldC}
 use Rattle.rules.specs.Lexeme.{Decoding, between, inside, broken, firstByte, laterByte, nextByte, inSome, allInSome, within, ranges}
 use Rattle.lexeme.specs.declared.scan.Scan.{Scan}
-use Rattle.lexeme.specs.declared.runs.Run.{Run}
+use Rattle.lexeme.specs.declared.runs.TextRun.{TextRun}
 use Rattle.lexeme.specs.Sets.{ClassSet}
 use Rattle.lexeme.specs.Scan.{midway, clean, stopped, further, judged, resumed, seen, scanned, Tidy}
 use Rattle.lexeme.specs.Runs.{Ahead}
@@ -168,7 +168,7 @@ pub record Scanning (g rs part : List ℕ) (start s : Scan) (i : ℕ) : Type 0 w
 pub scan-start : (g rs part : List ℕ) (start : Scan) → Tidy start → Scanning g rs part start start 0
 scan-start g rs part start t = record { near = omega arith; state = t; few = omega arith; same = refl }
 
-pub scan-ahead : (g set part : List ℕ) (p i : ℕ) (start s : Scan) (r : Run) → ClassSet g p set → Scanning g (ranges g p) part start s i → Ahead set part i (s .due) r
+pub scan-ahead : (g set part : List ℕ) (p i : ℕ) (start s : Scan) (r : TextRun) → ClassSet g p set → Scanning g (ranges g p) part start s i → Ahead set part i (s .due) r
     → Scanning g (ranges g p) part start (further s (r .count)) (r .at)
 scan-ahead g set part p i start s r c h a = record {
   near = a .ran .inside;

@@ -13,9 +13,10 @@ use lib.Pow.{pow-mono}
 use borrow.Author.Tests.{ltb-true, ltb-false}
 use Rattle.rules.specs.Lexeme.{ranges}
 use Rattle.lexeme.specs.declared.scan.Scan.{Scan}
-use Rattle.lexeme.specs.Sets.{bitAt, isIn, ClassSet}
+use Rattle.lexeme.specs.Sets.{bitAt, isIn, WordOf, ClassSet}
 use Rattle.lexeme.specs.Scan.{midway, clean, judged, seen, scanned}
-use Rattle.lexeme.specs.Runs.{Plain, Ran}
+use Rattle.lexeme.specs.Runs.{admitted, Plain, RunsTo}
+use Rattle.lexeme.proofs.BitLaws.{word-says}
 use Rattle.lexeme.proofs.StepLaws.{seen-first, seen-later, first-plain, first-two, later-last, judge-char, judge-midway}
 
 -- no bit of 0 is set, and of 0xfffffffc only those from 2 to 31
@@ -78,10 +79,10 @@ module _ (g set part : List ℕ) (p : ℕ) (r : ClassSet g p set) (n i : ℕ) wh
 pub plain-none : (words part : List ℕ) (from : ℕ) → from ≤ length part → Plain words part from from
 plain-none words part from l = record { ahead = omega arith; inside = l; each = λ k a b. absurd (omega arith) }
 
-pub plain-more : (words part : List ℕ) (from i j : ℕ) → Plain words part from i → i < length part → j ≡ i + 1 → isIn words (getD part i 0) ≡ true → Plain words part from j
+pub plain-more : (words part : List ℕ) (from i j : ℕ) → Plain words part from i → i < length part → j ≡ i + 1 → admitted words (getD part i 0) ≡ true → Plain words part from j
 plain-more words part from i j h l e f = record { ahead = omega (arith, h .ahead); inside = omega arith; each = λ k a b. go k a b (ltb k i) refl }
   where
-    go : (k : ℕ) → from ≤ k → k < j → (b : Bool) → ltb k i ≡ b → isIn words (getD part k 0) ≡ true
+    go : (k : ℕ) → from ≤ k → k < j → (b : Bool) → ltb k i ≡ b → admitted words (getD part k 0) ≡ true
     go k a b true q = h .each k a (ltb-true k i q)
     go k a b false q = let w : i ≤ k = ltb-false k i q in let z : k ≡ i = omega arith in rw z f
 
@@ -89,12 +90,12 @@ plain-more words part from i j h l e f = record { ahead = omega (arith, h .ahead
 pub plain-then : (words part : List ℕ) (from a b to : ℕ) → a ≤ b → from ≤ to → Plain words part from b → Plain words part a to → Plain words part from to
 plain-then words part from a b to l m h f = record { ahead = m; inside = f .inside; each = λ k x y. go k x y (ltb k b) refl }
   where
-    go : (k : ℕ) → from ≤ k → k < to → (t : Bool) → ltb k b ≡ t → isIn words (getD part k 0) ≡ true
+    go : (k : ℕ) → from ≤ k → k < to → (t : Bool) → ltb k b ≡ t → admitted words (getD part k 0) ≡ true
     go k x y true q = h .each k x (ltb-true k b q)
     go k x y false q = let w : b ≤ k = ltb-false k b q in f .each k (omega arith) y
 
-pub four-in : (words part : List ℕ) (i : ℕ) → i + 4 ≤ length part → isIn words (getD part i 0) ≡ true → isIn words (getD part (i + 1) 0) ≡ true
-    → isIn words (getD part (i + 2) 0) ≡ true → isIn words (getD part (i + 3) 0) ≡ true → Plain words part i (i + 4)
+pub four-in : (words part : List ℕ) (i : ℕ) → i + 4 ≤ length part → admitted words (getD part i 0) ≡ true → admitted words (getD part (i + 1) 0) ≡ true
+    → admitted words (getD part (i + 2) 0) ≡ true → admitted words (getD part (i + 3) 0) ≡ true → Plain words part i (i + 4)
 four-in words part i l a b c d =
     let p1 = plain-more words part i i (i + 1) (plain-none words part i (omega arith)) (omega arith) refl a in
     let p2 = plain-more words part i (i + 1) (i + 2) p1 (omega arith) (omega arith) b in
@@ -110,58 +111,59 @@ plain-back words part from i h l m f =
     let e : length part - 4 + 4 ≡ length part = omega (arith, h .inside) in
     plain-then words part from (length part - 4) i (length part) (omega arith) (omega (arith, h .inside)) h (rw e at f)
 
-plainWords : List ℕ → List ℕ
-plainWords set₁ = getD set₁ 0 0 ∷ getD set₁ 1 0 ∷ 0 ∷ 0 ∷ []
+plainWords : ℕ → ℕ → List ℕ
+plainWords a b = a ∷ b ∷ 0 ∷ 0 ∷ []
 
 no-word : (a b k : ℕ) → _≡_ {A = ℕ} (getD (a ∷ b ∷ 0 ∷ 0 ∷ []) (suc (suc k)) 0) 0
 no-word a b zero = refl
 no-word a b (suc zero) = refl
 no-word a b (suc (suc k)) = refl
 
-plain-byte : (set₁ : List ℕ) (b : ℕ) → isIn (plainWords set₁) b ≡ true → (b < 0x80) × (isIn set₁ b ≡ true)
-unfolding isIn plainWords
-plain-byte set₁ b e = go (ltb b 64) refl (ltb b 128) refl
-  where
-    go : (x : Bool) → ltb b 64 ≡ x → (y : Bool) → ltb b 128 ≡ y → (b < 0x80) × (isIn set₁ b ≡ true)
-    go true f y h =
-        let l : b < 64 = ltb-true b 64 f in
-        let q : b / 64 ≡ 0 = omega arith in
-        (omega arith, rw q (rw q at e))
-    go false f true h =
-        let l : 64 ≤ b = ltb-false b 64 f in
-        let m : b < 128 = ltb-true b 128 h in
-        let q : b / 64 ≡ 1 = omega arith in
-        (m, rw q (rw q at e))
-    go false f false h =
-        let l : 128 ≤ b = ltb-false b 128 h in
-        let q : b / 64 ≡ suc (suc (b / 64 - 2)) = omega arith in
-        no-bit (getD (plainWords set₁) (b / 64) 0) (b % 64) (rw q (no-word (getD set₁ 0 0) (getD set₁ 1 0) (b / 64 - 2))) e
+module _ (set₁ : List ℕ) (low high : ℕ) (u : WordOf set₁ 0 low) (v : WordOf set₁ 1 high) where
+  plain-byte : (b : ℕ) → admitted (plainWords low high) b ≡ true → (b < 0x80) × (isIn set₁ b ≡ true)
+  unfolding admitted plainWords
+  plain-byte b e = go (ltb b 64) refl (ltb b 128) refl
+    where
+      go : (x : Bool) → ltb b 64 ≡ x → (y : Bool) → ltb b 128 ≡ y → (b < 0x80) × (isIn set₁ b ≡ true)
+      go true f y h =
+          let l : b < 64 = ltb-true b 64 f in
+          let q : b / 64 ≡ 0 = omega arith in
+          (omega arith, sym (word-says set₁ low b (rw q u)) ∙ (rw q at e))
+      go false f true h =
+          let l : 64 ≤ b = ltb-false b 64 f in
+          let m : b < 128 = ltb-true b 128 h in
+          let q : b / 64 ≡ 1 = omega arith in
+          (m, sym (word-says set₁ high b (rw q v)) ∙ (rw q at e))
+      go false f false h =
+          let l : 128 ≤ b = ltb-false b 128 h in
+          let q : b / 64 ≡ suc (suc (b / 64 - 2)) = omega arith in
+          no-bit (getD (plainWords low high) (b / 64) 0) (b % 64) (rw q (no-word low high (b / 64 - 2))) e
 
-plain-scan : (g set₁ part : List ℕ) (p : ℕ) → ClassSet g p set₁ → (d from to n : ℕ) → to ≡ from + d → to ≤ length part
-    → ((k : ℕ) → from ≤ k → k < to → isIn (plainWords set₁) (getD part k 0) ≡ true)
-    → scanned g (ranges g p) (clean n) (drop from part) ≡ scanned g (ranges g p) (clean (n + d)) (drop to part)
-plain-scan g set₁ part p r zero from to n e l each = let f : to ≡ from = omega arith in rw (f, add-zero n)
-plain-scan g set₁ part p r (suc d) from to n e l each =
-    let h = plain-byte set₁ (getD part from 0) (each from (omega arith) (omega arith)) in
-    let q : n + 1 + d ≡ n + suc d = omega arith in
-    one-more g set₁ part p r n from (omega arith) (h .0) (h .1)
-    ∙ plain-scan g set₁ part p r d (from + 1) to (n + 1) (omega arith) l (λ k a b. each k (omega arith) b)
-    ∙ ap (λ (m : ℕ). scanned g (ranges g p) (clean m) (drop to part)) q
+  plain-scan : (g part : List ℕ) (p : ℕ) → ClassSet g p set₁ → (d from to n : ℕ) → to ≡ from + d → to ≤ length part
+      → ((k : ℕ) → from ≤ k → k < to → admitted (plainWords low high) (getD part k 0) ≡ true)
+      → scanned g (ranges g p) (clean n) (drop from part) ≡ scanned g (ranges g p) (clean (n + d)) (drop to part)
+  plain-scan g part p r zero from to n e l each = let f : to ≡ from = omega arith in rw (f, add-zero n)
+  plain-scan g part p r (suc d) from to n e l each =
+      let h = plain-byte (getD part from 0) (each from (omega arith) (omega arith)) in
+      let q : n + 1 + d ≡ n + suc d = omega arith in
+      one-more g set₁ part p r n from (omega arith) (h .0) (h .1)
+      ∙ plain-scan g part p r d (from + 1) to (n + 1) (omega arith) l (λ k a b. each k (omega arith) b)
+      ∙ ap (λ (m : ℕ). scanned g (ranges g p) (clean m) (drop to part)) q
 
-pub plain-ran : (set₁ part : List ℕ) (from to : ℕ) → Plain (getD set₁ 0 0 ∷ getD set₁ 1 0 ∷ 0 ∷ 0 ∷ []) part from to → Ran set₁ part from to (to - from)
-unfolding plainWords
-plain-ran set₁ part from to h = record {
-  ahead = omega (arith, h .ahead);
-  inside = h .inside;
-  same = λ g p r n. plain-scan g set₁ part p r (to - from) from to n (omega (arith, h .ahead)) (h .inside) (h .each);
-}
+  pub plain-ran : (part : List ℕ) (from to : ℕ) → Plain (low ∷ high ∷ 0 ∷ 0 ∷ []) part from to → RunsTo set₁ part from to (to - from)
+  unfolding plainWords
+  plain-ran part from to h = record {
+    ahead = omega (arith, h .ahead);
+    inside = h .inside;
+    same = λ g p r n. plain-scan g part p r (to - from) from to n (omega (arith, h .ahead)) (h .inside) (h .each);
+  }
 
-pub ran-then : (set₁ part : List ℕ) (from at to a b : ℕ) → Ran set₁ part from at a → Ran set₁ part at to b → Ran set₁ part from to (a + b)
+pub ran-then : (set₁ part : List ℕ) (from at to a b : ℕ) → RunsTo set₁ part from at a → RunsTo set₁ part at to b → RunsTo set₁ part from to (a + b)
 ran-then set₁ part from at to a b h f = record {
   ahead = omega (arith, h .ahead, f .ahead);
   inside = f .inside;
   same = λ g p r n. h .same g p r n ∙ f .same g p r (n + a) ∙ rw (add-assoc n a b);
 }
 
-pub ran-none : (set₁ part : List ℕ) (at : ℕ) → at ≤ length part → Ran set₁ part at at 0
+pub ran-none : (set₁ part : List ℕ) (at : ℕ) → at ≤ length part → RunsTo set₁ part at at 0
 ran-none set₁ part at l = record { ahead = omega arith; inside = l; same = λ g p r n. rw (add-zero n) }

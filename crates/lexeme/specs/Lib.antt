@@ -1,4 +1,3 @@
 pub mod Sets
-pub mod Ranges
 pub mod Scan
 pub mod Runs

@@ -1,31 +1,33 @@
 // Lexemes: well-formed UTF-8 with a number of characters from least to most, each in some range of a class.
 ghost use mathlib.Core.Path.{_≡_};
-ghost use mathlib.Core.Option.{some};
+ghost use mathlib.Core.Option.{none, some};
 ghost use Prim.Native.Nat.{ℕ};
+ghost use Rattle.rules.specs.Blocks.{streamLength};
 ghost use Rattle.rules.specs.Records.{textOf};
 ghost use Rattle.rules.specs.Grammar.{class};
 ghost use Rattle.rules.specs.Lexeme.{isLexeme};
 ghost use Rattle.stream.specs.Text.{textIn};
-ghost use Rattle.lexeme.specs.Sets.{ClassSet, Ready};
+ghost use Rattle.lexeme.specs.Sets.{ClassSet, LexemesReady};
 
-pub mod class;
+mod class;
 mod hints;
-pub mod runs;
-pub mod scan;
+mod runs;
+mod scan;
 pub mod sets;
 
+use records::text::text_of;
 use runs::run_from;
 use scan::between;
 use scan::scan_part;
+use sets::SET;
 use stream::record::fetch;
 use stream::text::Text;
-use stream::text::text_of;
 use stream::text::text_part;
 use stream::text::text_rest;
 
 // Whether a text is a lexeme of the class whose record is at p, by its number c. It is read where it lies, block by block, up to the part that
 // settles it.
-fn admits_parts(g: &[u8], p: u16, set: &[u64], table: &[u64], s: &[u8], t: Text) -> bool
+fn admits_parts(g: &[u8], p: u16, set: &[u16], table: &[u16], s: &[u8], t: Text) -> bool
     requires { ⌜ ClassSet (now g) p (now set) ⌝ }
     ensures { λ r. ⌜ ((c : ℕ) → class (now (g .entry)) c ≡ some p → r ≡ isLexeme (now (g .entry)) c (textIn (now (s .entry)) t)) ⌝ }
 {
@@ -52,7 +54,7 @@ fn admits_parts(g: &[u8], p: u16, set: &[u64], table: &[u64], s: &[u8], t: Text)
 }
 
 // The same. Most texts lie in one block and have no character of more than two bytes: one run settles them, and no state is carried.
-pub fn admits_text(g: &[u8], p: u16, set: &[u64], table: &[u64], s: &[u8], t: Text) -> bool
+fn admits_text(g: &[u8], p: u16, set: &[u16], table: &[u16], s: &[u8], t: Text) -> bool
     requires { ⌜ ClassSet (now g) p (now set) ⌝ }
     ensures { λ r. ⌜ ((c : ℕ) → class (now (g .entry)) c ≡ some p → r ≡ isLexeme (now (g .entry)) c (textIn (now (s .entry)) t)) ⌝ }
 {
@@ -72,23 +74,25 @@ pub fn admits_text(g: &[u8], p: u16, set: &[u64], table: &[u64], s: &[u8], t: Te
 }
 
 // Whether a text is a lexeme of class c. There are no lexemes of a class that doesn't exist.
-pub fn admits(g: &[u8], classes: &[u16], sets: &[u64], c: u16, s: &[u8], t: Text) -> bool
-    requires { ⌜ Ready (now g) (now classes) (now sets) ⌝ }
+pub fn admits(g: &[u8], classes: &[u16], sets: &[u16], c: u16, s: &[u8], t: Text) -> bool
+    requires { ⌜ LexemesReady (now g) (now classes) (now sets) ⌝ }
     ensures { λ r. ⌜ r ≡ isLexeme (now (g .entry)) c (textIn (now (s .entry)) t) ⌝ }
 {
     let n = c as usize;
     if classes.len() <= n {
         return false;
     }
-    let from = 32 * n;
-    let to = from + 32;
+    let from = SET * n;
+    let to = from + SET;
     admits_text(g, classes[n], &sets[from..to], sets, s, t)
 }
 
 // Whether the text of the head at record i of s is a lexeme of class c.
-pub fn is_lexeme(g: &[u8], classes: &[u16], sets: &[u64], c: u16, s: &[u8], i: usize) -> bool
-    requires { ⌜ Ready (now g) (now classes) (now sets) ⌝ }
+pub fn is_lexeme(g: &[u8], classes: &[u16], sets: &[u16], c: u16, s: &[u8], i: usize) -> bool
+    requires { ⌜ LexemesReady (now g) (now classes) (now sets) ⌝ }
+    requires { ⌜ streamLength (now s) ≡ none ⌝ }
     ensures { λ r. ⌜ r ≡ isLexeme (now (g .entry)) c (textOf (now (s .entry)) i) ⌝ }
 {
-    admits(g, classes, sets, c, s, text_of(s, i))
+    let head = fetch(s, i);
+    admits(g, classes, sets, c, s, text_of(s, i, head))
 }

@@ -4,17 +4,20 @@ ghost use mathlib.Core.Path.{_≡_};
 ghost use mathlib.Core.Bool.{true};
 ghost use Prim.Native.Nat.{_+_, _/_, _≤_, _<_};
 ghost use lib.ListN.{length, getD};
-ghost use Rattle.lexeme.specs.Sets.{isIn};
-ghost use Rattle.lexeme.specs.Runs.{Plain, Ran};
+ghost use Rattle.lexeme.specs.Runs.{admitted, Plain, RunsTo};
 use crate::sets::has;
+use crate::sets::word;
+
+// The leads 0xc2 to 0xdf, in the word of the bytes from 0xc0 on.
+const LEADS: u64 = 0xffff_fffc;
 
 // The place behind a run, and the number of its characters.
-pub struct Run {
+pub struct TextRun {
     pub at: usize,
     pub count: usize,
 }
 
-pub fn wide(b: u8) -> usize
+pub(crate) fn wide(b: u8) -> usize
     ensures { λ r. ⌜ (r ≡ b) × (r < 256) ⌝ }
 {
     b as usize
@@ -23,7 +26,7 @@ pub fn wide(b: u8) -> usize
 // Whether words 0 to 3, two of the class and two of zeros, admit the byte at i.
 fn is_in(part: &[u8], i: usize, words: &[u64; 4]) -> bool
     requires { ⌜ i < length (now part) ⌝ }
-    ensures { λ r. ⌜ r ≡ isIn (now (words .entry)) (getD (now (part .entry)) i 0) ⌝ }
+    ensures { λ r. ⌜ r ≡ admitted (now (words .entry)) (getD (now (part .entry)) i 0) ⌝ }
 {
     let b = wide(part[i]);
     has(words[b / 64], b)
@@ -91,48 +94,48 @@ fn is_lead(b: usize) -> usize
 // Characters of one and two bytes. Words 0 to 3 test a byte that begins a character: two words of the class for ASCII, none for 0x80 to 0xbf,
 // and the leads 0xc2 to 0xdf. Words 4 to 7 test the byte after a lead, which is from 0x80 to 0xbf: word 6 is the lead's word of the class. So no
 // branch depends on how long a character is, which no processor foresees in Greek text.
-fn mixed(part: &[u8], from: usize, set: &[u64]) -> Run
-    requires { ⌜ (from ≤ length (now part)) × (length (now set) ≡ 32) ⌝ }
-    ensures { λ r. ⌜ Ran (now (set .entry)) (now (part .entry)) from (r .at) (r .count) ⌝ }
+fn mixed(part: &[u8], from: usize, set: &[u16]) -> TextRun
+    requires { ⌜ (from ≤ length (now part)) × (length (now set) ≡ 128) ⌝ }
+    ensures { λ r. ⌜ RunsTo (now (set .entry)) (now (part .entry)) from (r .at) (r .count) ⌝ }
 {
-    let mut words = [set[0], set[1], 0, 0xffff_fffc, 0, 0, 0, 0];
+    let mut words = [word(set, 0), word(set, 1), 0, LEADS, 0, 0, 0, 0];
     let mut i = from;
     let mut lead = 0;
     let mut leads = 0;
     while i < part.len() {
         let b = wide(part[i]);
         if !has(words[4 * lead + b / 64], b) {
-            return Run {
+            return TextRun {
                 at: i - lead,
                 count: i - from - leads,
             };
         }
-        words[6] = set[b % 32];
+        words[6] = word(set, b % 32);
         lead = is_lead(b);
         leads += lead;
         i += 1;
     }
-    Run {
+    TextRun {
         at: i - lead,
         count: i - from - leads,
     }
 }
 
 // A run from a place between two characters. Plain ASCII goes first: it has the faster loop.
-pub fn run_from(part: &[u8], from: usize, set: &[u64]) -> Run
-    requires { ⌜ (from ≤ length (now part)) × (length (now set) ≡ 32) ⌝ }
-    ensures { λ r. ⌜ Ran (now (set .entry)) (now (part .entry)) from (r .at) (r .count) ⌝ }
+pub(crate) fn run_from(part: &[u8], from: usize, set: &[u16]) -> TextRun
+    requires { ⌜ (from ≤ length (now part)) × (length (now set) ≡ 128) ⌝ }
+    ensures { λ r. ⌜ RunsTo (now (set .entry)) (now (part .entry)) from (r .at) (r .count) ⌝ }
 {
-    let words = [set[0], set[1], 0, 0];
+    let words = [word(set, 0), word(set, 1), 0, 0];
     let at = by_four(part, from, &words);
     if part.len() <= at {
-        return Run {
+        return TextRun {
             at: at,
             count: at - from,
         };
     }
     let rest = mixed(part, at, set);
-    Run {
+    TextRun {
         at: rest.at,
         count: at - from + rest.count,
     }

@@ -9,10 +9,11 @@ ghost use Rattle.lexeme.specs.Sets.{ClassSet};
 ghost use Rattle.lexeme.specs.Scan.{midway, clean, stopped, further, judged, seen, scanned, leastNext, mostNext, Steps, Scans};
 ghost use Rattle.lexeme.specs.Runs.{Ahead};
 use crate::class::in_class;
-use crate::runs::Run;
+use crate::runs::TextRun;
 use crate::runs::run_from;
 use crate::runs::wide;
 use crate::sets::has;
+use crate::sets::word;
 
 // Between two bytes: whether all was well so far; how many bytes of a character are still due, the next of them from low to high, and
 // its bits so far; and the characters before it.
@@ -40,7 +41,7 @@ fn inside(count: usize, due: usize, low: usize, high: usize, bits: usize) -> Sca
 }
 
 // Between two characters, or at the beginning of a text.
-pub fn between(count: usize) -> Scan
+pub(crate) fn between(count: usize) -> Scan
     ensures { λ r. ⌜ r ≡ clean count ⌝ }
 {
     inside(count, 0, 0, 0, 0)
@@ -112,19 +113,19 @@ fn lead(count: usize, b: usize) -> Scan
     inside(count, 3, least_next(b), most_next(b), b - 0xf0)
 }
 
-fn first(g: &[u8], p: u16, set: &[u64], count: usize, b: usize) -> Scan
+fn first(g: &[u8], p: u16, set: &[u16], count: usize, b: usize) -> Scan
     requires { ⌜ ClassSet (now g) p (now set) ⌝ }
     requires { ⌜ count + 1 < 2 ^ 64 ⌝ }
     ensures { λ r. ⌜ r ≡ judged (now (g .entry)) (ranges (now (g .entry)) p) count (firstByte [] b) ⌝ }
 {
     if b < 0x80 {
-        return judge(has(set[b / 64], b), count);
+        return judge(has(word(set, b / 64), b), count);
     }
     lead(count, b)
 }
 
 // A later byte of a character brings six bits.
-fn later(g: &[u8], p: u16, set: &[u64], table: &[u64], s: Scan, b: usize) -> Scan
+fn later(g: &[u8], p: u16, set: &[u16], table: &[u16], s: Scan, b: usize) -> Scan
     requires { ⌜ Steps (now g) p (now set) s b ⌝ }
     requires { ⌜ 0 < s .due ⌝ }
     ensures { λ r. ⌜ r ≡ seen (now (g .entry)) (ranges (now (g .entry)) p) s b ⌝ }
@@ -143,7 +144,7 @@ fn later(g: &[u8], p: u16, set: &[u64], table: &[u64], s: Scan, b: usize) -> Sca
 }
 
 // A byte more.
-fn step(g: &[u8], p: u16, set: &[u64], table: &[u64], s: Scan, b: usize) -> Scan
+fn step(g: &[u8], p: u16, set: &[u16], table: &[u16], s: Scan, b: usize) -> Scan
     requires { ⌜ Steps (now g) p (now set) s b ⌝ }
     ensures { λ r. ⌜ r ≡ seen (now (g .entry)) (ranges (now (g .entry)) p) s b ⌝ }
 {
@@ -154,15 +155,15 @@ fn step(g: &[u8], p: u16, set: &[u64], table: &[u64], s: Scan, b: usize) -> Scan
 }
 
 // How far the hot loops get from here. They begin between two characters; a byte that begins a character of three or four isn't for them.
-fn ahead(part: &[u8], from: usize, set: &[u64], due: usize) -> Run
-    requires { ⌜ (from < length (now part)) × (length (now set) ≡ 32) ⌝ }
+fn ahead(part: &[u8], from: usize, set: &[u16], due: usize) -> TextRun
+    requires { ⌜ (from < length (now part)) × (length (now set) ≡ 128) ⌝ }
     ensures { λ r. ⌜ Ahead (now (set .entry)) (now (part .entry)) from due r ⌝ }
 {
     if due != 0 {
-        return Run { at: from, count: 0 };
+        return TextRun { at: from, count: 0 };
     }
     if 0xe0 <= part[from] {
-        return Run { at: from, count: 0 };
+        return TextRun { at: from, count: 0 };
     }
     run_from(part, from, set)
 }
@@ -183,7 +184,14 @@ fn count_on(s: Scan, more: usize) -> Scan
 
 // One part of a text, from the state that the part before it left. Runs of characters of one and two bytes go through the hot loops; what they
 // leave, longer characters and the borders of blocks, goes byte by byte.
-pub fn scan_part(g: &[u8], p: u16, set: &[u64], table: &[u64], part: &[u8], start: Scan) -> Scan
+pub(crate) fn scan_part(
+    g: &[u8],
+    p: u16,
+    set: &[u16],
+    table: &[u16],
+    part: &[u8],
+    start: Scan,
+) -> Scan
     requires { ⌜ Scans (now g) p (now set) start ⌝ }
     ensures { λ r. ⌜ r ≡ scanned (now (g .entry)) (ranges (now (g .entry)) p) start (now (part .entry)) ⌝ }
 {

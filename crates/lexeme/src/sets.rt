@@ -1,51 +1,88 @@
-// A table filled once per run: for each class the set of its code points below 2,048, one bit each, 32 words of 64 bits to a class. What is
-// lent behind the sets takes hints for the code points above.
+// A table filled once per run: for each class the set of its characters below U+0800, one bit each, 16 to a number. What is lent behind the sets
+// takes hints for the characters above.
 ghost use mathlib.Core.Path.{_≡_};
 ghost use Prim.Native.Nat.{ℕ, _+_, _-_, _*_, _/_, _%_, min, _≤_, _<_, _^_};
 ghost use mathlib.Core.Bool.{_||_};
+ghost use mathlib.Core.Option.{none};
 ghost use lib.ListN.{length, replicate};
+ghost use Rattle.rules.specs.Blocks.{streamLength};
 ghost use Rattle.rules.specs.Lexeme.{within};
-ghost use Rattle.lexeme.specs.Sets.{bitAt, isIn, ClassSet, Compiled, Lent};
-use crate::class::range_at;
+ghost use Rattle.lexeme.specs.Sets.{bitAt, isIn, WordOf, ClassSet, Compiled, SetsLent, Added, Filled};
 use crate::class::range_count;
 use crate::hints::all_hints;
+use records::range::range_at;
+
+// The characters that a set tells apart: those that UTF-8 writes in one byte or two.
+pub(crate) const CHARACTERS: usize = 2048;
+
+// How many of them a number holds, and so how many numbers a set has.
+const BITS: usize = 16;
+
+pub(crate) const SET: usize = 128;
+
+// All bits of a number.
+const ALL: u16 = 0xffff;
+
+// A table with room for 256 sets and for hints to the 8,064 ranges that a grammar could have; and one for grammars of few classes.
+pub const TABLE: usize = 40832;
+
+pub const SMALL_TABLE: usize = 4096;
 
 // Bit x of a word, counted modulo 64.
-pub fn has(word: u64, x: usize) -> bool
+pub(crate) fn has(word: u64, x: usize) -> bool
     ensures { λ r. ⌜ r ≡ bitAt word (x % 64) ⌝ }
 {
     (word >> (x % 64)) % 2 == 1
 }
 
-// A word whose lowest k bits are 1.
-fn ones(k: usize) -> u64
-    requires { ⌜ k ≤ 64 ⌝ }
+fn widen(n: u16) -> u64
+    ensures { λ r. ⌜ (r ≡ n) × (r < 65536) ⌝ }
+{
+    n as u64
+}
+
+// Four numbers of a set in one word: the characters from 64 j on.
+pub(crate) fn word(set: &[u16], j: usize) -> u64
+    requires { ⌜ 4 * j + 4 ≤ length (now set) ⌝ }
+    ensures { λ r. ⌜ WordOf (now (set .entry)) j r ⌝ }
+{
+    let at = 4 * j;
+    let a = widen(set[at]);
+    let b = widen(set[at + 1]);
+    let c = widen(set[at + 2]);
+    let d = widen(set[at + 3]);
+    a + 65536 * (b + 65536 * (c + 65536 * d))
+}
+
+// A number whose lowest k bits are 1.
+fn ones(k: usize) -> u16
+    requires { ⌜ k ≤ 16 ⌝ }
     ensures { λ r. ⌜ r ≡ 2 ^ k - 1 ⌝ }
 {
     if k == 0 {
         return 0;
     }
-    0xffff_ffff_ffff_ffff >> (64 - k)
+    ALL >> (BITS - k)
 }
 
-// How many of the 64 code points of word w are below x.
+// How many of the characters of number w are below x.
 fn below(x: usize, w: usize) -> usize
-    requires { ⌜ w < 32 ⌝ }
-    ensures { λ r. ⌜ r ≡ min 64 (x - 64 * w) ⌝ }
+    requires { ⌜ w < 128 ⌝ }
+    ensures { λ r. ⌜ r ≡ min 16 (x - 16 * w) ⌝ }
 {
-    let start = 64 * w;
+    let start = BITS * w;
     if x <= start {
         return 0;
     }
-    if 64 < x - start { 64 } else { x - start }
+    if BITS < x - start { BITS } else { x - start }
 }
 
-// The code points of word w from low to high.
-fn mask(low: usize, high: usize, w: usize) -> u64
-    requires { ⌜ (w < 32) × (high < 2 ^ 32) ⌝ }
-    ensures { λ r. ⌜ ((j : ℕ) → j < 64 → bitAt r j ≡ within low high (64 * w + j)) ⌝ }
+// The characters of number w from low to high.
+fn mask(low: usize, high: usize, w: usize) -> u16
+    requires { ⌜ (w < 128) × (high < 2 ^ 32) ⌝ }
+    ensures { λ r. ⌜ ((j : ℕ) → j < 16 → bitAt r j ≡ within low high (16 * w + j)) ⌝ }
 {
-    (ones(below(low, w)) ^ 0xffff_ffff_ffff_ffff) & ones(below(high + 1, w))
+    (ones(below(low, w)) ^ ALL) & ones(below(high + 1, w))
 }
 
 fn least(a: usize, b: usize) -> usize
@@ -54,21 +91,44 @@ fn least(a: usize, b: usize) -> usize
     if a < b { a } else { b }
 }
 
-// The code points from low to high go into a set: only the words that hold some of them are touched.
-fn add_range(set: &mut [u64], low: usize, high: usize)
-    requires { ⌜ (length (now set) ≡ 32) × (high < 2 ^ 32) ⌝ }
-    ensures { λ _. ⌜ ((x : ℕ) → x < 2048 → isIn (now (set .exit)) x ≡ (isIn (now (set .entry)) x || within low high x)) ⌝ }
+// Of the characters from low to high, those of number w go into a set.
+fn add_at(set: &mut [u16], low: usize, high: usize, w: usize)
+    requires { ⌜ (length (now set) ≡ 128) × (high < 2 ^ 32) ⌝ }
+    ensures { λ _. ⌜ Added low high w (now (set .entry)) (now (set .exit)) ⌝ }
 {
-    let end = least(high / 64 + 1, 32);
-    let mut w = low / 64;
-    while w < end {
+    if w < SET {
         set[w] = set[w] | mask(low, high, w);
+    }
+}
+
+// All characters of the numbers from a place to another.
+fn fill(set: &mut [u16], from: usize, to: usize)
+    requires { ⌜ to ≤ length (now set) ⌝ }
+    ensures { λ _. ⌜ Filled from to (now (set .entry)) (now (set .exit)) ⌝ }
+{
+    let mut w = from;
+    while w < to {
+        set[w] = ALL;
         w += 1;
     }
 }
 
-// A set of no code points.
-fn clear(set: &mut [u64])
+// The characters from low to high go into a set: some of the first and of the last of their numbers, and all of those between.
+fn add_range(set: &mut [u16], low: usize, high: usize)
+    requires { ⌜ (length (now set) ≡ 128) × (high < 2 ^ 32) ⌝ }
+    ensures { λ _. ⌜ ((x : ℕ) → x < 2048 → isIn (now (set .exit)) x ≡ (isIn (now (set .entry)) x || within low high x)) ⌝ }
+{
+    let from = low / BITS;
+    let to = high / BITS;
+    add_at(set, low, high, from);
+    if from < to {
+        fill(set, from + 1, least(to, SET));
+        add_at(set, low, high, to);
+    }
+}
+
+// A set of no characters.
+fn clear(set: &mut [u16])
     ensures { λ _. ⌜ now (set .exit) ≡ replicate (length (now (set .entry))) 0 ⌝ }
 {
     let mut w = 0;
@@ -79,8 +139,8 @@ fn clear(set: &mut [u64])
 }
 
 // The set of the class whose record is at p.
-fn class_set(g: &[u8], p: u16, set: &mut [u64])
-    requires { ⌜ length (now set) ≡ 32 ⌝ }
+fn class_set(g: &[u8], p: u16, set: &mut [u16])
+    requires { ⌜ (length (now set) ≡ 128) × (streamLength (now g) ≡ none) ⌝ }
     ensures { λ _. ⌜ ClassSet (now (g .entry)) p (now (set .exit)) ⌝ }
 {
     clear(set);
@@ -94,18 +154,18 @@ fn class_set(g: &[u8], p: u16, set: &mut [u64])
     }
 }
 
-// The sets of all classes, by their numbers: once per run.
-pub fn class_sets(g: &[u8], classes: &[u16], sets: &mut [u64])
-    requires { ⌜ Lent (now g) (now classes) (now sets) ⌝ }
+// The sets of all classes, by their numbers: once per run. The hints go first, so that a set is in its place whatever they left there.
+pub fn class_sets(g: &[u8], classes: &[u16], sets: &mut [u16])
+    requires { ⌜ SetsLent (now g) (now classes) (now sets) ⌝ }
     ensures { λ _. ⌜ Compiled (now (g .entry)) (now (sets .exit)) ⌝ }
 {
+    all_hints(g, classes, sets);
     let mut n = 0;
     while n < classes.len() {
         let p = classes[n];
-        let from = 32 * n;
-        let to = from + 32;
+        let from = SET * n;
+        let to = from + SET;
         class_set(g, p, &mut sets[from..to]);
         n += 1;
     }
-    all_hints(g, classes, sets);
 }

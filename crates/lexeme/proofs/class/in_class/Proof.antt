@@ -1,22 +1,17 @@
-use native.Mathlib.Omega.{arith}
 use mathlib.Core.Path.{_∙_}
-use Rattle.lexeme.specs.Sets.{isIn}
+use Rattle.lexeme.proofs.BitLaws.{word-says}
 use borrow.Author.Needs.{needs}
 use Rattle.lexeme.proofs.class.in_class.Statement.{statement}
 use Rattle.lexeme.proofs.class.in_class.Tie as tie
 
-mul-has : tie.Need-mul-has
-mul-has c = omega (arith, c .if1 .taken)
-
-shared-slice-read-has : tie.Need-shared-slice-read-has
-shared-slice-read-has c = omega (arith, c .before .before .before .before .before .pre .size, c .before .if1 .taken)
+word-requires : tie.Need-word-requires
+word-requires c κs = search needs
 
 has-requires : tie.Need-has-requires
 has-requires c κs = search needs
 
 returns : tie.Need-returns
-unfolding isIn
-returns c = c .has .ensures ∙ c .before .before .before .before .before .before .pre .same _ (c .before .before .if1 .taken)
+returns c = c .has .ensures ∙ word-says _ _ _ (c .before .word .ensures) ∙ c .before .before .before .before .before .before .pre .same _ (c .before .before .if1 .taken)
 
 in-ranges-requires : tie.Need-in-ranges-requires
 in-ranges-requires c κs = search needs
@@ -26,5 +21,4 @@ returns-2 c = search needs
 
 pub in-class-spec : {M : Type 1} → statement M
 in-class-spec =
-    tie.close
-    (tie.spec mul-has shared-slice-read-has has-requires returns in-ranges-requires returns-2)
+    tie.close (tie.spec word-requires has-requires returns in-ranges-requires returns-2)

@@ -1,31 +1,31 @@
-use borrow.Author.Needs.{needs}
 use mathlib.Core.Path.{sym}
+use borrow.Author.Needs.{needs}
 use Rattle.lexeme.proofs.class.in_ranges.Statement.{statement}
 use Rattle.lexeme.proofs.class.in_ranges.Tie as tie
+
+range-count-requires : tie.Need-range-count-requires
+range-count-requires c κs = search needs
 
 area-requires : tie.Need-area-requires
 area-requires c κs = search needs
 
-mul-guess : tie.Need-mul-guess
-mul-guess c = search needs
+mul-is-hinted : tie.Need-mul-is-hinted
+mul-is-hinted c = search needs
 
-sub-guess : tie.Need-sub-guess
-sub-guess c = search needs
+sub-is-hinted : tie.Need-sub-is-hinted
+sub-is-hinted c = search needs
 
-part-guess-start : tie.Need-part-guess-start
-part-guess-start c = search needs
+part-is-hinted-start : tie.Need-part-is-hinted-start
+part-is-hinted-start c = search needs
 
-part-guess-end : tie.Need-part-guess-end
-part-guess-end c = search needs
+part-is-hinted-end : tie.Need-part-is-hinted-end
+part-is-hinted-end c = search needs
 
-guess-requires : tie.Need-guess-requires
-guess-requires c κs = search needs
-
-is-kth-requires : tie.Need-is-kth-requires
-is-kth-requires c κs = search needs
+is-hinted-requires : tie.Need-is-hinted-requires
+is-hinted-requires c κs = search needs
 
 returns : tie.Need-returns
-returns c = sym (c .before .is-kth .ensures (c .if2 .taken))
+returns c = sym (c .before .is-hinted .ensures (c .if2 .taken))
 
 search-requires : tie.Need-search-requires
 search-requires c κs = search needs
@@ -37,13 +37,13 @@ pub in-ranges-spec : {M : Type 1} → statement M
 in-ranges-spec =
     tie.close
     (tie.spec
+    range-count-requires
     area-requires
-    mul-guess
-    sub-guess
-    part-guess-start
-    part-guess-end
-    guess-requires
-    is-kth-requires
+    mul-is-hinted
+    sub-is-hinted
+    part-is-hinted-start
+    part-is-hinted-end
+    is-hinted-requires
     returns
     search-requires
     returns-2)

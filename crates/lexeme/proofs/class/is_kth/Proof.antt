@@ -5,9 +5,6 @@ use borrow.Author.Needs.{needs}
 use Rattle.lexeme.proofs.class.is_kth.Statement.{statement}
 use Rattle.lexeme.proofs.class.is_kth.Tie as tie
 
-range-count-requires : tie.Need-range-count-requires
-range-count-requires c κs = search needs
-
 returns : tie.Need-returns
 returns c = λ e. absurd (false≢true e)
 
@@ -24,16 +21,9 @@ is-between-requires : tie.Need-is-between-requires
 is-between-requires c κs = search needs
 
 returns-2 : tie.Need-returns-2
-returns-2 c = kth-found _ _ _ _ _ (omega (arith, c .before .before .if1 .left)) (c .before .range-at .ensures) _ (c .is-between .ensures)
+returns-2 c = kth-found _ _ _ _ _ (omega (arith, c .before .before .if1 .left, c .before .before .before .before .pre .1)) (c .before .range-at .ensures) _ (c .is-between .ensures)
 
 pub is-kth-spec : {M : Type 1} → statement M
 is-kth-spec =
     tie.close
-    (tie.spec
-    range-count-requires
-    returns
-    add-range-at
-    add-range-at-2
-    range-at-requires
-    is-between-requires
-    returns-2)
+    (tie.spec returns add-range-at add-range-at-2 range-at-requires is-between-requires returns-2)

@@ -1,4 +1,4 @@
-use Rattle.lexeme.specs.Sets.{isIn}
+use Rattle.lexeme.specs.Runs.{admitted}
 use borrow.Author.Needs.{needs}
 use Rattle.lexeme.proofs.runs.is_in.Statement.{statement}
 use Rattle.lexeme.proofs.runs.is_in.Tie as tie
@@ -19,7 +19,7 @@ has-requires : tie.Need-has-requires
 has-requires c κs = search needs
 
 returns : tie.Need-returns
-unfolding isIn
+unfolding admitted
 returns c = rw (← c .before .before .wide .ensures .0) (c .has .ensures)
 
 pub is-in-spec : {M : Type 1} → statement M

@@ -14,14 +14,14 @@ Inv-loop part from set words₀ i₀ lead₀ leads₀ words i lead leads = Mixin
 abbrev μ-loop : tie.MeasureT-loop
 μ-loop part from set words₀ i₀ lead₀ leads₀ words i lead leads = length part - i
 
-shared-slice-read-t10 : tie.Need-shared-slice-read-t10 Inv-loop μ-loop
-shared-slice-read-t10 c = search needs
+word-requires : tie.Need-word-requires Inv-loop μ-loop
+word-requires c κs = search needs
 
-shared-slice-read-t12 : tie.Need-shared-slice-read-t12 Inv-loop μ-loop
-shared-slice-read-t12 c = search needs
+word-requires-2 : tie.Need-word-requires-2 Inv-loop μ-loop
+word-requires-2 c κs = search needs
 
 loop-holds : tie.Need-loop-holds Inv-loop μ-loop
-loop-holds c = mix-start _ _ _ (c .before .before .before .before .pre .0)
+loop-holds c = mix-start _ _ _ _ _ (c .before .before .before .before .pre .0) (c .before .word .ensures) (c .word2 .ensures)
 
 shared-slice-read-wide : tie.Need-shared-slice-read-wide Inv-loop μ-loop
 shared-slice-read-wide c = omega arith
@@ -44,23 +44,20 @@ array-read-has c = omega (arith, c .before .before .before .loop .inv .single, c
 has-requires : tie.Need-has-requires Inv-loop μ-loop
 has-requires c κs = search needs
 
+sub-t22 : tie.Need-sub-t22 Inv-loop μ-loop
+sub-t22 c = omega (arith, c .before .before .before .before .before .loop .inv .fewer, c .before .before .before .before .before .loop .inv .counted)
+
+sub-t23 : tie.Need-sub-t23 Inv-loop μ-loop
+sub-t23 c = omega (arith, c .before .before .before .before .before .loop .inv .fewer)
+
 sub-t24 : tie.Need-sub-t24 Inv-loop μ-loop
-sub-t24 c = omega (arith, c .before .before .before .before .before .loop .inv .fewer, c .before .before .before .before .before .loop .inv .counted)
-
-sub-t25 : tie.Need-sub-t25 Inv-loop μ-loop
-sub-t25 c = omega (arith, c .before .before .before .before .before .loop .inv .fewer)
-
-sub-t26 : tie.Need-sub-t26 Inv-loop μ-loop
-sub-t26 c = omega (arith, c .before .before .before .before .before .loop .inv .fewer)
+sub-t24 c = omega (arith, c .before .before .before .before .before .loop .inv .fewer)
 
 returns : tie.Need-returns Inv-loop μ-loop
 returns c = c .before .before .before .before .before .loop .inv .ran
 
-mul-words : tie.Need-mul-words Inv-loop μ-loop
-mul-words c = search needs
-
-shared-slice-read-words : tie.Need-shared-slice-read-words Inv-loop μ-loop
-shared-slice-read-words c = omega (arith, c .before .before .before .before .before .before .before .before .before .before .before .pre .1)
+word-requires-3 : tie.Need-word-requires-3 Inv-loop μ-loop
+word-requires-3 c κs = omega (arith, c .before .before .before .before .before .before .before .before .before .before .pre .1)
 
 array-write-words : tie.Need-array-write-words Inv-loop μ-loop
 array-write-words c = search needs
@@ -78,16 +75,16 @@ loop-less : tie.Need-loop-less Inv-loop μ-loop
 loop-less c = search needs
 
 loop-again : tie.Need-loop-again Inv-loop μ-loop
-loop-again c = mix-turn _ _ _ _ _ _ _ _ _ (c .before .before .before .before .before .before .before .loop .inv) (c .before .before .before .before .before .before .loop-test .taken) (c .before .before .before .before .wide .ensures .0) (c .before .before .before .before .wide .ensures .1) (sym (c .before .before .before .has .ensures) ∙ not-false _ (c .before .before .if1 .left)) (c .is-lead .ensures)
+loop-again c = mix-turn _ _ _ _ _ _ _ _ _ _ (c .before .before .before .before .before .before .before .loop .inv) (c .before .before .before .before .before .before .loop-test .taken) (c .before .before .before .before .wide .ensures .0) (c .before .before .before .before .wide .ensures .1) (sym (c .before .before .before .has .ensures) ∙ not-false _ (c .before .before .if1 .left)) (c .before .word3 .ensures) (c .is-lead .ensures)
 
-sub-t30 : tie.Need-sub-t30 Inv-loop μ-loop
-sub-t30 c = omega (arith, c .before .loop .inv .fewer, c .before .loop .inv .counted)
+sub-t27 : tie.Need-sub-t27 Inv-loop μ-loop
+sub-t27 c = omega (arith, c .before .loop .inv .fewer, c .before .loop .inv .counted)
 
-sub-t31 : tie.Need-sub-t31 Inv-loop μ-loop
-sub-t31 c = omega (arith, c .before .loop .inv .fewer)
+sub-t28 : tie.Need-sub-t28 Inv-loop μ-loop
+sub-t28 c = omega (arith, c .before .loop .inv .fewer)
 
-sub-t32 : tie.Need-sub-t32 Inv-loop μ-loop
-sub-t32 c = omega (arith, c .before .loop .inv .fewer)
+sub-t29 : tie.Need-sub-t29 Inv-loop μ-loop
+sub-t29 c = omega (arith, c .before .loop .inv .fewer)
 
 returns-2 : tie.Need-returns-2 Inv-loop μ-loop
 returns-2 c = c .before .loop .inv .ran
@@ -98,8 +95,8 @@ mixed-spec =
     (tie.spec
     Inv-loop
     μ-loop
-    shared-slice-read-t10
-    shared-slice-read-t12
+    word-requires
+    word-requires-2
     loop-holds
     shared-slice-read-wide
     wide-requires
@@ -108,19 +105,18 @@ mixed-spec =
     mul-has-2
     array-read-has
     has-requires
+    sub-t22
+    sub-t23
     sub-t24
-    sub-t25
-    sub-t26
     returns
-    mul-words
-    shared-slice-read-words
+    word-requires-3
     array-write-words
     is-lead-requires
     add-leads
     add-i
     loop-less
     loop-again
-    sub-t30
-    sub-t31
-    sub-t32
+    sub-t27
+    sub-t28
+    sub-t29
     returns-2)

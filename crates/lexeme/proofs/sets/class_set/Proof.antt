@@ -2,13 +2,13 @@ use Prim.Native.Nat.{_-_}
 use mathlib.Core.Path.{_∙_, ap, sym}
 use native.Mathlib.Omega.{arith}
 use lib.ListN.{replicate}
-use Rattle.lexeme.proofs.ClassLaws.{Filling, fill-start, fill-turn, fill-end}
+use Rattle.lexeme.proofs.ClassLaws.{SetFilling, fill-start, fill-turn, fill-end}
 use borrow.Author.Needs.{needs}
 use Rattle.lexeme.proofs.sets.class_set.Statement.{statement}
 use Rattle.lexeme.proofs.sets.class_set.Tie as tie
 
 abbrev Inv-loop : tie.InvT-loop
-Inv-loop g p set₀ count first k₀ set k = Filling g p count first k set
+Inv-loop g p set₀ count first k₀ set k = SetFilling g p count first k set
 
 abbrev μ-loop : tie.MeasureT-loop
 μ-loop g p set₀ count first k₀ set k = count - k
@@ -23,7 +23,7 @@ add-first : tie.Need-add-first Inv-loop μ-loop
 add-first c = search needs
 
 loop-holds : tie.Need-loop-holds Inv-loop μ-loop
-loop-holds c = fill-start _ _ _ _ (c .range-count .ensures .0) (c .before .before .before .clear .kept .0 ∙ c .before .before .before .before .before .before .before .pre) (c .before .before .before .clear .ensures ∙ ap (λ n. replicate n 0) (c .before .before .before .before .before .before .before .pre))
+loop-holds c = fill-start _ _ _ _ (c .before .before .before .before .before .before .before .pre .1) (c .range-count .ensures .0) (c .before .before .before .clear .kept .0 ∙ c .before .before .before .before .before .before .before .pre .0) (c .before .before .before .clear .ensures ∙ ap (λ n. replicate n 0) (c .before .before .before .before .before .before .before .pre .0))
 
 add-range-at : tie.Need-add-range-at Inv-loop μ-loop
 add-range-at c = omega (arith, c .before .before .range-count .ensures .1)
@@ -44,7 +44,7 @@ loop-again : tie.Need-loop-again Inv-loop μ-loop
 loop-again c = fill-turn _ _ _ _ _ _ _ _ (c .before .before .before .before .before .before .loop .inv) (c .before .before .before .before .before .loop-test .taken) (c .before .before .before .before .range-at .ensures) (c .before .before .add-range .kept .0) (c .before .before .add-range .ensures)
 
 same-length : tie.Need-same-length Inv-loop μ-loop
-same-length c = c .before .loop .inv .size ∙ sym (c .before .before .before .before .before .before .before .before .before .pre)
+same-length c = c .before .loop .inv .size ∙ sym (c .before .before .before .before .before .before .before .before .before .pre .0)
 
 returns : tie.Need-returns Inv-loop μ-loop
 returns c = fill-end _ _ _ _ _ _ (c .before .loop .inv) (c .loop-test .left)

@@ -9,6 +9,9 @@ returns c = no-ones (c .before .args .k) (c .if1 .taken)
 sub-result : tie.Need-sub-result
 sub-result c = search needs
 
+cast-result : tie.Need-cast-result
+cast-result c = search needs
+
 shr-result : tie.Need-shr-result
 shr-result c = search needs
 
@@ -16,4 +19,4 @@ returns-2 : tie.Need-returns-2
 returns-2 c = ones-shifted (c .before .args .k) (c .before .pre)
 
 pub ones-spec : {M : Type 1} → statement M
-ones-spec = tie.close (tie.spec returns sub-result shr-result returns-2)
+ones-spec = tie.close (tie.spec returns sub-result cast-result shr-result returns-2)
