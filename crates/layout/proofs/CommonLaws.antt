@@ -4,18 +4,20 @@ use mathlib.Core.Path.{_≡_, refl, ap, sym, _∙_}
 use mathlib.Core.List.{List, [], _∷_, _++_, append-nil}
 use mathlib.Core.Bool.{Bool, true, false, _&&_}
 use native.Mathlib.Omega.{arith}
-use native.Mathlib.Nat.{add-zero, add-assoc, add-mul-div-left, div-eq-of-lt, div-one, zero-div, zero-add}
+use native.Mathlib.Nat.{add-zero, add-mul-div-left, div-eq-of-lt, div-one, zero-div, zero-add}
 use native.Mathlib.Numerals.{add-one}
 use lib.ListN.{length, getD, take, drop, length-take, length-drop, length-append, drop-of-length-le, List·getD-eq-default}
 use lib.Seq.{getD-take, getD-drop, drop-append-add, drop-nil}
 use lib.Pow.{shr-shr}
 use lib.Dec.{eqb, ltb}
 use borrow.Author.Tests.{eq-eqb, ne-eqb, eqb-true, eqb-false, ltb-true, ltb-false, lt-ltb, le-ltb, le-leb, lt-leb}
-use Rattle.rules.specs.Records.{base, word, byteOf, kindOf, fieldA, fieldB, fieldC, fieldD, recordCount, recordsFrom, units, paddingOf, zeros}
+use Rattle.rules.specs.Records.{base, byteOf, fieldB, recordCount, recordsFrom, units, paddingOf, zeros}
 use Rattle.rules.specs.Layout.{tailRight}
 use Rattle.stream.specs.declared.record.Record.{Record}
 use Rattle.stream.specs.declared.record.Place.{Place}
 use Rattle.stream.specs.Record.{Fetched, placeOf, Reach}
+use Rattle.laws.specs.Rows.{one-less}
+use Rattle.stream.proofs.RecordLaws.{eight-bytes}
 use Rattle.layout.specs.Common.{bytesOf, numberOf}
 
 -- Tests in a row, as code that returns at the first that fails
@@ -103,30 +105,20 @@ record-past : (s : List ℕ) (i j : ℕ) → 8 ≤ j → getD (recordBytes s i) 
 unfolding recordBytes
 record-past s i j l = List·getD-eq-default (take 8 (drop (base i) s)) 0 (simp length-take (omega arith))
 
--- a word's two bytes
-word-low : (s : List ℕ) (i j w : ℕ) → w ≡ word s (base i + j) → byteOf s i j < 256 → w % 256 ≡ byteOf s i j
-unfolding word byteOf
-word-low s i j w e l = rw e (omega arith)
-
-word-high : (s : List ℕ) (i j w : ℕ) → w ≡ word s (base i + j) → byteOf s i j < 256 → w / 256 ≡ byteOf s i (j + 1)
-unfolding word byteOf
-word-high s i j w e l = rw (e, add-assoc (base i) j 1) (omega arith)
-
 module _ (s : List ℕ) (i : ℕ) (r : Record) (f : Fetched s i r) where
-  pub low-b : r .b % 256 ≡ byteOf s i 2
-  unfolding fieldB
-  low-b = word-low s i 2 (r .b) (f .b) (f .small 2)
+  from-byte : (k x : ℕ) → k < 8 → byteOf s i k ≡ x → x ≡ getD (recordBytes s i) k 0
+  from-byte k x l e = sym (record-byte s i k l ∙ e)
 
   fetched-byte : (k : ℕ) → getD (bytesOf r) k 0 ≡ getD (recordBytes s i) k 0
-  unfolding bytesOf kindOf fieldA fieldB fieldC fieldD
-  fetched-byte zero = f .kind ∙ sym (record-byte s i 0 (omega arith))
-  fetched-byte (suc zero) = f .a ∙ sym (record-byte s i 1 (omega arith))
-  fetched-byte (suc (suc zero)) = low-b ∙ sym (record-byte s i 2 (omega arith))
-  fetched-byte (suc (suc (suc zero))) = word-high s i 2 (r .b) (f .b) (f .small 2) ∙ sym (record-byte s i 3 (omega arith))
-  fetched-byte (suc (suc (suc (suc zero)))) = word-low s i 4 (r .c) (f .c) (f .small 4) ∙ sym (record-byte s i 4 (omega arith))
-  fetched-byte (suc (suc (suc (suc (suc zero))))) = word-high s i 4 (r .c) (f .c) (f .small 4) ∙ sym (record-byte s i 5 (omega arith))
-  fetched-byte (suc (suc (suc (suc (suc (suc zero)))))) = word-low s i 6 (r .d) (f .d) (f .small 6) ∙ sym (record-byte s i 6 (omega arith))
-  fetched-byte (suc (suc (suc (suc (suc (suc (suc zero))))))) = word-high s i 6 (r .d) (f .d) (f .small 6) ∙ sym (record-byte s i 7 (omega arith))
+  unfolding bytesOf
+  fetched-byte zero = from-byte 0 _ (omega arith) (eight-bytes s i r f .byte0)
+  fetched-byte (suc zero) = from-byte 1 _ (omega arith) (eight-bytes s i r f .byte1)
+  fetched-byte (suc (suc zero)) = from-byte 2 _ (omega arith) (eight-bytes s i r f .byte2)
+  fetched-byte (suc (suc (suc zero))) = from-byte 3 _ (omega arith) (eight-bytes s i r f .byte3)
+  fetched-byte (suc (suc (suc (suc zero)))) = from-byte 4 _ (omega arith) (eight-bytes s i r f .byte4)
+  fetched-byte (suc (suc (suc (suc (suc zero))))) = from-byte 5 _ (omega arith) (eight-bytes s i r f .byte5)
+  fetched-byte (suc (suc (suc (suc (suc (suc zero)))))) = from-byte 6 _ (omega arith) (eight-bytes s i r f .byte6)
+  fetched-byte (suc (suc (suc (suc (suc (suc (suc zero))))))) = from-byte 7 _ (omega arith) (eight-bytes s i r f .byte7)
   fetched-byte (suc (suc (suc (suc (suc (suc (suc (suc k)))))))) = sym (record-past s i (suc (suc (suc (suc (suc (suc (suc (suc k)))))))) (omega arith))
 
   pub fetched-zeros : (j : ℕ) → zeros (drop j (bytesOf r)) ≡ zeros (drop j (recordBytes s i))
@@ -141,9 +133,6 @@ zeros-append (x ∷ xs) ys = rw (zeros-append xs ys) (and-assoc (eqb x 0) (zeros
     and-assoc : (a b c : Bool) → a && (b && c) ≡ a && b && c
     and-assoc true b c = refl
     and-assoc false b c = refl
-
-one-less : (n p : ℕ) → p < n → n - p ≡ suc (n - (p + 1))
-one-less n p l = omega arith
 
 module _ (s : List ℕ) (p n : ℕ) (r : Record) (f : Fetched s p r) (l : p < n) where
   split-first : zeros (recordsFrom s (n - p) p) ≡ zeros (recordBytes s p) && zeros (recordsFrom s (n - (p + 1)) (p + 1))
@@ -216,18 +205,18 @@ module _ (s : List ℕ) (p b : ℕ) (e : b ≡ fieldB s p) where
       rw (← e)
       (rw (drop-of-length-le (recordsFrom s ((b + 7) / 8) (p + 1)) {i = b} (omega (arith, records-length s ((b + 7) / 8) (p + 1)))))
 
-  pub padding-is : (u : Record) → Fetched s (p + (b + 7) / 8) u → (b % 8 ≡ 0 → ⊥) → zeros (drop (b % 8) (bytesOf u)) ≡ zeros (paddingOf s p)
+  pub padding-is : (n : ℕ) → n ≡ units b → (u : Record) → Fetched s (p + n) u → (b % 8 ≡ 0 → ⊥) → zeros (drop (b % 8) (bytesOf u)) ≡ zeros (paddingOf s p)
   unfolding paddingOf units
-  padding-is u f z =
-      let n : ℕ = (b + 7) / 8 - 1 in
-      let x : (b + 7) / 8 ≡ suc n = omega arith in
-      let y : b ≡ 8 * n + b % 8 = omega arith in
-      let w : p + (b + 7) / 8 ≡ p + 1 + n = omega arith in
-      fetched-zeros s (p + (b + 7) / 8) u f (b % 8)
+  padding-is n is u f z =
+      let m : ℕ = n - 1 in
+      let x : n ≡ suc m = omega arith in
+      let y : b ≡ 8 * m + b % 8 = omega arith in
+      let w : p + n ≡ p + 1 + m = omega arith in
+      fetched-zeros s (p + n) u f (b % 8)
       ∙ ap (λ (i : ℕ). zeros (drop (b % 8) (recordBytes s i))) w
-      ∙ sym (last-record s n (b % 8) (p + 1))
-      ∙ ap (λ (k : ℕ). zeros (drop k (recordsFrom s (suc n) (p + 1)))) (sym y)
-      ∙ ap (λ (m : ℕ). zeros (drop b (recordsFrom s m (p + 1)))) (sym x)
+      ∙ sym (last-record s m (b % 8) (p + 1))
+      ∙ ap (λ (k : ℕ). zeros (drop k (recordsFrom s (suc m) (p + 1)))) (sym y)
+      ∙ ap (λ (m : ℕ). zeros (drop b (recordsFrom s m (p + 1)))) (sym x ∙ is)
       ∙ ap (λ (b : ℕ). zeros (drop b (recordsFrom s ((b + 7) / 8) (p + 1)))) e
 
 -- The records after the last thing, by the tests of the code
@@ -237,19 +226,19 @@ module _ (s : List ℕ) (p : ℕ) where
   unfolding tailRight
   tail-nothing l = rw (lt-leb 1 p l)
 
-  module _ (a : 1 ≤ p) where
-    pub tail-past : recordCount s < p → false ≡ tailRight s p
+  module _ (a : 1 ≤ p) (n : ℕ) (c : n ≡ recordCount s) where
+    pub tail-past : n < p → false ≡ tailRight s p
     unfolding tailRight
-    tail-past l = rw (le-leb 1 p a, lt-leb p (recordCount s) l)
+    tail-past l = rw (le-leb 1 p a, ← c, lt-leb p n l)
 
-    module _ (b : p ≤ recordCount s) where
-      pub tail-long : 63 ≤ recordCount s - p → false ≡ tailRight s p
+    module _ (b : p ≤ n) where
+      pub tail-long : 63 ≤ n - p → false ≡ tailRight s p
       unfolding tailRight
-      tail-long l = rw (le-leb 1 p a, le-leb p (recordCount s) b, le-ltb (recordCount s - p) 63 l)
+      tail-long l = rw (le-leb 1 p a, ← c, le-leb p n b, le-ltb (n - p) 63 l)
 
-      pub tail-is : recordCount s - p < 63 → zeros (recordsFrom s (recordCount s - p) p) ≡ tailRight s p
+      pub tail-is : n - p < 63 → zeros (recordsFrom s (n - p) p) ≡ tailRight s p
       unfolding tailRight
-      tail-is l = rw (le-leb 1 p a, le-leb p (recordCount s) b, lt-ltb (recordCount s - p) 63 l)
+      tail-is l = rw (le-leb 1 p a, ← c, le-leb p n b, lt-ltb (n - p) 63 l)
 
 -- Places
 

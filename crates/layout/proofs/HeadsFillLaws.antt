@@ -1,20 +1,23 @@
 -- Going over a row of things and putting their heads into a table.
-use Prim.Native.Nat.{ℕ, zero, suc, _+_, _-_, _/_, _<_, _≤_}
+use Prim.Native.Nat.{ℕ, zero, suc, _+_, _-_, _<_, _≤_}
 use mathlib.Core.Path.{_≡_, refl, sym, _∙_, ap, subst}
 use mathlib.Core.List.{List, [], _∷_, _++_}
+use mathlib.Core.Option.{none}
 use native.Mathlib.Omega.{arith}
 use native.Mathlib.Numerals.{add-one}
 use native.Mathlib.Nat.{sub-zero}
-use borrow.Author.Tests.{eq-eqb, ne-eqb}
 use lib.ListN.{length, take, drop, set, length-set}
 use lib.Seq.{take-suc-set, drop-set-lt, drop-drop}
-use Rattle.rules.specs.Records.{kindOf, fieldC, fieldD, units, heads, after}
+use Rattle.rules.specs.Blocks.{streamLength}
+use Rattle.rules.specs.Records.{kindOf, fieldC, fieldD, heads, after}
 use Rattle.rules.specs.Grammar.{elementSize, productionSize}
 use Rattle.stream.specs.Record.{Fetched}
 use Rattle.stream.specs.declared.record.Record.{Record}
 use Rattle.theorems.specs.LaidOut.{InRow, no-thing, one-thing}
 use Rattle.theorems.specs.Heads.{Spans, row-grows}
-use Rattle.layout.specs.Heads.{withRecords, Ahead, Passed}
+use Rattle.laws.specs.Rows.{one-less}
+use Rattle.layout.specs.Common.{mostRecords}
+use Rattle.layout.specs.Heads.{withRecords, RowAhead, RowFilled}
 
 module _ {s : List ℕ} {size : ℕ → ℕ} {kind : ℕ} where
   -- a row is one thing longer by the thing after it
@@ -31,53 +34,53 @@ module _ {s : List ℕ} {size : ℕ → ℕ} {kind : ℕ} where
 pub record Next (s : List ℕ) (size : ℕ → ℕ) (kind p room : ℕ) : Type 0 where
   pub here : Spans s size kind p (p + size p)
   pub left : 0 < room
-  pub ahead : Ahead s size kind (p + size p) (room - 1)
-  pub inside : p + size p ≤ 8064
+  pub ahead : RowAhead s size kind (p + size p) (room - 1)
+  pub inside : p + size p ≤ mostRecords
 
 module _ {s : List ℕ} {size : ℕ → ℕ} {kind : ℕ} where
-  next-of : {p room n q : ℕ} → kindOf s p ≡ kind → InRow (Spans s size kind) n p q → (kindOf s q ≡ kind → ⊥) → n ≤ room → q ≤ 8064 → Next s size kind p room
-  next-of e (no-thing p) st l i = absurd (st e)
-  next-of {room = room} e (one-thing n p q r x xs) st l i =
+  next-of : {p room n q : ℕ} → streamLength s ≡ none → kindOf s p ≡ kind → InRow (Spans s size kind) n p q → (kindOf s q ≡ kind → ⊥) → n ≤ room → q ≤ mostRecords → Next s size kind p room
+  next-of w e (no-thing p) st l i = absurd (st e)
+  next-of {room = room} w e (one-thing n p q r x xs) st l i =
       let y : Spans s size kind p (p + size p) = subst (λ z. Spans s size kind p z) (x .end) x in
       let ys : InRow (Spans s size kind) n (p + size p) r = subst (λ z. InRow (Spans s size kind) n z r) (x .end) xs in
       record {
         here = y;
         left = omega arith;
-        ahead = record { count = n; end = r; row = record { things = ys; stops = st }; fits = omega arith; inside = i };
+        ahead = record { sized = w; count = n; end = r; row = record { things = ys; stops = st }; fits = omega arith; inside = i };
         inside = let z = row-grows (λ p q h. h .grows) ys in omega arith;
       }
 
-  pub next : {p room : ℕ} → kindOf s p ≡ kind → Ahead s size kind p room → Next s size kind p room
-  next e a = next-of e (a .row .things) (a .row .stops) (a .fits) (a .inside)
+  pub next : {p room : ℕ} → kindOf s p ≡ kind → RowAhead s size kind p room → Next s size kind p room
+  next e a = next-of (a .sized) e (a .row .things) (a .row .stops) (a .fits) (a .inside)
 
 -- n heads of the row are in the table, and the next thing begins at p
-pub record Filling (s : List ℕ) (size : ℕ → ℕ) (kind start : ℕ) (before table : List ℕ) (n p : ℕ) : Type 0 where
+pub record FillingRow (s : List ℕ) (size : ℕ → ℕ) (kind start : ℕ) (before table : List ℕ) (n p : ℕ) : Type 0 where
   pub done : InRow (Spans s size kind) n start p
   pub begins : take n table ≡ heads size n start
   pub rest : drop n table ≡ drop n before
   pub same : length table ≡ length before
-  pub ahead : Ahead s size kind p (length before - n)
+  pub ahead : RowAhead s size kind p (length before - n)
 
 module _ {s : List ℕ} {size : ℕ → ℕ} {kind start : ℕ} {before : List ℕ} where
-  pub fill-start : Ahead s size kind start (length before) → Filling s size kind start before before 0 start
+  pub fill-start : RowAhead s size kind start (length before) → FillingRow s size kind start before before 0 start
   unfolding heads
   fill-start a = record { done = no-thing start; begins = refl; rest = refl; same = refl; ahead = rw sub-zero a }
 
-  pub fill-room : {table : List ℕ} {n p : ℕ} → kindOf s p ≡ kind → Filling s size kind start before table n p → n < length table
+  pub fill-room : {table : List ℕ} {n p : ℕ} → kindOf s p ≡ kind → FillingRow s size kind start before table n p → n < length table
   fill-room {table} e f = let h = next e (f .ahead) .left in let z = f .same in omega arith
 
-  pub fill-near : {table : List ℕ} {n p : ℕ} → kindOf s p ≡ kind → Filling s size kind start before table n p → (p < 8064) × (p + size p ≤ 8064)
+  pub fill-near : {table : List ℕ} {n p : ℕ} → kindOf s p ≡ kind → FillingRow s size kind start before table n p → (p < mostRecords) × (p + size p ≤ mostRecords)
   fill-near e f = let h = next e (f .ahead) in let a = h .inside in let b = h .here .grows in (omega arith, a)
 
   -- a turn
-  module _ {table : List ℕ} {n p q : ℕ} (e : kindOf s p ≡ kind) (z : q ≡ p + size p) (f : Filling s size kind start before table n p) where
+  module _ {table : List ℕ} {n p q : ℕ} (e : kindOf s p ≡ kind) (z : q ≡ p + size p) (f : FillingRow s size kind start before table n p) where
     fill-begins : take (n + 1) (set table n p) ≡ heads size (n + 1) start
     fill-begins = let l = fill-room e f in rw (add-one n, take-suc-set table n p l, f .begins) (sym (more-heads (f .done)))
 
     fill-rest : drop (n + 1) (set table n p) ≡ drop (n + 1) before
     fill-rest = drop-set-lt (n + 1) table n p (omega arith) ∙ sym (drop-drop 1 n table) ∙ ap (λ xs. drop 1 xs) (f .rest) ∙ drop-drop 1 n before
 
-    pub fill-go : Filling s size kind start before (set table n p) (n + 1) q
+    pub fill-go : FillingRow s size kind start before (set table n p) (n + 1) q
     fill-go =
         let h = next e (f .ahead) in
         let l : length before - n - 1 ≡ length before - (n + 1) = omega arith in
@@ -86,12 +89,12 @@ module _ {s : List ℕ} {size : ℕ → ℕ} {kind start : ℕ} {before : List �
           begins = fill-begins;
           rest = fill-rest;
           same = length-set table n p ∙ f .same;
-          ahead = rw z (subst (λ r. Ahead s size kind (p + size p) r) l (h .ahead));
+          ahead = rw z (subst (λ r. RowAhead s size kind (p + size p) r) l (h .ahead));
         }
 
   -- the end of the row
-  pub fill-stop : {table : List ℕ} {n p : ℕ} → (kindOf s p ≡ kind → ⊥) → Filling s size kind start before table n p
-      → Passed s size kind start before table (record { count = n; next = p })
+  pub fill-stop : {table : List ℕ} {n p : ℕ} → (kindOf s p ≡ kind → ⊥) → FillingRow s size kind start before table n p
+      → RowFilled s size kind start before table (record { count = n; next = p })
   fill-stop l f = record { row = record { things = f .done; stops = l }; begins = f .begins; rest = f .rest }
 
 -- What the records of a head say
@@ -104,14 +107,6 @@ module _ {s : List ℕ} {p : ℕ} {r : Record} (f : Fetched s p r) where
   pub size-next : p + r .c ≡ p + fieldC s p
   size-next = rw (f .c)
 
-  pub element-name : (r .a ≡ 0 → ⊥) → 1 ≡ elementSize s p
-  unfolding elementSize
-  element-name l = sym (rw (ne-eqb _ _ (λ e. l (f .a ∙ e))))
-
-  pub element-text : r .a ≡ 0 → 1 + (r .b + 7) / 8 ≡ elementSize s p
-  unfolding elementSize units
-  element-text e = sym (rw (eq-eqb _ _ (sym (f .a) ∙ e), f .b))
-
 -- the place after n things, of which k are passed
 pub after-grows : (size : ℕ → ℕ) (n p : ℕ) → p ≤ after size n p
 unfolding after
@@ -120,7 +115,7 @@ after-grows size (suc n) p = let h = after-grows size n (p + size p) in omega ar
 
 pub after-go : (size : ℕ → ℕ) (n k q : ℕ) → k < n → after size (n - k) q ≡ after size (n - (k + 1)) (q + size q)
 unfolding after
-after-go size n k q l = let z : n - k ≡ suc (n - (k + 1)) = omega arith in rw (z, after)
+after-go size n k q l = rw (one-less n k l, after)
 
 pub after-done : (size : ℕ → ℕ) (n k q : ℕ) → n ≤ k → after size (n - k) q ≡ q
 unfolding after

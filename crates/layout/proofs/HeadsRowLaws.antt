@@ -1,22 +1,25 @@
 -- The rows of a stream that is laid out are its lists of heads, and what a table of them says of a number.
-use Prim.Native.Nat.{ℕ, zero, suc, _+_, _<_, _≤_}
+use Prim.Native.Nat.{ℕ, suc, _+_, _-_, _<_, _≤_}
 use mathlib.Core.Path.{_≡_, refl, sym, _∙_, ap, subst}
-use mathlib.Core.List.{List, [], _∷_}
-use mathlib.Core.Option.{none, some}
+use mathlib.Core.List.{List, _∷_, append-nil}
+use mathlib.Core.Option.{none}
 use native.Mathlib.Omega.{arith}
 use borrow.Author.Tests.{eq-eqb, ne-eqb}
-use lib.ListN.{length, getD}
-use lib.Seq.{getD-take}
-use Rattle.rules.specs.Records.{base, byteOf, kindOf, fieldA, fieldC, heads, nth}
+use lib.ListN.{length, getD, take, drop, length-drop, drop-of-length-le}
+use lib.Seq.{take-all, drop-at, drop-drop, length-take-le}
+use borrow.Rule.Slice.PartMut.{putMid, same-len-mid, take-put}
+use Rattle.rules.specs.Blocks.{streamLength}
+use Rattle.rules.specs.Records.{base, byteOf, kindOf, fieldA, recordCount, fieldC, heads}
 use Rattle.rules.specs.Grammar.{productionSize, grammarSize, classes, productions}
 use Rattle.rules.specs.Templates.{templatesSize, types, templates}
-use Rattle.theorems.specs.Streams.{WellSized, length-exactly}
+use Rattle.theorems.specs.Streams.{length-exactly}
 use Rattle.theorems.specs.LaidOut.{InRow, no-thing, one-thing, Numbered, no-more, one-more, Tail}
 use Rattle.theorems.specs.Heads.{Spans, each-in-row, each-numbered, row-grows, kind-after, class-spans, production-spans, type-spans, template-spans, classes-are, productions-are, types-are, templates-are}
 use Rattle.theorems.specs.LayoutExactly.{grammar-laid-exactly, templates-laid-exactly}
-use Rattle.layout.specs.Heads.{LaidGrammar, LaidTemplates, Listed, withRecords, Row, Ahead, Passed}
-use Rattle.layout.specs.declared.heads.Run.{Run}
-use Rattle.layout.proofs.GrammarLaws.{few-records}
+use Rattle.layout.specs.Common.{mostRecords}
+use Rattle.layout.specs.Heads.{LaidGrammar, LaidTemplates, mostClasses, mostProductions, part, Tables, withRecords, KindRow, RowAhead, RowFilled}
+use Rattle.layout.specs.declared.heads.RowEnd.{RowEnd}
+use Rattle.laws.specs.Reads.{few-records}
 
 module _ {s : List ℕ} {size : ℕ → ℕ} {kind : ℕ} where
   -- there is only one row from a place on
@@ -28,7 +31,7 @@ module _ {s : List ℕ} {size : ℕ → ℕ} {kind : ℕ} where
   same-things (one-thing n p q r x xs) a (one-thing m _ q' r' y ys) b =
       let z = same-things xs a (subst (λ z. InRow (Spans s size kind) m z r') (y .end ∙ sym (x .end)) ys) b in (ap suc (z .0), z .1)
 
-  same-row : {p n q m r : ℕ} → Row s size kind p n q → Row s size kind p m r → (n ≡ m) × (q ≡ r)
+  same-row : {p n q m r : ℕ} → KindRow s size kind p n q → KindRow s size kind p m r → (n ≡ m) × (q ≡ r)
   same-row a b = same-things (a .things) (a .stops) (b .things) (b .stops)
 
   -- two sizes that agree on the kind have the same rows and the same heads
@@ -42,59 +45,101 @@ module _ {s : List ℕ} {size : ℕ → ℕ} {kind : ℕ} where
     resized-heads (one-thing n p q r x xs) =
         rw (← f p (x .kind-is), ← x .end) (ap (λ ys. p ∷ ys) (resized-heads xs))
 
-length-heads : (size : ℕ → ℕ) (n p : ℕ) → length (heads size n p) ≡ n
-unfolding heads
-length-heads size zero p = refl
-length-heads size (suc n) p = ap suc (length-heads size n (p + size p))
-
--- a table that a row was put into, where the row is known
-listed : {s : List ℕ} {size : ℕ → ℕ} {kind p n q most : ℕ} {hs before table : List ℕ} {r : Run} → Row s size kind p n q → n ≤ most → hs ≡ heads size n p
-    → Passed s size kind p before table r → Listed hs most before table (r .count)
-listed {size = size} {p = p} {n = n} h few are a =
-    let z = same-row (a .row) h .0 in
-    record {
-      count = z ∙ sym (length-heads size n p) ∙ ap length (sym are);
-      few = omega arith;
-      begins = a .begins ∙ ap (λ m. heads size m p) z ∙ sym are;
-      rest = a .rest;
-    }
-
--- a row of kind 1, whose heads are `first`, and then one of kind 3, whose heads are `second`
-pub record TwoRows (s : List ℕ) (size other : ℕ → ℕ) (most : ℕ) (first second : List ℕ) : Type 0 where
+-- a row of kind 1, whose heads are `first`, and then one of kind 3, whose heads are `second`; of each there are at most so many, and there is room for both
+pub record TwoRows (s : List ℕ) (size other : ℕ → ℕ) (most most' room : ℕ) (first second : List ℕ) : Type 0 where
+  pub sized : streamLength s ≡ none
   pub count : ℕ
   pub middle : ℕ
   pub count' : ℕ
   pub end : ℕ
-  pub row : Row s size 1 0 count middle
-  pub row' : Row s other 3 middle count' end
+  pub row : KindRow s size 1 0 count middle
+  pub row' : KindRow s other 3 middle count' end
   pub first-are : first ≡ heads size count 0
   pub second-are : second ≡ heads other count' middle
   pub few : count ≤ most
-  pub few' : count' ≤ most
-  pub inside : end ≤ 8064
+  pub few' : count' ≤ most'
+  pub fit : count + count' ≤ room
+  pub inside : end ≤ mostRecords
 
-module _ {s : List ℕ} {size other : ℕ → ℕ} {most : ℕ} {first second : List ℕ} (h : TwoRows s size other most first second) where
-  pub first-ahead : {room : ℕ} → most ≤ room → Ahead s size 1 0 room
+-- what a table is whose part from a on was lent: the part as it came back, with nothing behind it
+module _ (a : ℕ) (xs : List ℕ) (l : a ≤ length xs) where
+  lent-from : take (length xs - a) (drop a xs) ≡ drop a xs
+  lent-from = take-all (length xs - a) (drop a xs) (simp length-drop (omega arith))
+
+  back-from : (ys : List ℕ) → drop a (putMid a (length xs - a) xs ys) ≡ ys
+  back-from ys =
+      drop-at (take a xs) _ a (length-take-le a xs l)
+      ∙ rw (drop-of-length-le (drop a xs) {i = length xs - a} (simp length-drop (omega arith)), append-nil)
+
+module _ {s : List ℕ} {size other : ℕ → ℕ} {most most' room : ℕ} {first second : List ℕ} (h : TwoRows s size other most most' room first second) where
+  pub first-ahead : {n : ℕ} → room ≤ n → RowAhead s size 1 0 n
   first-ahead l =
-      let z = row-grows (λ p q x. x .grows) (h .row' .things) in let y = h .inside in let x = h .few in
-      record { count = h .count; end = h .middle; row = h .row; fits = omega arith; inside = omega arith }
+      let z = row-grows (λ p q x. x .grows) (h .row' .things) in let y = h .inside in let x = h .fit in
+      record { sized = h .sized; count = h .count; end = h .middle; row = h .row; fits = omega arith; inside = omega arith }
 
-  module _ {before table : List ℕ} {r : Run} (a : Passed s size 1 0 before table r) where
-    after-first : r .next ≡ h .middle
+  -- the first row is in the table, which has room for the second behind it
+  module _ {before xs : List ℕ} {one : RowEnd} (a : RowFilled s size 1 0 before xs one) (same : length xs ≡ length before) (l : room ≤ length before) where
+    counted : one .count ≡ h .count
+    counted = same-row (a .row) (h .row) .0
+
+    after-first : one .next ≡ h .middle
     after-first = same-row (a .row) (h .row) .1
 
-    pub first-listed : Listed first most before table (r .count)
-    first-listed = listed (h .row) (h .few) (h .first-are) a
+    pub in-table : one .count ≤ length xs
+    in-table = let x = h .fit in let y = counted in omega arith
 
-    pub second-ahead : {room : ℕ} → most ≤ room → Ahead s other 3 (r .next) room
-    second-ahead {room} l =
-        let x = h .few' in
-        subst (λ p. Ahead s other 3 p room) (sym after-first)
-        (record { count = h .count'; end = h .end; row = h .row'; fits = omega arith; inside = h .inside })
+    pub second-ahead : RowAhead s other 3 (one .next) (length (take (length xs - one .count) (drop (one .count) xs)))
+    second-ahead =
+        let x = h .fit in
+        let y = counted in
+        rw (lent-from (one .count) xs in-table, length-drop, after-first)
+        (record { sized = h .sized; count = h .count'; end = h .end; row = h .row'; fits = omega arith; inside = h .inside })
 
-    pub second-listed : {before' table' : List ℕ} {r' : Run} → Passed s other 3 (r .next) before' table' r' → Listed second most before' table' (r' .count)
-    second-listed {before'} {table'} {r'} b =
-        listed (h .row') (h .few') (h .second-are) (subst (λ p. Passed s other 3 p before' table' r') after-first b)
+    -- and so is the second
+    module _ {ys : List ℕ} {two : RowEnd} (b : RowFilled s other 3 (one .next) (take (length xs - one .count) (drop (one .count) xs)) ys two)
+        (same' : length ys ≡ length (take (length xs - one .count) (drop (one .count) xs))) where
+      counted' : two .count ≡ h .count'
+      counted' = same-row (subst (λ p. KindRow s other 3 p (two .count) (two .next)) after-first (b .row)) (h .row') .0
+
+      table : List ℕ
+      table = putMid (one .count) (length xs - one .count) xs ys
+
+      first-part : part 0 (one .count) table ≡ first
+      unfolding table
+      first-part =
+          let z : one .count - 0 ≡ one .count = omega arith in
+          rw z (take-put (one .count) (length xs - one .count) xs ys in-table ∙ a .begins ∙ ap (λ n. heads size n 0) counted ∙ sym (h .first-are))
+
+      second-part : part (one .count) (one .count + two .count) table ≡ second
+      unfolding table
+      second-part =
+          let z : one .count + two .count - one .count ≡ two .count = omega arith in
+          rw (z, back-from (one .count) xs in-table ys)
+          (b .begins ∙ rw (counted', after-first) (sym (h .second-are)))
+
+      rest-part : drop (one .count + two .count) table ≡ drop (one .count + two .count) before
+      unfolding table
+      rest-part =
+          sym (drop-drop (two .count) (one .count) table)
+          ∙ ap (drop (two .count)) (back-from (one .count) xs in-table ys)
+          ∙ b .rest
+          ∙ ap (drop (two .count)) (lent-from (one .count) xs in-table ∙ a .rest)
+          ∙ drop-drop (two .count) (one .count) before
+
+      long : length table ≡ length xs
+      unfolding table
+      long = same-len-mid (one .count) (length xs - one .count) xs ys same'
+
+      pub tables : Tables most most' first second before (putMid (one .count) (length xs - one .count) xs ys) (record { first = one .count; second = two .count })
+      unfolding table
+      tables =
+          let x = counted in
+          let y = counted' in
+          let i = h .few in
+          let j = h .few' in
+          let k = h .fit in
+          let m = long in
+          record { few = omega arith; few' = omega arith; fit = omega arith; first-are = first-part; second-are = second-part; rest = rest-part }
 
 -- after the first row comes a thing of kind 3 or a zero record
 no-first : {s : List ℕ} {size : ℕ → ℕ} {n p q : ℕ} → InRow (Spans s size 3) n p q → kindOf s q ≡ 0 → kindOf s p ≡ 1 → ⊥
@@ -128,13 +173,14 @@ unfolding templatesSize
 template-size t p e = rw (ne-eqb (kindOf t p) 1 (λ z. omega arith))
 
 -- a row of kind 1 and a row of kind 3 fill a stream; `whole` is the size of both
-module _ {s : List ℕ} {whole : ℕ → ℕ} {m n q e : ℕ} (w : WellSized s) (t : Tail s e)
+module _ {s : List ℕ} {whole : ℕ → ℕ} {m n q e : ℕ} (w : streamLength s ≡ none) (t : Tail s e)
     (a : InRow (Spans s whole 1) m 0 q) (b : InRow (Spans s whole 3) n q e) (size other : ℕ → ℕ)
     (f : (p : ℕ) → kindOf s p ≡ 1 → whole p ≡ size p) (g : (p : ℕ) → kindOf s p ≡ 3 → whole p ≡ other p) where
-  two-rows : (most : ℕ) → m ≤ most → n ≤ most → TwoRows s size other most (heads whole m 0) (heads whole n q)
-  two-rows most i j =
-      let z = kind-after w t in
+  two-rows : (most most' room : ℕ) → m ≤ most → n ≤ most' → m + n ≤ room → TwoRows s size other most most' room (heads whole m 0) (heads whole n q)
+  two-rows most most' room i j k =
+      let z = kind-after (length-exactly s .0 w) t in
       record {
+        sized = w;
         count = m;
         middle = q;
         count' = n;
@@ -145,10 +191,11 @@ module _ {s : List ℕ} {whole : ℕ → ℕ} {m n q e : ℕ} (w : WellSized s) 
         second-are = resized-heads other g b;
         few = i;
         few' = j;
-        inside = let l = few-records w in let k = t .inside in omega arith;
+        fit = k;
+        inside = let l = few-records s w in let k = t .inside in omega arith;
       }
 
-pub grammar-rows : {g : List ℕ} → LaidGrammar g → ((i : ℕ) → getD g i 0 < 256) → TwoRows g (withRecords g) (productionSize g) 256 (classes g) (productions g)
+pub grammar-rows : {g : List ℕ} → LaidGrammar g → ((i : ℕ) → getD g i 0 < 256) → TwoRows g (withRecords g) (productionSize g) mostClasses mostProductions (mostClasses + mostProductions) (classes g) (productions g)
 grammar-rows {g} l small =
     let w = length-exactly g .0 (l .length-right) in
     let h = grammar-laid-exactly g w .0 (l .laid-out) in
@@ -157,40 +204,23 @@ grammar-rows {g} l small =
     let b : 0 + h .production-count ≤ 256 =
     few-numbered (λ n p q x. let z = x .number in let y = number-small g small p in omega arith) (h .productions) (omega arith) in
     rw (classes-are g w h, productions-are g w h)
-    (two-rows w (h .tail) (each-numbered (λ n p q. class-spans) (h .classes)) (each-numbered (λ n p q. production-spans) (h .productions))
-    (withRecords g) (productionSize g) (class-size g) (production-size g) 256 (omega arith) (omega arith))
+    (two-rows (l .length-right) (h .tail) (each-numbered (λ n p q. class-spans) (h .classes)) (each-numbered (λ n p q. production-spans) (h .productions))
+    (withRecords g) (productionSize g) (class-size g) (production-size g) mostClasses mostProductions (mostClasses + mostProductions) (omega arith) (omega arith) (omega arith))
 
-pub templates-rows : {t : List ℕ} → LaidTemplates t → TwoRows t (withRecords t) (fieldC t) 8064 (types t) (templates t)
+-- the things of a row are no more than its records
+few-things : {Thing : ℕ → ℕ → Type 0} {n p q : ℕ} → ((p q : ℕ) → Thing p q → p < q) → InRow Thing n p q → p + n ≤ q
+few-things f (no-thing p) = omega arith
+few-things f (one-thing n p q r x xs) = let a = f p q x in let b = few-things f xs in omega arith
+
+pub templates-rows : {t : List ℕ} → LaidTemplates t → TwoRows t (withRecords t) (fieldC t) (recordCount t) (recordCount t) (recordCount t) (types t) (templates t)
 templates-rows {t} l =
     let w = length-exactly t .0 (l .length-right) in
     let h = templates-laid-exactly t w .0 (l .laid-out) in
     let a = each-in-row (λ p q. type-spans) (h .types) in
     let b = each-in-row (λ p q. template-spans) (h .templates) in
-    let x = row-grows (λ p q y. y .grows) a in
-    let y = row-grows (λ p q y. y .grows) b in
+    let x = few-things (λ p q y. y .grows) a in
+    let y = few-things (λ p q y. y .grows) b in
     let z = h .tail .inside in
-    let r = few-records w in
     rw (types-are t w h, templates-are t w h)
-    (two-rows w (h .tail) a b (withRecords t) (fieldC t) (type-size t) (template-size t) 8064 (omega arith) (omega arith))
-
--- A table by number: the entry at i is head i, and there is none from n on
-nth-here : (xs : List ℕ) (i : ℕ) → i < length xs → nth xs i ≡ some (getD xs i 0)
-unfolding nth
-nth-here [] i l = absurd (omega arith)
-nth-here (x ∷ xs) zero l = refl
-nth-here (x ∷ xs) (suc i) l = nth-here xs i (omega arith)
-
-nth-past : (xs : List ℕ) (i : ℕ) → length xs ≤ i → nth xs i ≡ none
-unfolding nth
-nth-past [] i l = refl
-nth-past (x ∷ xs) zero l = absurd (omega arith)
-nth-past (x ∷ xs) (suc i) l = nth-past xs i (omega arith)
-
-module _ {hs : List ℕ} {most : ℕ} {before table : List ℕ} {n : ℕ} (h : Listed hs most before table n) (i : ℕ) where
-  pub entry : i < n → nth hs i ≡ some (getD table i 0)
-  entry l =
-      nth-here hs i (let z = h .count in omega arith)
-      ∙ ap (λ x. some x) (ap (λ xs. getD xs i 0) (sym (h .begins)) ∙ getD-take n table i 0 l)
-
-  pub no-entry : n ≤ i → nth hs i ≡ none
-  no-entry l = nth-past hs i (let z = h .count in omega arith)
+    (two-rows (l .length-right) (h .tail) a b (withRecords t) (fieldC t) (type-size t) (template-size t)
+    (recordCount t) (recordCount t) (recordCount t) (omega arith) (omega arith) (omega arith))

@@ -1,3 +1,5 @@
+pub mod ChildrenLaws
+pub mod ChildrenRows
 pub mod CommonLaws
 pub mod GrammarLaws
 pub mod HeadsFillLaws

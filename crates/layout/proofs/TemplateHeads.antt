@@ -11,22 +11,24 @@ use borrow.Author.Tests.{eqb-true, eq-eqb, ne-eqb}
 use lib.ListN.{drop}
 use lib.Dec.{eqb, leb}
 use Rattle.rules.specs.Faults.{onFound, onlyIf}
-use Rattle.rules.specs.Records.{byteOf, kindOf, fieldA, fieldB, fieldC, fieldD, recordsFrom, zeros}
-use Rattle.rules.specs.Templates.{formNumbered, formOf}
+use Rattle.rules.specs.Records.{byteOf, kindOf, fieldB, fieldC, fieldD, recordsFrom, zeros}
+use Rattle.rules.specs.Templates.{formNumbered}
 use Rattle.rules.specs.Layout.{thenRead, inRow, namingEnd, pathEnd, typeFormEnd, typeEnd}
 use Rattle.rules.specs.declared.Form.{Form}
-use Rattle.rules.specs.declared.Form.the-variants.{Unknown}
+use Rattle.rules.specs.declared.Form.the-variants.{Build, Literal, Place, Expand, If, For, Sequence, Unknown}
 use Rattle.stream.specs.declared.record.Record.{Record}
-use Rattle.stream.specs.declared.record.Place.{Place}
+use Rattle.stream.specs.declared.record.Place as place
 use Rattle.stream.specs.Record.{Fetched, placeOf}
 use Rattle.layout.specs.declared.tree.Head.{Head}
 use Rattle.layout.specs.declared.tree.Head.the-variants.{Right, Wrong}
-use Rattle.layout.specs.declared.tree.Thing.the-variants.{Node}
 use Rattle.layout.specs.Common.{bytesOf}
-use Rattle.layout.specs.Tree.{textHead, pathHead, formHead, formBelow, headEnd, below, Headed, Near, Room}
+use Rattle.layout.specs.Tree.{Node, textHead, pathHead, formHead, formBelow, headEnd, below, Headed, CountsOn, HeadIn}
 use Rattle.layout.specs.Template.{naming, pathRecord, recordEnd}
-use Rattle.layout.proofs.CommonLaws.{recordBytes, low-b, fetched-zeros}
-use Rattle.layout.proofs.GrammarLaws.{row-go, row-broken, row-all}
+use Rattle.layout.proofs.CommonLaws.{recordBytes, fetched-zeros}
+use Rattle.laws.specs.Reads.{in-row-go, in-row-broken}
+use Rattle.stream.proofs.RecordLaws.{eight-bytes}
+use Rattle.records.proofs.NodeLaws.{form-is}
+use Rattle.layout.proofs.GrammarLaws.{row-end}
 use Rattle.layout.proofs.TreeTurns.{wrong, right, as-head}
 
 -- One record of a kind
@@ -35,13 +37,13 @@ module _ (t : List ℕ) (p : ℕ) (r : Record) (f : Fetched t p r) where
   path-zeros : zeros (drop (3 + r .b % 256) (bytesOf r)) ≡ zeros (drop (3 + byteOf t p 2) (recordsFrom t 1 p))
   unfolding recordsFrom recordBytes
   path-zeros =
-      ap (λ (j : ℕ). zeros (drop (3 + j) (bytesOf r))) (low-b t p r f)
+      ap (λ (j : ℕ). zeros (drop (3 + j) (bytesOf r))) (sym (eight-bytes t p r f .byte2))
       ∙ fetched-zeros t p r f (3 + byteOf t p 2)
       ∙ ap (λ (xs : List ℕ). zeros (drop (3 + byteOf t p 2) xs)) (sym (append-nil (recordBytes t p)))
 
   path-is : pathRecord r ≡ eqb (kindOf t p) 6 && (leb (byteOf t p 2) 5 && zeros (drop (3 + byteOf t p 2) (recordsFrom t 1 p)))
   unfolding pathRecord
-  path-is = rw (path-zeros, f .kind, low-b t p r f)
+  path-is = rw (path-zeros, f .kind, sym (eight-bytes t p r f .byte2))
 
   pub a-path : (z : Bool) → z ≡ pathRecord r → onlyIf z (p + 1) ≡ pathEnd t p
   unfolding pathEnd
@@ -64,25 +66,25 @@ module _ (t : List ℕ) (p : ℕ) (r : Record) (f : Fetched t p r) where
 module _ (one : ℕ → Option ℕ) (n k p : ℕ) (l : k < n) (z : Bool) (e : onlyIf z (p + k + 1) ≡ one (p + k)) where
   pub record-wrong : z ≡ false → onlyIf false (p + n) ≡ inRow one (n - k) (p + k)
   unfolding onlyIf
-  record-wrong w = sym (row-broken one n k (p + k) l (sym e ∙ rw w))
+  record-wrong w = sym (in-row-broken one n k (p + k) l (sym e ∙ rw w))
 
   pub record-right : z ≡ true → inRow one (n - (k + 1)) (p + (k + 1)) ≡ inRow one (n - k) (p + k)
   unfolding onlyIf
-  record-right w = rw (← add-assoc p k 1) (sym (row-go one n k (p + k) (p + k + 1) l (sym e ∙ rw w)))
+  record-right w = rw (← add-assoc p k 1) (sym (in-row-go one n k (p + k) (p + k + 1) l (sym e ∙ rw w)))
 
 pub records-done : (one : ℕ → Option ℕ) (n k p : ℕ) → k ≤ n → n ≤ k → onlyIf true (p + n) ≡ inRow one (n - k) (p + k)
 unfolding onlyIf
-records-done one n k p l m = sym (row-all one n k p l m)
+records-done one n k p l m = sym (row-end one n k p l m)
 
-pub place-next : (at : Place) (p k : ℕ) → at ≡ placeOf (p + k + 1) → at ≡ placeOf (p + (k + 1))
+pub place-next : (at : place.Place) (p k : ℕ) → at ≡ placeOf (p + k + 1) → at ≡ placeOf (p + (k + 1))
 place-next at p k e = e ∙ ap placeOf (add-assoc p k 1)
 
 -- places that heads are read from
-pub near-next : {at next : Place} (a : Near at 65536) → next ≡ placeOf (a .index + 1) → (n : ℕ) → n < 65536 → Near next n
-near-next a e n l = record { index = a .index + 1; place-is = e; near = omega (arith, a .near) }
+pub near-next : {s : List ℕ} {at next : place.Place} (a : CountsOn s at 65536) → next ≡ placeOf (a .index + 1) → (n : ℕ) → n < 65536 → CountsOn s next n
+near-next a e n l = record { sized = a .sized; index = a .index + 1; place-is = e; near = omega (arith, a .near) }
 
-pub room-near : {s : List ℕ} {at : Place} {r : Record} {n : ℕ} → Room s at r n → Near at 65536
-room-near a = record { index = a .within .index; place-is = a .within .place-is; near = omega (arith, a .within .near) }
+pub room-near : {s : List ℕ} {at : place.Place} {r : Record} {n : ℕ} → HeadIn s at r n → CountsOn s at 65536
+room-near a = record { sized = a .sized; index = a .within .index; place-is = a .within .place-is; near = omega (arith, a .within .near) }
 
 -- Heads of nodes
 
@@ -126,74 +128,64 @@ module _ (t : List ℕ) (p d : ℕ) (e : d ≡ fieldD t p) (z : Bool) (h : onlyI
   unfolding onlyIf
   expand-wrong w = wrong p _ 0 (row-is ∙ rw w)
 
--- a node by its form
-no-form : (a : ℕ) → (a ≡ 0 → ⊥) → (a ≡ 1 → ⊥) → (a ≡ 2 → ⊥) → (a ≡ 3 → ⊥) → (a ≡ 4 → ⊥) → (a ≡ 5 → ⊥) → (a ≡ 6 → ⊥) → formNumbered a ≡ Unknown
-unfolding formNumbered
-no-form zero z o u t f v s = absurd (z refl)
-no-form (suc zero) z o u t f v s = absurd (o refl)
-no-form (suc (suc zero)) z o u t f v s = absurd (u refl)
-no-form (suc (suc (suc zero))) z o u t f v s = absurd (t refl)
-no-form (suc (suc (suc (suc zero)))) z o u t f v s = absurd (f refl)
-no-form (suc (suc (suc (suc (suc zero))))) z o u t f v s = absurd (v refl)
-no-form (suc (suc (suc (suc (suc (suc zero)))))) z o u t f v s = absurd (s refl)
-no-form (suc (suc (suc (suc (suc (suc (suc a))))))) z o u t f v s = refl
-
+-- a node by its form, as form_of answers it
 module _ (t : List ℕ) (p : ℕ) (r : Record) (f : Fetched t p r) where
   pub no-node : (r .kind ≡ 5 → ⊥) → Headed p Wrong (headEnd Node t p) (below Node t p)
   unfolding headEnd thenRead onFound onlyIf
   no-node k = wrong p _ _ (rw (ne-eqb (kindOf t p) 5 (λ e. k (f .kind ∙ e))))
 
-  module _ (k : r .kind ≡ 5) where
-    at-form : (form : Form) → formNumbered (r .a) ≡ form → (headEnd Node t p ≡ formHead t form p) × (below Node t p ≡ formBelow t form p)
-    unfolding headEnd below formOf thenRead onFound onlyIf
-    at-form form e =
-        let z : formNumbered (fieldA t p) ≡ form = rw (f .a) at e in
-        (rw (eq-eqb (kindOf t p) 5 (sym (f .kind) ∙ k), z), rw z)
+  module _ (k : r .kind ≡ 5) {form : Form} (is-form : form ≡ formNumbered (r .a)) where
+    end-at : headEnd Node t p ≡ formHead t form p
+    unfolding headEnd thenRead onFound onlyIf
+    end-at = rw (eq-eqb (kindOf t p) 5 (sym (f .kind) ∙ k), ← form-is t p r f form is-form)
 
-    numbered : (a : ℕ) → r .a ≡ a → (headEnd Node t p ≡ formHead t (formNumbered a) p) × (below Node t p ≡ formBelow t (formNumbered a) p)
-    numbered a e = at-form (formNumbered a) (ap formNumbered e)
+    below-at : below Node t p ≡ formBelow t form p
+    unfolding below
+    below-at = rw (← form-is t p r f form is-form)
 
-    pub a-build : r .a ≡ 0 → Headed p (Right 1 (r .d)) (headEnd Node t p) (below Node t p)
-    unfolding formNumbered formHead formBelow
-    a-build a = right p _ 1 (r .d) _ (numbered 0 a .0) (f .d ∙ sym (numbered 0 a .1))
+    -- the head as its form has it
+    as-form : (other : Form) → form ≡ other → {h : Head} → Headed p h (formHead t other p) (formBelow t other p) → Headed p h (headEnd Node t p) (below Node t p)
+    as-form other e is = as-head (end-at ∙ ap (λ (x : Form). formHead t x p) e) (below-at ∙ ap (λ (x : Form). formBelow t x p) e) is
 
-    pub a-literal : r .a ≡ 1 → r .d ≡ 0 → (h : Head) → Headed p h (textHead t p) 0 → Headed p h (headEnd Node t p) (below Node t p)
-    unfolding formNumbered formHead formBelow thenRead onFound onlyIf
-    a-literal a d h is = as-head (numbered 1 a .0 ∙ rw (eq-eqb (fieldD t p) 0 (sym (f .d) ∙ d))) (numbered 1 a .1) is
+    pub a-build : form ≡ Build → Headed p (Right 1 (r .d)) (headEnd Node t p) (below Node t p)
+    unfolding formHead formBelow
+    a-build e = as-form Build e (right p _ 1 (r .d) _ refl (f .d))
 
-    pub not-literal : r .a ≡ 1 → (r .d ≡ 0 → ⊥) → Headed p Wrong (headEnd Node t p) (below Node t p)
-    unfolding formNumbered formHead thenRead onFound onlyIf
-    not-literal a d = wrong p _ _ (numbered 1 a .0 ∙ rw (ne-eqb (fieldD t p) 0 (λ e. d (f .d ∙ e))))
+    pub a-literal : form ≡ Literal → r .d ≡ 0 → (h : Head) → Headed p h (textHead t p) 0 → Headed p h (headEnd Node t p) (below Node t p)
+    unfolding formHead formBelow thenRead onFound onlyIf
+    a-literal e d h is = as-form Literal e (as-head (rw (eq-eqb (fieldD t p) 0 (sym (f .d) ∙ d))) refl is)
 
-    pub a-place : r .a ≡ 2 → (h : Head) → Headed p h (pathHead t p) 0 → Headed p h (headEnd Node t p) (below Node t p)
-    unfolding formNumbered formHead formBelow
-    a-place a h is = as-head (numbered 2 a .0) (numbered 2 a .1) is
+    pub not-literal : form ≡ Literal → (r .d ≡ 0 → ⊥) → Headed p Wrong (headEnd Node t p) (below Node t p)
+    unfolding formHead thenRead onFound onlyIf
+    not-literal e d = as-form Literal e (wrong p _ _ (rw (ne-eqb (fieldD t p) 0 (λ e. d (f .d ∙ e)))))
 
-    pub an-expand : r .a ≡ 3 → (h : Head) → Headed p h (inRow (pathEnd t) (fieldD t p) (p + 1)) 0 → Headed p h (headEnd Node t p) (below Node t p)
-    unfolding formNumbered formHead formBelow
-    an-expand a h is = as-head (numbered 3 a .0) (numbered 3 a .1) is
+    pub a-place : form ≡ Place → (h : Head) → Headed p h (pathHead t p) 0 → Headed p h (headEnd Node t p) (below Node t p)
+    unfolding formHead formBelow
+    a-place e h is = as-form Place e is
 
-    pub an-if : r .a ≡ 4 → (h : Head) → Headed p h (pathHead t p) 2 → Headed p h (headEnd Node t p) (below Node t p)
-    unfolding formNumbered formHead formBelow
-    an-if a h is = as-head (numbered 4 a .0) (numbered 4 a .1) is
+    pub an-expand : form ≡ Expand → (h : Head) → Headed p h (inRow (pathEnd t) (fieldD t p) (p + 1)) 0 → Headed p h (headEnd Node t p) (below Node t p)
+    unfolding formHead formBelow
+    an-expand e h is = as-form Expand e is
 
-    pub a-for : r .a ≡ 5 → (h : Head) → Headed p h (pathHead t p) 1 → Headed p h (headEnd Node t p) (below Node t p)
-    unfolding formNumbered formHead formBelow
-    a-for a h is = as-head (numbered 5 a .0) (numbered 5 a .1) is
+    pub an-if : form ≡ If → (h : Head) → Headed p h (pathHead t p) 2 → Headed p h (headEnd Node t p) (below Node t p)
+    unfolding formHead formBelow
+    an-if e h is = as-form If e is
 
-    pub a-sequence : r .a ≡ 6 → r .b ≡ 0 → Headed p (Right 1 (r .d)) (headEnd Node t p) (below Node t p)
-    unfolding formNumbered formHead formBelow onlyIf
-    a-sequence a b =
-        right p _ 1 (r .d) _ (numbered 6 a .0 ∙ rw (eq-eqb (fieldB t p) 0 (sym (f .b) ∙ b))) (f .d ∙ sym (numbered 6 a .1))
+    pub a-for : form ≡ For → (h : Head) → Headed p h (pathHead t p) 1 → Headed p h (headEnd Node t p) (below Node t p)
+    unfolding formHead formBelow
+    a-for e h is = as-form For e is
 
-    pub not-sequence : r .a ≡ 6 → (r .b ≡ 0 → ⊥) → Headed p Wrong (headEnd Node t p) (below Node t p)
-    unfolding formNumbered formHead onlyIf
-    not-sequence a b = wrong p _ _ (numbered 6 a .0 ∙ rw (ne-eqb (fieldB t p) 0 (λ e. b (f .b ∙ e))))
+    pub a-sequence : form ≡ Sequence → r .b ≡ 0 → Headed p (Right 1 (r .d)) (headEnd Node t p) (below Node t p)
+    unfolding formHead formBelow onlyIf
+    a-sequence e b = as-form Sequence e (right p _ 1 (r .d) _ (rw (eq-eqb (fieldB t p) 0 (sym (f .b) ∙ b))) (f .d))
 
-    pub unknown : (r .a ≡ 0 → ⊥) → (r .a ≡ 1 → ⊥) → (r .a ≡ 2 → ⊥) → (r .a ≡ 3 → ⊥) → (r .a ≡ 4 → ⊥) → (r .a ≡ 5 → ⊥) → (r .a ≡ 6 → ⊥)
-        → Headed p Wrong (headEnd Node t p) (below Node t p)
+    pub not-sequence : form ≡ Sequence → (r .b ≡ 0 → ⊥) → Headed p Wrong (headEnd Node t p) (below Node t p)
+    unfolding formHead onlyIf
+    not-sequence e b = as-form Sequence e (wrong p _ _ (rw (ne-eqb (fieldB t p) 0 (λ e. b (f .b ∙ e)))))
+
+    pub unknown : form ≡ Unknown → Headed p Wrong (headEnd Node t p) (below Node t p)
     unfolding formHead
-    unknown z o u w v x y = wrong p _ _ (at-form Unknown (no-form (r .a) z o u w v x y) .0)
+    unknown e = as-form Unknown e (wrong p _ _ refl)
 
 -- A type, by its form: it has one record, and one for each field
 

@@ -1,5 +1,5 @@
 -- Types and templates as long as their kind comes, and the layout of a whole template set.
-use Prim.Native.Nat.{ℕ, _+_, _-_, _≤_, _<_}
+use Prim.Native.Nat.{ℕ, _+_, _≤_, _<_}
 use mathlib.Core.Path.{_≡_, refl, ap, sym, _∙_}
 use mathlib.Core.List.{List}
 use mathlib.Core.Bool.{Bool, true, false}
@@ -8,17 +8,16 @@ use native.Mathlib.Omega.{arith}
 use borrow.Author.Tests.{eqb-true, eqb-false, eq-eqb, ne-eqb, le-leb, lt-leb, leb-false}
 use lib.Dec.{eqb, leb}
 use Rattle.rules.specs.Faults.{need, onFound, onlyIf}
+use Rattle.rules.specs.Blocks.{streamLength}
 use Rattle.rules.specs.Records.{recordCount, fieldA, fieldC, fieldD}
 use Rattle.rules.specs.Layout.{thenRead, inRow, whileKind, namingEnd, typeEnd, sized, nodeEnd, templateEnd, templatesEnd, tailRight, layoutFault, templatesLayout}
-use Rattle.theorems.specs.Streams.{WellSized}
 use Rattle.stream.specs.declared.record.Record.{Record}
 use Rattle.stream.specs.Record.{Fetched}
-use Rattle.layout.specs.declared.tree.Thing.the-variants.{Node}
-use Rattle.layout.specs.Tree.{thingEnd, fills}
+use Rattle.layout.specs.Tree.{Node, thingEnd, fills}
 use Rattle.layout.specs.Template.{typesEnd, restRight, within, recordEnd}
 use Rattle.layout.proofs.CommonLaws.{tail-past}
-use Rattle.layout.proofs.GrammarLaws.{inside, then-some, Left, left-start, left-stop, left-go, left-broken, kind-here, kind-other}
-use Rattle.layout.proofs.TreeLaws.{only-some}
+use Rattle.layout.proofs.GrammarLaws.{inside, ThingsLeft, left-start, left-stop, left-go, left-broken, kind-here, kind-other}
+use Rattle.laws.specs.Reads.{only-some, then-some}
 use Rattle.layout.proofs.TreeThings.{row-ends, thing-sized}
 
 naming-ends : (t : List ℕ) (kind p q : ℕ) → namingEnd t kind p ≡ some q → p + 1 ≡ q
@@ -28,13 +27,13 @@ naming-ends t kind p q e = only-some _ (p + 1) q e .1
 -- Types, from p on: what is left to read is the whole
 
 abbrev pub TypesLeft : List ℕ → ℕ → Type 0
-TypesLeft t p = (n : ℕ) × Left t 1 (λ n. typeEnd t) (typesEnd t) n p
+TypesLeft t p = (n : ℕ) × ThingsLeft t 1 (λ n. typeEnd t) (typesEnd t) n p
 
 pub types-start : (t : List ℕ) → TypesLeft t 0
 unfolding typesEnd
 types-start t = (0, left-start 0)
 
-module _ {t : List ℕ} (w : WellSized t) {p : ℕ} {r : Record} (f : Fetched t p r) (h : TypesLeft t p) where
+module _ {t : List ℕ} (w : streamLength t ≡ none) {p : ℕ} {r : Record} (f : Fetched t p r) (h : TypesLeft t p) where
   pub types-stop : (r .kind ≡ 1 → ⊥) → some p ≡ typesEnd t
   types-stop k = left-stop (kind-other f 1 k) (h .1)
 
@@ -113,7 +112,7 @@ module _ (t : List ℕ) (p : ℕ) (r : Record) (f : Fetched t p r) where
 -- Templates, from p on, and what comes after them: of what is left from q on
 
 abbrev pub TemplatesLeft : List ℕ → ℕ → ℕ → Type 0
-TemplatesLeft t p q = (n : ℕ) × Left t 3 (λ n. templateEnd t) (whileKind t 3 (λ n. templateEnd t) (recordCount t) 0 p) n q
+TemplatesLeft t p q = (n : ℕ) × ThingsLeft t 3 (λ n. templateEnd t) (whileKind t 3 (λ n. templateEnd t) (recordCount t) 0 p) n q
 
 pub templates-start : (t : List ℕ) (p : ℕ) → TemplatesLeft t p p
 templates-start t p = (0, left-start p)
@@ -122,7 +121,7 @@ ends-at : (t : List ℕ) (p e : ℕ) → some e ≡ whileKind t 3 (λ n. templat
 unfolding restRight onFound
 ends-at t p e h = rw (← h)
 
-module _ {t : List ℕ} (w : WellSized t) (p : ℕ) {q : ℕ} {r : Record} (f : Fetched t q r) (h : TemplatesLeft t p q) where
+module _ {t : List ℕ} (w : streamLength t ≡ none) (p : ℕ) {q : ℕ} {r : Record} (f : Fetched t q r) (h : TemplatesLeft t p q) where
   pub templates-stop : (r .kind ≡ 3 → ⊥) → tailRight t q ≡ restRight t p
   templates-stop k = ends-at t p q (left-stop (kind-other f 3 k) (h .1))
 
@@ -136,7 +135,7 @@ module _ {t : List ℕ} (w : WellSized t) (p : ℕ) {q : ℕ} {r : Record} (f : 
         go (some e) i =
             let m : recordCount t < e = leb-false e (recordCount t) (sym (rw i at z)) in
             let g = left-go w (kind-here f 3 k) (h .1) e i (template-parts t q e i .0) in
-            tail-past t e (omega arith) m ∙ ends-at t p e (left-stop (λ j. absurd (let n = inside w e 2 j in omega arith)) g)
+            tail-past t e (omega arith) (recordCount t) refl m ∙ ends-at t p e (left-stop (λ j. absurd (let n = inside t w e 2 j in omega arith)) g)
 
     pub templates-go : true ≡ within t (templateEnd t q) → (q < q + r .c) × TemplatesLeft t p (q + r .c)
     unfolding within onFound

@@ -1,46 +1,23 @@
 -- One thing by recursion is one thing by its size and a scan of the heads, for any heads that go forward.
 use Prim.Native.Nat.{ℕ, zero, suc, _+_, _-_, _≤_, _<_}
 use mathlib.Core.Path.{_≡_, refl, ap, sym, _∙_, subst}
-use mathlib.Core.Bool.{Bool, true, false, _&&_}
-use mathlib.Core.Option.{Option, none, some}
+use mathlib.Core.Bool.{Bool, true, false, _&&_, false≢true}
+use mathlib.Core.Option.{Option, none, some, Option·none-ne-some}
 use native.Mathlib.Omega.{arith}
 use borrow.Author.Tests.{ltb-true, leb-true, eqb-true, eq-eqb, lt-ltb, le-ltb, le-leb, lt-leb}
 use lib.Dec.{eqb, leb, ltb}
 use Rattle.rules.specs.Faults.{onFound, onlyIf}
+use Rattle.rules.specs.Records.{after}
 use Rattle.rules.specs.Layout.{thenRead, inRow}
 use Rattle.layout.specs.Tree.{chain, scan}
-use Rattle.layout.proofs.GrammarLaws.{then-some}
-
-pub and-left : (a b : Bool) → a && b ≡ true → a ≡ true
-and-left true b e = refl
-and-left false b e = e
-
-pub and-right : (a b : Bool) → a && b ≡ true → b ≡ true
-and-right true b e = e
-and-right false b e = cc
-
-never : false ≡ true → ⊥
-never h = let z : _≡_ {A = ℕ} 0 1 = cc in omega arith
-
-pub never-found : (e : ℕ) → none ≡ some e → ⊥
-never-found e h = let z : _≡_ {A = ℕ} 0 1 = cc in omega arith
+use Rattle.laws.specs.Faults.{and-true}
+use Rattle.laws.specs.Rows.{one-less}
+use Rattle.laws.specs.Reads.{only-some, then-some}
 
 pub same-bool : (a b : Bool) → (a ≡ true → b ≡ true) → (b ≡ true → a ≡ true) → a ≡ b
 same-bool true b f g = sym (f refl)
 same-bool false true f g = g refl
 same-bool false false f g = refl
-
-pub only-some : (b : Bool) (z e : ℕ) → onlyIf b z ≡ some e → (b ≡ true) × (z ≡ e)
-unfolding onlyIf
-only-some true z e h = (refl, cc)
-only-some false z e h = absurd (never-found e h)
-
-pub some-then : (o : Option ℕ) (next : ℕ → Option ℕ) (q : ℕ) → o ≡ some q → thenRead o next ≡ next q
-unfolding thenRead onFound
-some-then o next q h = rw h
-
-pub one-less : (k n : ℕ) → n < k → k - n ≡ suc (k - (n + 1))
-one-less k n l = omega arith
 
 module _ (headEnd : ℕ → Option ℕ) (size below : ℕ → ℕ) where
   -- the layout by recursion: the place after the thing at p, if one is laid out there at most k deep
@@ -57,7 +34,7 @@ module _ (headEnd : ℕ → Option ℕ) (size below : ℕ → ℕ) where
       end : {p e : ℕ} → p ≡ e → Trees zero p e
       more : {n p q e : ℕ} → Tree p q → Trees n q e → Trees (suc n) p e
 
-  data Chain : ℕ → ℕ → ℕ → Type 0 where
+  pub data Chain : ℕ → ℕ → ℕ → Type 0 where
     last : {p e : ℕ} → p ≡ e → Chain zero p e
     link : {n p e : ℕ} → p < e → 0 < size p → Chain n (p + size p) e → Chain (suc n) p e
 
@@ -68,6 +45,22 @@ module _ (headEnd : ℕ → Option ℕ) (size below : ℕ → ℕ) where
   chain-le : {n p e : ℕ} → Chain n p e → p ≤ e
   chain-le (last r) = omega arith
   chain-le (link l g c) = omega arith
+
+  -- a thing of a chain has a record at least; the place after all its things; one chain after another
+  pub chain-few : {n p e : ℕ} → Chain n p e → p + n ≤ e
+  chain-few (last r) = omega arith
+  chain-few (link l g c) = omega (arith, chain-few c)
+
+  pub chain-after : {n p e : ℕ} → Chain n p e → after size n p ≡ e
+  unfolding after
+  chain-after (last r) = r
+  chain-after (link l g c) = chain-after c
+
+  pub chain-then : {n m p q e : ℕ} → Chain n p q → Chain m q e → Chain (n + m) p e
+  chain-then {m = m} {e = e} (last r) d = let z : 0 + m ≡ m = omega arith in rw z (subst (λ (x : ℕ). Chain m x e) (sym r) d)
+  chain-then {m = m} {e = e} (link {n} {p} l g c) d =
+      let z : suc n + m ≡ suc (n + m) = omega arith in
+      rw z (link {p = p} {e = e} (omega (arith, chain-few d)) g (chain-then c d))
 
   module _ (forward : (p q : ℕ) → headEnd p ≡ some q → p < q) where
     -- from the scan to the layout: n things by their sizes are n things laid out, and the scan goes on after them
@@ -110,14 +103,14 @@ module _ (headEnd : ℕ → Option ℕ) (size below : ℕ → ℕ) where
       scanned-all (more m ns) s = scanned m (scanned-all ns s)
 
     -- the tests and the relations
-    chain-sound : (n p e : ℕ) → chain size n p e ≡ true → Chain n p e
+    pub chain-sound : (n p e : ℕ) → chain size n p e ≡ true → Chain n p e
     unfolding chain
     chain-sound zero p e t = last (eqb-true p e t)
     chain-sound (suc n) p e t =
         let r : Bool = chain size n (p + size p) e in
-        let u = and-right (ltb p e) (ltb 0 (size p) && r) t in
-        link (ltb-true p e (and-left (ltb p e) (ltb 0 (size p) && r) t)) (ltb-true 0 (size p) (and-left (ltb 0 (size p)) r u))
-        (chain-sound n (p + size p) e (and-right (ltb 0 (size p)) r u))
+        let u = and-true (ltb p e) (ltb 0 (size p) && r) t .1 in
+        link (ltb-true p e (and-true (ltb p e) (ltb 0 (size p) && r) t .0)) (ltb-true 0 (size p) (and-true (ltb 0 (size p)) r u .0))
+        (chain-sound n (p + size p) e (and-true (ltb 0 (size p)) r u .1))
 
     chain-complete : {n p e : ℕ} → Chain n p e → chain size n p e ≡ true
     unfolding chain
@@ -131,14 +124,14 @@ module _ (headEnd : ℕ → Option ℕ) (size below : ℕ → ℕ) where
       where
         go : ((q f : ℕ) → scan headEnd size below k q f ≡ true → Scan q f) → (b : Bool) → ltb p e ≡ b → (x : Option ℕ) → headEnd p ≡ x → Scan p e
         go ih false b x h = stop (eqb-true p e (rw (scan, b) at t))
-        go ih true b none h = absurd (never (and-right (leb (p + size p) e) false (rw (scan, b, h) at t)))
+        go ih true b none h = absurd (false≢true (and-true (leb (p + size p) e) false (rw (scan, b, h) at t) .1))
         go ih true b (some q) h =
             let a : Bool = chain size (below p) q (p + size p) in
             let r : Bool = scan headEnd size below k q e in
             let i : Bool = leb (p + size p) e in
             let u : i && (a && r) ≡ true = rw (scan, b, h) at t in
-            let v = and-right i (a && r) u in
-            step (leb-true (p + size p) e (and-left i (a && r) u)) h (chain-sound (below p) q (p + size p) (and-left a r v)) (ih q e (and-right a r v))
+            let v = and-true i (a && r) u .1 in
+            step (leb-true (p + size p) e (and-true i (a && r) u .0)) h (chain-sound (below p) q (p + size p) (and-true a r v .0)) (ih q e (and-true a r v .1))
 
     scan-complete : {p e : ℕ} (k : ℕ) → Scan p e → e - p ≤ k → scan headEnd size below k p e ≡ true
     unfolding scan onFound
@@ -158,7 +151,7 @@ module _ (headEnd : ℕ → Option ℕ) (size below : ℕ → ℕ) where
 
     end-sound : (k p e : ℕ) → treeEnd k p ≡ some e → Tree p e
     unfolding treeEnd
-    end-sound zero p e t = absurd (never-found e t)
+    end-sound zero p e t = absurd (Option·none-ne-some e t)
     end-sound (suc k) p e t =
         let h = then-some (headEnd p) _ e t in
         let r = then-some (inRow (treeEnd k) (below p) (h .0)) _ e (h .2) in
@@ -193,7 +186,7 @@ module _ (headEnd : ℕ → Option ℕ) (size below : ℕ → ℕ) where
     lone-sound k p e t = go (treeEnd k p) refl
       where
         go : (x : Option ℕ) → treeEnd k p ≡ x → Tree p e
-        go none h = absurd (never (rw (lone-end, h) at t))
+        go none h = absurd (false≢true (rw (lone-end, h) at t))
         go (some q) h = end-sound k p e (h ∙ ap some (eqb-true q e (rw (lone-end, h) at t)))
 
     lone-complete : (k p e : ℕ) → e - p ≤ k → Tree p e → lone-end k p e ≡ true
@@ -224,7 +217,7 @@ module _ (headEnd : ℕ → Option ℕ) (size below : ℕ → ℕ) where
         back : a && b ≡ true → lone-end k p e ≡ true
         back t =
             lone-complete k p e l
-            (lone (laid (e - p) (scan-sound (e - p) p e (and-right a b t)) (chain-sound 1 p e (and-left a b t)) (omega arith) (omega arith) .0) refl)
+            (lone (laid (e - p) (scan-sound (e - p) p e (and-true a b t .1)) (chain-sound 1 p e (and-true a b t .0)) (omega arith) (omega arith) .0) refl)
 
     -- fuel beyond the length of the scan is of no account
     scan-fuel : (j k p e : ℕ) → e - p ≤ j → e - p ≤ k → scan headEnd size below j p e ≡ scan headEnd size below k p e

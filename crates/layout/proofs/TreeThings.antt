@@ -1,9 +1,9 @@
 -- Nodes and values are such trees: their heads go forward, and the recursion of crate rules is the one of TreeLaws.
-use Prim.Native.Nat.{ℕ, zero, suc, _+_, _-_, _<_}
+use Prim.Native.Nat.{ℕ, zero, suc, _+_, _<_}
 use mathlib.Core.Path.{_≡_, refl, ap, sym, _∙_, fun-ext}
 use mathlib.Core.List.{List}
 use mathlib.Core.Bool.{Bool, true, false, _&&_}
-use mathlib.Core.Option.{Option, none, some}
+use mathlib.Core.Option.{Option, none, some, Option·none-ne-some}
 use native.Mathlib.Omega.{arith}
 use native.Mathlib.Nat.{add-zero}
 use borrow.Author.Tests.{eqb-true, eq-eqb}
@@ -15,11 +15,9 @@ use Rattle.rules.specs.Value.{valueSize}
 use Rattle.rules.specs.Layout.{thenRead, inRow, textEnd, pathEnd, formEnd, sized, nodeEnd, childrenEnd, kindEnd, valueEnd}
 use Rattle.rules.specs.declared.Form.{Form}
 use Rattle.rules.specs.declared.Form.the-variants.{Build, Literal, Place, Expand, If, For, Sequence, Unknown}
-use Rattle.layout.specs.declared.tree.Thing.{Thing}
-use Rattle.layout.specs.declared.tree.Thing.the-variants.{Node, Value}
-use Rattle.layout.specs.Tree.{textHead, pathHead, formHead, formBelow, kindHead, kindBelow, headEnd, below, thingEnd}
-use Rattle.layout.proofs.GrammarLaws.{then-some}
-use Rattle.layout.proofs.TreeLaws.{never-found, only-some, some-then, treeEnd, end-sized}
+use Rattle.layout.specs.Tree.{Thing, Node, Value, textHead, pathHead, formHead, formBelow, kindHead, kindBelow, headEnd, below, thingEnd}
+use Rattle.laws.specs.Reads.{only-some, then-some, some-then}
+use Rattle.layout.proofs.TreeLaws.{treeEnd, end-sized}
 
 -- A row of records
 
@@ -66,16 +64,16 @@ form-grows t Expand p q e = omega (arith, row-ends (pathEnd t) (path-ends t) (fi
 form-grows t If p q e = then-path t p q e
 form-grows t For p q e = then-path t p q e
 form-grows t Sequence p q e = then-next _ p q e
-form-grows t Unknown p q e = absurd (never-found q e)
+form-grows t Unknown p q e = absurd (Option·none-ne-some q e)
 
 kind-grows : (v : List ℕ) (kind p q : ℕ) → kindHead v kind p ≡ some q → p < q
 unfolding kindHead
-kind-grows v zero p q e = absurd (never-found q e)
+kind-grows v zero p q e = absurd (Option·none-ne-some q e)
 kind-grows v (suc zero) p q e = then-text v _ p q e
 kind-grows v (suc (suc zero)) p q e = then-next _ p q e
 kind-grows v (suc (suc (suc zero))) p q e = then-next _ p q e
 kind-grows v (suc (suc (suc (suc zero)))) p q e = then-next _ p q e
-kind-grows v (suc (suc (suc (suc (suc kind))))) p q e = absurd (never-found q e)
+kind-grows v (suc (suc (suc (suc (suc kind))))) p q e = absurd (Option·none-ne-some q e)
 
 pub head-grows : (thing : Thing) (s : List ℕ) (p q : ℕ) → headEnd thing s p ≡ some q → p < q
 unfolding headEnd

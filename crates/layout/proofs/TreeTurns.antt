@@ -1,5 +1,5 @@
 -- The code's turns: over things by their sizes, and over heads; and what the code says of a head.
-use Prim.Native.Nat.{ℕ, _+_, _-_, _/_, _≤_, _<_}
+use Prim.Native.Nat.{ℕ, _+_, _-_, _≤_, _<_}
 use mathlib.Core.Path.{_≡_, refl, ap, sym, _∙_}
 use mathlib.Core.List.{List}
 use mathlib.Core.Bool.{Bool, true, false, _&&_}
@@ -8,26 +8,15 @@ use native.Mathlib.Omega.{arith}
 use borrow.Author.Tests.{eqb-true, eqb-false, eq-eqb, ne-eqb, lt-ltb, le-ltb}
 use lib.Dec.{eqb}
 use Rattle.rules.specs.Faults.{onFound, onlyIf}
-use Rattle.rules.specs.Records.{recordCount, kindOf, fieldB, units, paddingOf, zeros}
+use Rattle.rules.specs.Records.{recordCount, fieldB, units, paddingOf, zeros}
 use Rattle.rules.specs.Value.{valueSize}
 use Rattle.rules.specs.Layout.{thenRead, textEnd}
-use Rattle.stream.specs.declared.record.Record.{Record}
 use Rattle.layout.specs.declared.tree.Head.{Head}
 use Rattle.layout.specs.declared.tree.Head.the-variants.{Right, Wrong}
-use Rattle.layout.specs.declared.tree.Thing.{Thing}
-use Rattle.layout.specs.Tree.{chain, scan, textHead, headEnd, below, fills, Headed, SizeOf}
-use Rattle.layout.proofs.TreeLaws.{one-less, fills-scan, scan-step, scan-long, scan-no-head, scan-no-chain, scan-end}
+use Rattle.layout.specs.Tree.{Thing, chain, scan, textHead, headEnd, below, fills, Headed}
+use Rattle.layout.proofs.TreeLaws.{fills-scan, scan-step, scan-long, scan-no-head, scan-no-chain, scan-end}
+use Rattle.laws.specs.Rows.{one-less}
 use Rattle.layout.proofs.TreeThings.{thing-is, head-grows}
-
--- The size of a thing, from its head
-
-pub size-one : (r : Record) → r .kind ≡ 2 → SizeOf r 1
-unfolding valueSize
-size-one r e = record { size-is = λ s p f. rw (sym (f .kind) ∙ e); small = omega arith }
-
-pub size-field : (r : Record) → (r .kind ≡ 2 → ⊥) → r .c < 65536 → SizeOf r (r .c)
-unfolding valueSize
-size-field r e l = record { size-is = λ s p f. rw (ne-eqb (kindOf s p) 2 (λ z. e (f .kind ∙ z))) (f .c); small = l }
 
 -- Things by their sizes: k of n are passed
 
@@ -74,26 +63,25 @@ unfolding thenRead onFound onlyIf
 not-closed true x z e = rw e
 not-closed false x z e = refl
 
-module _ (s : List ℕ) (p b size : ℕ) (eb : b ≡ fieldB s p) (es : size ≡ valueSize s p) where
-  text-end : (z : Bool) → z ≡ zeros (paddingOf s p) → textEnd s p ≡ onlyIf z (p + 1 + (b + 7) / 8)
-  unfolding textEnd units
-  text-end z e = rw (e, eb)
+module _ (s : List ℕ) (p b size n : ℕ) (eb : b ≡ fieldB s p) (es : size ≡ valueSize s p) (en : n ≡ units b) where
+  text-end : (z : Bool) → z ≡ zeros (paddingOf s p) → textEnd s p ≡ onlyIf z (p + 1 + n)
+  unfolding textEnd
+  text-end z e = rw (e, en, eb)
 
-  pub text-size : (size ≡ 1 + (b + 7) / 8 → ⊥) → textHead s p ≡ none
+  pub text-size : (size ≡ 1 + n → ⊥) → textHead s p ≡ none
   unfolding textHead
   text-size l =
       rw (text-end (zeros (paddingOf s p)) refl)
-      (not-closed (zeros (paddingOf s p)) (p + 1 + (b + 7) / 8) (p + valueSize s p)
-      (ne-eqb _ _ (λ (e : p + valueSize s p ≡ p + 1 + (b + 7) / 8). l (omega arith))))
+      (not-closed (zeros (paddingOf s p)) (p + 1 + n) (p + valueSize s p) (ne-eqb _ _ (λ (e : p + valueSize s p ≡ p + 1 + n). l (omega arith))))
 
   pub text-unpadded : false ≡ zeros (paddingOf s p) → textHead s p ≡ none
   unfolding textHead thenRead onFound onlyIf
   text-unpadded z = rw (text-end false z)
 
-  pub text-right : size ≡ 1 + (b + 7) / 8 → true ≡ zeros (paddingOf s p) → textHead s p ≡ some (p + size)
+  pub text-right : size ≡ 1 + n → true ≡ zeros (paddingOf s p) → textHead s p ≡ some (p + size)
   unfolding textHead thenRead onFound onlyIf
   text-right l z =
-      let e : p + 1 + (b + 7) / 8 ≡ p + size = omega arith in
+      let e : p + 1 + n ≡ p + size = omega arith in
       rw (text-end true z, e, es) (rw (eq-eqb (p + valueSize s p) (p + valueSize s p) refl))
 
 -- What a test of the place after a thing says

@@ -15,8 +15,8 @@ use Rattle.stream.specs.declared.record.Record.{Record}
 use Rattle.stream.specs.Record.{Fetched}
 use Rattle.layout.specs.declared.tree.Head.{Head}
 use Rattle.layout.specs.declared.tree.Head.the-variants.{Right, Wrong}
-use Rattle.layout.specs.declared.tree.Thing.the-variants.{Value}
-use Rattle.layout.specs.Tree.{textHead, kindHead, kindBelow, headEnd, below, thingEnd, fills, Headed, yesNo}
+use Rattle.layout.specs.Tree.{Value, textHead, kindHead, kindBelow, headEnd, below, thingEnd, fills, Headed, yesNo}
+use Rattle.laws.specs.Faults.{only-no}
 use Rattle.layout.proofs.CommonLaws.{tail-past}
 use Rattle.layout.proofs.TreeThings.{thing-sized}
 use Rattle.layout.proofs.TreeTurns.{wrong, right, as-head, found-true, found-false}
@@ -25,10 +25,6 @@ use Rattle.layout.proofs.TreeTurns.{wrong, right, as-head, found-true, 
 no-head : (b : Bool) (p : ℕ) (next : ℕ → Option ℕ) → b ≡ false → thenRead (onlyIf b p) next ≡ none
 unfolding thenRead onFound onlyIf
 no-head b p next e = rw e
-
-only-not : (b : Bool) (p : ℕ) → b ≡ false → onlyIf b p ≡ none
-unfolding onlyIf
-only-not b p e = rw e
 
 and-not : (a b : Bool) → a ≡ false → a && b ≡ false
 and-not a b e = rw e
@@ -39,8 +35,8 @@ unfolding kindHead
 unused-a v p zero k e = refl
 unused-a v p (suc zero) k e = no-head _ p (textHead v) (and-not _ _ e)
 unused-a v p (suc (suc zero)) k e = absurd (k refl)
-unused-a v p (suc (suc (suc zero))) k e = only-not _ (p + 1) (and-not _ _ e)
-unused-a v p (suc (suc (suc (suc zero)))) k e = only-not _ (p + 1) (and-not _ _ e)
+unused-a v p (suc (suc (suc zero))) k e = only-no _ (p + 1) (and-not _ _ e)
+unused-a v p (suc (suc (suc (suc zero)))) k e = only-no _ (p + 1) (and-not _ _ e)
 unused-a v p (suc (suc (suc (suc (suc kind))))) k e = refl
 
 with-children : (v : List ℕ) (p kind : ℕ) → 3 ≤ kind → kind < 5
@@ -88,7 +84,7 @@ module _ (v : List ℕ) (p : ℕ) (r : Record) (f : Fetched v p r) where
 
   pub yes-wrong : r .kind ≡ 2 → false ≡ yesNo r → Headed p Wrong (headEnd Value v p) (below Value v p)
   unfolding kindHead
-  yes-wrong e z = not-head 2 e (only-not _ (p + 1) (sym (z ∙ yes-is)))
+  yes-wrong e z = not-head 2 e (only-no _ (p + 1) (sym (z ∙ yes-is)))
 
   pub used-a : (r .kind ≡ 2 → ⊥) → (r .a ≡ 0 → ⊥) → Headed p Wrong (headEnd Value v p) (below Value v p)
   used-a k z = not-head (r .kind) refl (unused-a v p (r .kind) k (ne-eqb (fieldA v p) 0 (λ e. z (f .a ∙ e))))
@@ -115,7 +111,7 @@ module _ (v : List ℕ) (p : ℕ) (r : Record) (f : Fetched v p r) where
     pub not-list : 3 ≤ r .kind → r .kind < 5 → (r .b ≡ 0 → ⊥) → Headed p Wrong (headEnd Value v p) (below Value v p)
     not-list l m b =
         not-head (r .kind) refl
-        (with-children v p (r .kind) l m .0 ∙ only-not _ (p + 1) (rw (zero-a, ne-eqb (fieldB v p) 0 (λ e. b (f .b ∙ e)))))
+        (with-children v p (r .kind) l m .0 ∙ only-no _ (p + 1) (rw (zero-a, ne-eqb (fieldB v p) 0 (λ e. b (f .b ∙ e)))))
 
   pub low-kind : (r .kind ≡ 1 → ⊥) → (r .kind ≡ 2 → ⊥) → r .kind < 3 → Headed p Wrong (headEnd Value v p) (below Value v p)
   low-kind a b l = not-head (r .kind) refl (other-low v p (r .kind) a b l)
@@ -141,7 +137,7 @@ module _ (v : List ℕ) (e : ℕ) (z : e ≡ valueSize v 0) where
   broken l = ap (λ (b : Bool). need b 0) (sym (none-right (valueEnd v (recordCount v) 0) l))
 
   pub value-past : recordCount v < e → need false 0 ≡ valueLayout v
-  value-past l = broken (λ q h. let i = ends-there q h in sym (tail-past v q (omega arith) (omega arith)))
+  value-past l = broken (λ q h. let i = ends-there q h in sym (tail-past v q (omega arith) (recordCount v) refl (omega arith)))
 
   pub value-wrong : false ≡ fills Value v 0 e → need false 0 ≡ valueLayout v
   unfolding fills thingEnd

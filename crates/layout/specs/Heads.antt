@@ -1,5 +1,5 @@
 -- The tables of heads: what a stream that is laid out has in them.
-use Prim.Native.Nat.{ℕ, _+_, _≤_}
+use Prim.Native.Nat.{ℕ, _+_, _-_, _≤_}
 use mathlib.Core.Path.{_≡_}
 use mathlib.Core.List.{List}
 use mathlib.Core.Option.{none}
@@ -9,8 +9,9 @@ use Rattle.rules.specs.Records.{kindOf, fieldD, heads}
 use Rattle.rules.specs.Layout.{grammarLayout, templatesLayout}
 use Rattle.theorems.specs.LaidOut.{InRow}
 use Rattle.theorems.specs.Heads.{Spans}
+use Rattle.layout.specs.Common.{mostRecords}
 use Rattle.layout.specs.declared.heads.Counts.{Counts}
-use Rattle.layout.specs.declared.heads.Run.{Run}
+use Rattle.layout.specs.declared.heads.RowEnd.{RowEnd}
 
 -- refusals 1 and 3 let a grammar through; a template set
 pub record LaidGrammar (g : List ℕ) : Type 0 where
@@ -21,42 +22,46 @@ pub record LaidTemplates (t : List ℕ) : Type 0 where
   pub length-right : streamLength t ≡ none
   pub laid-out : templatesLayout t ≡ none
 
--- two tables have room for so many heads each
-pub record Room (most : ℕ) (first second : List ℕ) : Type 0 where
-  pub in-first : most ≤ length first
-  pub in-second : most ≤ length second
+-- a grammar's classes and productions are numbered by 8 bits
+abbrev pub mostClasses : ℕ
+mostClasses = 256
 
--- a table begins with these heads, n of them, and the rest of it is as it was
-pub record Listed (hs : List ℕ) (most : ℕ) (before table : List ℕ) (n : ℕ) : Type 0 where
-  pub count : n ≡ length hs
-  pub few : n ≤ most
-  pub begins : take n table ≡ hs
-  pub rest : drop n table ≡ drop n before
+abbrev pub mostProductions : ℕ
+mostProductions = 256
 
--- both tables of a stream, with at most so many heads each
-pub record Tables (most : ℕ) (xs ys before before' table table' : List ℕ) (r : Counts) : Type 0 where
-  pub first : Listed xs most before table (r .first)
-  pub second : Listed ys most before' table' (r .second)
+-- the numbers of a table from a to e, as `&table[a..e]` lends them
+abbrev pub part : ℕ → ℕ → List ℕ → List ℕ
+part a e table = take (e - a) (drop a table)
+
+-- a stream's table of heads: it begins with the heads xs, at most so many; then come the heads ys, at most so many; the rest of it is as it was
+pub record Tables (most most' : ℕ) (xs ys before table : List ℕ) (r : Counts) : Type 0 where
+  pub few : r .first ≤ most
+  pub few' : r .second ≤ most'
+  pub fit : r .first + r .second ≤ length table
+  pub first-are : part 0 (r .first) table ≡ xs
+  pub second-are : part (r .first) (r .first + r .second) table ≡ ys
+  pub rest : drop (r .first + r .second) table ≡ drop (r .first + r .second) before
 
 -- a head and the d records after it
 unfoldable pub withRecords : List ℕ → ℕ → ℕ
 withRecords s p = 1 + fieldD s p
 
 -- n things of a kind in a row from p on, up to q, and no more
-pub record Row (s : List ℕ) (size : ℕ → ℕ) (kind p n q : ℕ) : Type 0 where
+pub record KindRow (s : List ℕ) (size : ℕ → ℕ) (kind p n q : ℕ) : Type 0 where
   pub things : InRow (Spans s size kind) n p q
   pub stops : kindOf s q ≡ kind → ⊥
 
--- there is such a row from p on, inside the stream, and a table has room for its heads
-pub record Ahead (s : List ℕ) (size : ℕ → ℕ) (kind p room : ℕ) : Type 0 where
+-- there is such a row from p on, inside a whole stream, and a table has room for its heads
+pub record RowAhead (s : List ℕ) (size : ℕ → ℕ) (kind p room : ℕ) : Type 0 where
+  pub sized : streamLength s ≡ none
   pub count : ℕ
   pub end : ℕ
-  pub row : Row s size kind p count end
+  pub row : KindRow s size kind p count end
   pub fits : count ≤ room
-  pub inside : end ≤ 8064
+  pub inside : end ≤ mostRecords
 
 -- the row was gone over, and the table begins with its heads
-pub record Passed (s : List ℕ) (size : ℕ → ℕ) (kind p : ℕ) (before table : List ℕ) (r : Run) : Type 0 where
-  pub row : Row s size kind p (r .count) (r .next)
+pub record RowFilled (s : List ℕ) (size : ℕ → ℕ) (kind p : ℕ) (before table : List ℕ) (r : RowEnd) : Type 0 where
+  pub row : KindRow s size kind p (r .count) (r .next)
   pub begins : take (r .count) table ≡ heads size (r .count) p
   pub rest : drop (r .count) table ≡ drop (r .count) before

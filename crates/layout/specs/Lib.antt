@@ -1,3 +1,4 @@
+pub mod Children
 pub mod Common
 pub mod Grammar
 pub mod Heads

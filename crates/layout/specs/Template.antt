@@ -1,14 +1,15 @@
 -- Templates: rows of records of one kind, the types, and the templates after them.
 use Prim.Native.Nat.{ℕ, _+_, _%_, _<_}
+use mathlib.Core.Path.{_≡_}
 use mathlib.Core.List.{List}
 use mathlib.Core.Bool.{Bool, false, cond, _&&_}
-use mathlib.Core.Option.{Option}
+use mathlib.Core.Option.{Option, none}
 use lib.ListN.{drop}
 use lib.Dec.{eqb, leb}
+use Rattle.rules.specs.Blocks.{streamLength}
 use Rattle.rules.specs.Faults.{onFound}
 use Rattle.rules.specs.Records.{recordCount, zeros}
 use Rattle.rules.specs.Layout.{whileKind, namingEnd, pathEnd, typeEnd, templateEnd, tailRight}
-use Rattle.theorems.specs.Streams.{WellSized}
 use Rattle.stream.specs.declared.record.Record.{Record}
 use Rattle.stream.specs.Record.{Fetched}
 use Rattle.layout.specs.Common.{bytesOf}
@@ -36,8 +37,8 @@ restRight t p = onFound (whileKind t 3 (λ n. templateEnd t) (recordCount t) 0 p
 unfoldable pub within : List ℕ → Option ℕ → Bool
 within t o = onFound o false (λ e. leb e (recordCount t))
 
--- r is record p of a stream that has refusal 1 behind it
-pub record Ready (t : List ℕ) (p : ℕ) (r : Record) : Type 0 where
-  pub well-sized : WellSized t
+-- r is record p of a whole stream
+pub record TemplateHead (t : List ℕ) (p : ℕ) (r : Record) : Type 0 where
+  pub sized : streamLength t ≡ none
   pub fetched : Fetched t p r
   pub inside : p < recordCount t

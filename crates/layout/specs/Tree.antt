@@ -7,6 +7,7 @@ use mathlib.Core.Bool.{Bool, true, false, _&&_}
 use mathlib.Core.Option.{Option, none, some}
 use lib.Dec.{eqb, leb, ltb}
 use Rattle.rules.specs.Faults.{onFound, onlyIf}
+use Rattle.rules.specs.Blocks.{streamLength}
 use Rattle.rules.specs.Records.{recordCount, kindOf, fieldA, fieldB, fieldC, fieldD}
 use Rattle.rules.specs.Templates.{formOf}
 use Rattle.rules.specs.Value.{valueSize}
@@ -15,11 +16,15 @@ use Rattle.rules.specs.declared.Form.{Form}
 use Rattle.rules.specs.declared.Form.the-variants as form
 use Rattle.stream.specs.declared.record.Record.{Record}
 use Rattle.stream.specs.declared.record.Place.{Place}
-use Rattle.stream.specs.Record.{Fetched, placeOf}
+use Rattle.stream.specs.Record.{placeOf}
+use Rattle.records.specs.Sizes.{ValueSize}
 use Rattle.layout.specs.declared.tree.Head.{Head}
 use Rattle.layout.specs.declared.tree.Head.the-variants.{Right, Wrong}
-use Rattle.layout.specs.declared.tree.Thing.{Thing}
-use Rattle.layout.specs.declared.tree.Thing.the-variants.{Node, Value}
+
+-- what is laid out as a tree
+pub data Thing : Type 0 where
+  Node : Thing
+  Value : Thing
 
 -- n things from p on end at e, by their sizes. Each starts before e and none is empty, so that there are no more than e - p.
 unfoldable pub chain : (ℕ → ℕ) → ℕ → ℕ → ℕ → Bool
@@ -116,35 +121,33 @@ pub record Headed (p : ℕ) (h : Head) (end : Option ℕ) (n : ℕ) : Type 0 whe
 unfoldable pub yesNo : Record → Bool
 yesNo r = leb (r .a) 1 && (eqb (r .b) 0 && (eqb (r .c) 0 && eqb (r .d) 0))
 
--- n records can be counted on from a place
-pub record Near (at : Place) (n : ℕ) : Type 0 where
+-- n records can be counted on from a place of a whole stream
+pub record CountsOn (s : List ℕ) (at : Place) (n : ℕ) : Type 0 where
+  pub sized : streamLength s ≡ none
   pub index : ℕ
   pub place-is : at ≡ placeOf index
   pub near : index + n < 2 ^ 60
 
 -- the n records from a place on lie in the stream
-pub record Within (s : List ℕ) (at : Place) (n : ℕ) : Type 0 where
+pub record LiesIn (s : List ℕ) (at : Place) (n : ℕ) : Type 0 where
   pub index : ℕ
   pub place-is : at ≡ placeOf index
   pub near : index < 2 ^ 50
   pub inside : index + n ≤ recordCount s
 
--- n is the size of the thing whose head is r
-pub record SizeOf (r : Record) (n : ℕ) : Type 0 where
-  pub size-is : (s : List ℕ) (p : ℕ) → Fetched s p r → n ≡ valueSize s p
-  pub small : n < 65536
+-- r is the head at a place of a thing that lies in a whole stream by its size n
+pub record HeadIn (s : List ℕ) (at : Place) (r : Record) (n : ℕ) : Type 0 where
+  pub sized : streamLength s ≡ none
+  pub within : LiesIn s at n
+  pub size-of : ValueSize r n
 
--- r is the head at a place of a thing that lies in the stream by its size n
-pub record Room (s : List ℕ) (at : Place) (r : Record) (n : ℕ) : Type 0 where
-  pub within : Within s at n
-  pub size-of : SizeOf r n
-
--- records up to e lie in the stream; p is where the code starts
-pub record Inside (s : List ℕ) (p e : ℕ) : Type 0 where
+-- records up to e lie in a whole stream; p is where the code starts
+pub record UpTo (s : List ℕ) (p e : ℕ) : Type 0 where
+  pub sized : streamLength s ≡ none
   pub near : p < 2 ^ 50
   pub inside : e ≤ recordCount s
-  pub few : e < 2 ^ 40
 
-pub record Stands (s : List ℕ) (p : ℕ) (at : Place) (e : ℕ) : Type 0 where
+-- and the record at p is at this place
+pub record Chains (s : List ℕ) (p : ℕ) (at : Place) (e : ℕ) : Type 0 where
   pub place-is : at ≡ placeOf p
-  pub within : Inside s p e
+  pub within : UpTo s p e

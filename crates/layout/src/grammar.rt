@@ -1,24 +1,27 @@
 // Refusal 3 of a grammar: classes with their ranges, productions with their elements, then zero records.
 ghost use mathlib.Core.Path.{_≡_};
+ghost use mathlib.Core.Option.{none};
 ghost use Prim.Native.Nat.{_+_, _<_, _^_};
 ghost use Rattle.rules.specs.Faults.{need, onlyIf};
+ghost use Rattle.rules.specs.Blocks.{streamLength};
 ghost use Rattle.rules.specs.Records.{recordCount};
 ghost use Rattle.rules.specs.Layout.{inRow, whileKind, rangeEnd, classEnd, elementEnd, productionEnd, grammarLayout};
-ghost use Rattle.theorems.specs.Streams.{WellSized};
 ghost use Rattle.layout.specs.Grammar.{endOf, elementHead};
 use crate::common::padded;
 use crate::common::tail_right;
+use records::element::size_of;
 use stream::record::Record;
 use stream::record::fetch;
 
 // The place after a thing, or that the records lay none out.
-pub enum End {
+pub(crate) enum End {
     At(usize),
     Broken,
 }
 
 // n ranges from record p on. Byte 7 of a range, the high byte of d, is unused.
 fn are_ranges(g: &[u8], p: usize, n: usize) -> bool
+    requires { ⌜ streamLength (now g) ≡ none ⌝ }
     requires { ⌜ p + n < 2 ^ 64 ⌝ }
     ensures { λ r. ⌜ inRow (rangeEnd (now (g .entry))) n p ≡ onlyIf r (p + n) ⌝ }
 {
@@ -38,7 +41,7 @@ fn are_ranges(g: &[u8], p: usize, n: usize) -> bool
 
 // The classes, numbered from 0.
 fn class_row(g: &[u8]) -> End
-    requires { ⌜ WellSized (now g) ⌝ }
+    requires { ⌜ streamLength (now g) ≡ none ⌝ }
     ensures { λ r. ⌜ endOf r ≡ whileKind (now (g .entry)) 1 (classEnd (now (g .entry))) (recordCount (now (g .entry))) 0 0 ⌝ }
 {
     let mut p: usize = 0;
@@ -78,26 +81,27 @@ fn is_element(e: Record) -> bool
 
 // The element at record p: one record, and after a keyword's its text, of which only the padding is looked at.
 fn element_end(g: &[u8], p: usize) -> End
-    requires { ⌜ WellSized (now g) ⌝ }
+    requires { ⌜ streamLength (now g) ≡ none ⌝ }
     ensures { λ r. ⌜ endOf r ≡ elementEnd (now (g .entry)) p ⌝ }
 {
     let e = fetch(g, p);
     if !is_element(e) {
         return End::Broken;
     }
+    let end = p + size_of(e);
     if e.a != 0 {
-        return End::At(p + 1);
+        return End::At(end);
     }
-    let b = e.b as usize;
-    if !padded(g, p, b) {
-        return End::Broken;
+    if padded(g, p, e.b) {
+        End::At(end)
+    } else {
+        End::Broken
     }
-    End::At(p + 1 + (b + 7) / 8)
 }
 
 // n elements from record p on.
 fn elements_end(g: &[u8], p: usize, n: usize) -> End
-    requires { ⌜ WellSized (now g) ⌝ }
+    requires { ⌜ streamLength (now g) ≡ none ⌝ }
     ensures { λ r. ⌜ endOf r ≡ inRow (elementEnd (now (g .entry))) n p ⌝ }
 {
     let mut q = p;
@@ -114,7 +118,7 @@ fn elements_end(g: &[u8], p: usize, n: usize) -> End
 
 // The productions from record start on, numbered from 0.
 fn production_row(g: &[u8], start: usize) -> End
-    requires { ⌜ WellSized (now g) ⌝ }
+    requires { ⌜ streamLength (now g) ≡ none ⌝ }
     ensures { λ r. ⌜ endOf r ≡ whileKind (now (g .entry)) 3 (productionEnd (now (g .entry))) (recordCount (now (g .entry))) 0 start ⌝ }
 {
     let mut p = start;
@@ -140,7 +144,7 @@ fn production_row(g: &[u8], start: usize) -> End
 
 // The records of a grammar are laid out: refusal 3 where they are not. Each record is fetched once, and a text only skipped.
 pub fn grammar_layout(g: &[u8]) -> bool
-    requires { ⌜ WellSized (now g) ⌝ }
+    requires { ⌜ streamLength (now g) ≡ none ⌝ }
     ensures { λ r. ⌜ need r 0 ≡ grammarLayout (now (g .entry)) ⌝ }
 {
     let End::At(middle) = class_row(g) else {

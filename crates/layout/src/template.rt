@@ -2,26 +2,30 @@
 ghost use mathlib.Core.Path.{_≡_};
 ghost use Prim.Native.Nat.{ℕ, _+_};
 ghost use mathlib.Core.List.{List};
+ghost use mathlib.Core.Option.{none};
+ghost use Rattle.rules.specs.Blocks.{streamLength};
 ghost use Rattle.rules.specs.Faults.{need, onlyIf};
 ghost use Rattle.rules.specs.Records.{fieldD};
 ghost use Rattle.rules.specs.Layout.{inRow, pathEnd, typeEnd, templateEnd, templatesLayout};
 ghost use Rattle.stream.specs.Record.{Fetched, placeOf};
-ghost use Rattle.layout.specs.declared.tree.Thing.{Thing};
-ghost use Rattle.theorems.specs.Streams.{WellSized};
 ghost use Rattle.layout.specs.Grammar.{endOf};
-ghost use Rattle.layout.specs.Tree.{pathHead, headEnd, below, Headed, Near, Room};
-ghost use Rattle.layout.specs.Template.{naming, pathRecord, recordEnd, typesEnd, restRight, within, Ready};
+ghost use Rattle.layout.specs.Tree.{Node, pathHead, headEnd, below, fills, Headed, CountsOn, UpTo, HeadIn};
+ghost use Rattle.layout.specs.Template.{naming, pathRecord, recordEnd, typesEnd, restRight, within, TemplateHead};
+use crate::common::record_count;
 use crate::common::tail_right;
 use crate::common::zero_from;
 use crate::grammar::End;
 use crate::tree::Head;
-use crate::tree::Thing;
-use crate::tree::one_thing;
+use crate::tree::chained;
 use crate::tree::text_head;
+use records::node::form_of;
+use records::value::size_of;
+use rules::Form;
 use stream::record::Place;
 use stream::record::Record;
 use stream::record::fetch;
 use stream::record::fetch_at;
+use stream::record::fetch_in;
 use stream::record::forward;
 use stream::record::place_of;
 
@@ -67,7 +71,7 @@ fn is_one(r: Record, kind: u8) -> bool
 
 // n records of a kind from a place on.
 fn in_row(t: &[u8], kind: u8, at: Place, n: u16) -> bool
-    requires { ⌜ Near at n ⌝ }
+    requires { ⌜ CountsOn (now t) at n ⌝ }
     ensures { λ z. ⌜ ((p : ℕ) → at ≡ placeOf p → onlyIf z (p + n) ≡ inRow (recordEnd (now (t .entry)) kind) n p) ⌝ }
 {
     let mut here = at;
@@ -84,7 +88,7 @@ fn in_row(t: &[u8], kind: u8, at: Place, n: u16) -> bool
 
 // The head of a place, an if or a for: a path follows it, and then n nodes.
 fn path_head(t: &[u8], at: Place, r: Record, n: u32) -> Head
-    requires { ⌜ Near at 65536 ⌝ }
+    requires { ⌜ CountsOn (now t) at 65536 ⌝ }
     ensures { λ h. ⌜ ((p : ℕ) → at ≡ placeOf p → Fetched (now (t .entry)) p r → Headed p h (pathHead (now (t .entry)) p) n) ⌝ }
 {
     if r.b != 0 {
@@ -102,7 +106,7 @@ fn path_head(t: &[u8], at: Place, r: Record, n: u32) -> Head
 
 // The head of an expand, with its d paths.
 fn expand_head(t: &[u8], at: Place, r: Record) -> Head
-    requires { ⌜ Near at 65536 ⌝ }
+    requires { ⌜ CountsOn (now t) at 65536 ⌝ }
     ensures { λ h. ⌜ ((p : ℕ) → at ≡ placeOf p → Fetched (now (t .entry)) p r → Headed p h (inRow (pathEnd (now (t .entry))) (fieldD (now (t .entry)) p) (p + 1)) 0) ⌝ }
 {
     if in_row(t, 6, forward(at, 1), r.d) {
@@ -113,41 +117,70 @@ fn expand_head(t: &[u8], at: Place, r: Record) -> Head
 }
 
 // A node's head, by its form.
-pub fn node_head(t: &[u8], at: Place, r: Record, size: usize) -> Head
-    requires { ⌜ Room (now t) at r size ⌝ }
-    ensures { λ h. ⌜ ((p : ℕ) → at ≡ placeOf p → Fetched (now (t .entry)) p r → Headed p h (headEnd Thing.Node (now (t .entry)) p) (below Thing.Node (now (t .entry)) p)) ⌝ }
+fn node_head(t: &[u8], at: Place, r: Record, size: usize) -> Head
+    requires { ⌜ HeadIn (now t) at r size ⌝ }
+    ensures { λ h. ⌜ ((p : ℕ) → at ≡ placeOf p → Fetched (now (t .entry)) p r → Headed p h (headEnd Node (now (t .entry)) p) (below Node (now (t .entry)) p)) ⌝ }
 {
     if r.kind != 5 {
         return Head::Wrong;
     }
-    let form = r.a;
-    match form {
-        0 => Head::Right(1, r.d as u32),
-        1 => {
+    match form_of(r) {
+        Form::Build => Head::Right(1, r.d as u32),
+        Form::Literal => {
             if r.d == 0 {
                 text_head(t, at, r, size)
             } else {
                 Head::Wrong
             }
         }
-        2 => path_head(t, at, r, 0),
-        3 => expand_head(t, at, r),
-        4 => path_head(t, at, r, 2),
-        5 => path_head(t, at, r, 1),
-        6 => {
+        Form::Place => path_head(t, at, r, 0),
+        Form::Expand => expand_head(t, at, r),
+        Form::If => path_head(t, at, r, 2),
+        Form::For => path_head(t, at, r, 1),
+        Form::Sequence => {
             if r.b == 0 {
                 Head::Right(1, r.d as u32)
             } else {
                 Head::Wrong
             }
         }
-        _ => Head::Wrong,
+        Form::Unknown => Head::Wrong,
     }
+}
+
+// The records from p to e are exactly one node. Each head is looked at twice: in its turn, and among the nodes below another.
+fn one_node(t: &[u8], p: usize, e: usize) -> bool
+    requires { ⌜ UpTo (now t) p e ⌝ }
+    ensures { λ r. ⌜ r ≡ fills Node (now (t .entry)) p e ⌝ }
+{
+    let mut q = p;
+    let mut at = place_of(p);
+    if !chained(t, 1, p, at, e) {
+        return false;
+    }
+    while q < e {
+        let r = fetch_in(t, at);
+        let size = size_of(r);
+        let end = q + size;
+        if e < end {
+            return false;
+        }
+        let Head::Right(own, below) = node_head(t, at, r, size) else {
+            return false;
+        };
+        let next = q + own as usize;
+        at = forward(at, own as usize);
+        if !chained(t, below as usize, next, at, end) {
+            return false;
+        }
+        q = next;
+    }
+    q == e
 }
 
 // The type at a place: its fields by its form. It has one record and one for each field, of which only a record type has any.
 fn type_right(t: &[u8], at: Place, r: Record) -> bool
-    requires { ⌜ Near at 65536 ⌝ }
+    requires { ⌜ CountsOn (now t) at 65536 ⌝ }
     ensures { λ z. ⌜ ((p : ℕ) → at ≡ placeOf p → Fetched (now (t .entry)) p r → onlyIf z (p + 1 + fieldD (now (t .entry)) p) ≡ typeEnd (now (t .entry)) p) ⌝ }
 {
     if r.c != 0 {
@@ -174,7 +207,7 @@ fn type_right(t: &[u8], at: Place, r: Record) -> bool
 
 // The types, from the first record on: where they end.
 fn types_end(t: &[u8]) -> End
-    requires { ⌜ WellSized (now t) ⌝ }
+    requires { ⌜ streamLength (now t) ≡ none ⌝ }
     ensures { λ r. ⌜ endOf r ≡ typesEnd (now (t .entry)) ⌝ }
 {
     let mut p: usize = 0;
@@ -195,25 +228,25 @@ fn types_end(t: &[u8]) -> End
 
 // The template at record p, whose head is r: it ends by its size, within the stream.
 fn template_right(t: &[u8], p: usize, r: Record) -> bool
-    requires { ⌜ Ready (now t) p r ⌝ }
+    requires { ⌜ TemplateHead (now t) p r ⌝ }
     ensures { λ z. ⌜ z ≡ within (now (t .entry)) (templateEnd (now (t .entry)) p) ⌝ }
 {
     if r.d != 0 {
         return false;
     }
     let e = p + r.c as usize;
-    if t.len() / 512 * 63 < e {
+    if record_count(t) < e {
         return false;
     }
     if !in_row(t, 4, place_of(p + 1), r.a as u16) {
         return false;
     }
-    one_thing(t, Thing::Node, p + 1 + r.a as usize, e)
+    one_node(t, p + 1 + r.a as usize, e)
 }
 
 // The templates from record p on, and the zero records after the last.
 fn templates_from(t: &[u8], p: usize) -> bool
-    requires { ⌜ WellSized (now t) ⌝ }
+    requires { ⌜ streamLength (now t) ≡ none ⌝ }
     ensures { λ r. ⌜ r ≡ restRight (now (t .entry)) p ⌝ }
 {
     let mut q = p;
@@ -231,7 +264,7 @@ fn templates_from(t: &[u8], p: usize) -> bool
 
 // The records of a template set are laid out: refusal 3 where they are not.
 pub fn templates_layout(t: &[u8]) -> bool
-    requires { ⌜ WellSized (now t) ⌝ }
+    requires { ⌜ streamLength (now t) ≡ none ⌝ }
     ensures { λ r. ⌜ need r 0 ≡ templatesLayout (now (t .entry)) ⌝ }
 {
     let End::At(p) = types_end(t) else {

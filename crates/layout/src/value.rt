@@ -1,17 +1,22 @@
 // The value's layout: one value, then zero records.
 ghost use mathlib.Core.Path.{_≡_};
-ghost use Prim.Native.Nat.{ℕ};
+ghost use mathlib.Core.Option.{none};
+ghost use mathlib.Core.Bool.{true};
+ghost use Prim.Native.Nat.{ℕ, _≤_};
+ghost use lib.ListN.{length};
+ghost use Rattle.rules.specs.Blocks.{streamLength};
 ghost use Rattle.rules.specs.Faults.{need};
+ghost use Rattle.rules.specs.Records.{recordCount};
 ghost use Rattle.rules.specs.Layout.{valueLayout};
 ghost use Rattle.stream.specs.Record.{Fetched, placeOf};
-ghost use Rattle.layout.specs.declared.tree.Thing.{Thing};
-ghost use Rattle.layout.specs.Tree.{yesNo, headEnd, below, Headed, Room};
+ghost use Rattle.records.specs.Children.{Children};
+ghost use Rattle.layout.specs.Tree.{Value, yesNo, headEnd, below, Headed, HeadIn};
+use crate::children::one_value;
+use crate::common::record_count;
 use crate::common::tail_right;
 use crate::tree::Head;
-use crate::tree::Thing;
-use crate::tree::one_thing;
-use crate::tree::size_of;
 use crate::tree::text_head;
+use records::value::size_of;
 use stream::record::Place;
 use stream::record::Record;
 use stream::record::fetch;
@@ -33,9 +38,9 @@ fn yes_no(r: Record) -> bool
 }
 
 // A value's head, by its kind.
-pub fn value_head(v: &[u8], at: Place, r: Record, size: usize) -> Head
-    requires { ⌜ Room (now v) at r size ⌝ }
-    ensures { λ h. ⌜ ((p : ℕ) → at ≡ placeOf p → Fetched (now (v .entry)) p r → Headed p h (headEnd Thing.Value (now (v .entry)) p) (below Thing.Value (now (v .entry)) p)) ⌝ }
+pub(crate) fn value_head(v: &[u8], at: Place, r: Record, size: usize) -> Head
+    requires { ⌜ HeadIn (now v) at r size ⌝ }
+    ensures { λ h. ⌜ ((p : ℕ) → at ≡ placeOf p → Fetched (now (v .entry)) p r → Headed p h (headEnd Value (now (v .entry)) p) (below Value (now (v .entry)) p)) ⌝ }
 {
     let kind = r.kind;
     if kind == 2 {
@@ -66,16 +71,19 @@ pub fn value_head(v: &[u8], at: Place, r: Record, size: usize) -> Head
     }
 }
 
-// The records of a value are laid out: refusal 3 where they are not.
-pub fn value_layout(v: &[u8]) -> bool
-    ensures { λ r. ⌜ need r 0 ≡ valueLayout (now (v .entry)) ⌝ }
+// The records of a value are laid out: refusal 3 where they are not. Where they are, the rows have the places of all children; a value of n records
+// has fewer than n, so that a small stream takes small rows.
+pub fn value_layout(v: &[u8], firsts: &mut [u16], places: &mut [u16]) -> bool
+    requires { ⌜ streamLength (now v) ≡ none ⌝ }
+    requires { ⌜ recordCount (now v) ≤ length (now firsts) ⌝ }
+    requires { ⌜ recordCount (now v) ≤ length (now places) ⌝ }
+    ensures { λ r. ⌜ (need r 0 ≡ valueLayout (now (v .entry))) × (r ≡ true → Children (now (v .entry)) (now (firsts .exit)) (now (places .exit))) ⌝ }
 {
-    let n = v.len() / 512 * 63;
     let e = size_of(fetch(v, 0));
-    if n < e {
+    if record_count(v) < e {
         return false;
     }
-    if !one_thing(v, Thing::Value, 0, e) {
+    if !one_value(v, e, firsts, places) {
         return false;
     }
     tail_right(v, e)

@@ -4,13 +4,13 @@ use borrow.Author.Tests.{not-true, not-false}
 use native.Mathlib.Omega.{arith}
 use Rattle.rules.specs.Records.{recordCount}
 use Rattle.rules.specs.Layout.{whileKind, classEnd}
-use Rattle.layout.proofs.GrammarLaws.{Left, left-start, left-stop, left-go, left-broken, kind-here, kind-other, near, inside, class-number, class-broken, class-right}
+use Rattle.layout.proofs.GrammarLaws.{ThingsLeft, left-start, left-stop, left-go, left-broken, kind-here, kind-other, near, inside, class-number, class-broken, class-right}
 use borrow.Author.Needs.{needs}
 use Rattle.layout.proofs.grammar.class_row.Statement.{statement}
 use Rattle.layout.proofs.grammar.class_row.Tie as tie
 
 abbrev Inv-loop : tie.InvT-loop
-Inv-loop g p₀ n₀ p n = Left g 1 (classEnd g) (whileKind g 1 (classEnd g) (recordCount g) 0 0) n p
+Inv-loop g p₀ n₀ p n = ThingsLeft g 1 (classEnd g) (whileKind g 1 (classEnd g) (recordCount g) 0 0) n p
 
 abbrev μ-loop : tie.MeasureT-loop
 μ-loop g p₀ n₀ p n = recordCount g - p
@@ -37,7 +37,7 @@ add-are-ranges : tie.Need-add-are-ranges Inv-loop μ-loop
 add-are-ranges c = omega (arith, near (c .before .before .before .before .before .fetch .ensures) (c .before .before .before .before .before .before .before .before .pre) 0 (c .before .before .before .if1 .left))
 
 are-ranges-requires : tie.Need-are-ranges-requires Inv-loop μ-loop
-are-ranges-requires c κs = omega (arith, near (c .before .before .before .before .before .fetch .ensures) (c .before .before .before .before .before .before .before .before .pre) 0 (c .before .before .before .if1 .left))
+are-ranges-requires c κs = (c .before .before .before .before .before .before .before .before .pre, omega (arith, near (c .before .before .before .before .before .fetch .ensures) (c .before .before .before .before .before .before .before .before .pre) 0 (c .before .before .before .if1 .left)))
 
 returns-3 : tie.Need-returns-3 Inv-loop μ-loop
 returns-3 c = left-broken (c .before .before .before .before .before .before .before .before .before .before .pre) (kind-here (c .before .before .before .before .before .before .before .fetch .ensures) 1 (c .before .before .before .before .before .if1 .left)) (c .before .before .before .before .before .before .before .before .loop .inv) (class-broken (c .before .before .before .before .before .before .before .fetch .ensures) _ (c .before .before .before .if2 .left) (c .before .are-ranges .ensures) (not-true _ (c .if3 .taken)))
@@ -52,7 +52,7 @@ add-p-2 : tie.Need-add-p-2 Inv-loop μ-loop
 add-p-2 c = omega (arith, near (c .before .before .before .before .before .before .before .fetch .ensures) (c .before .before .before .before .before .before .before .before .before .before .pre) 0 (c .before .before .before .before .before .if1 .left))
 
 loop-less : tie.Need-loop-less Inv-loop μ-loop
-loop-less c = omega (arith, inside (c .before .before .before .before .before .before .before .before .before .before .pre) _ 0 (kind-here (c .before .before .before .before .before .before .before .fetch .ensures) 1 (c .before .before .before .before .before .if1 .left)))
+loop-less c = omega (arith, inside _ (c .before .before .before .before .before .before .before .before .before .before .pre) _ 0 (kind-here (c .before .before .before .before .before .before .before .fetch .ensures) 1 (c .before .before .before .before .before .if1 .left)))
 
 loop-again : tie.Need-loop-again Inv-loop μ-loop
 loop-again c = left-go (c .before .before .before .before .before .before .before .before .before .before .pre) (kind-here (c .before .before .before .before .before .before .before .fetch .ensures) 1 (c .before .before .before .before .before .if1 .left)) (c .before .before .before .before .before .before .before .before .loop .inv) _ (class-right (c .before .before .before .before .before .before .before .fetch .ensures) _ (c .before .before .before .if2 .left) (c .before .are-ranges .ensures) (not-false _ (c .if3 .left))) (omega arith)

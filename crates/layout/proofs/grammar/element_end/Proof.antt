@@ -15,32 +15,23 @@ is-element-requires c κs = search needs
 returns : tie.Need-returns
 returns c = sym (element-broken (c .before .before .fetch .ensures) (sym (c .before .is-element .ensures) ∙ not-true _ (c .if1 .taken)))
 
-add-t7 : tie.Need-add-t7
-add-t7 c = omega (arith, element-near (c .before .before .before .before .fetch .ensures) (c .before .before .before .before .before .before .pre) (sym (c .before .before .before .is-element .ensures) ∙ not-false _ (c .before .before .if1 .left)))
+size-of-requires : tie.Need-size-of-requires
+size-of-requires c κs = search needs
+
+add-end : tie.Need-add-end
+add-end c = omega (arith, element-near (c .before .before .before .fetch .ensures) (c .before .before .before .before .before .pre) (sym (c .before .before .is-element .ensures) ∙ not-false _ (c .before .if1 .left)), c .size-of .ensures .small)
 
 returns-2 : tie.Need-returns-2
-returns-2 c = sym (element-name (c .before .before .before .before .fetch .ensures) (sym (c .before .before .before .is-element .ensures) ∙ not-false _ (c .before .before .if1 .left)) (c .if2 .taken))
-
-cast-b : tie.Need-cast-b
-cast-b c = search needs
+returns-2 c = sym (element-name (c .before .before .before .before .before .fetch .ensures) (c .before .before .size-of .ensures .is _ _ (c .before .before .before .before .before .fetch .ensures)) (sym (c .before .before .before .before .is-element .ensures) ∙ not-false _ (c .before .before .before .if1 .left)) (c .if2 .taken))
 
 padded-requires : tie.Need-padded-requires
-padded-requires c κs = omega (arith, element-near (c .before .before .before .before .before .fetch .ensures) (c .before .before .before .before .before .before .before .pre) (sym (c .before .before .before .before .is-element .ensures) ∙ not-false _ (c .before .before .before .if1 .left)))
+padded-requires c κs = (c .before .before .before .before .before .before .before .pre, omega (arith, element-near (c .before .before .before .before .before .fetch .ensures) (c .before .before .before .before .before .before .before .pre) (sym (c .before .before .before .before .is-element .ensures) ∙ not-false _ (c .before .before .before .if1 .left))))
 
 returns-3 : tie.Need-returns-3
-returns-3 c = sym (element-unpadded (c .before .before .before .before .before .before .before .fetch .ensures) (sym (c .before .before .before .before .before .before .is-element .ensures) ∙ not-false _ (c .before .before .before .before .before .if1 .left)) (c .before .before .before .if2 .left) (c .before .padded .ensures (c .before .before .before .before .before .before .before .fetch .ensures .b)) (not-true _ (c .if3 .taken)))
-
-add-t8 : tie.Need-add-t8
-add-t8 c = omega (arith, element-near (c .before .before .before .before .before .before .before .fetch .ensures) (c .before .before .before .before .before .before .before .before .before .pre) (sym (c .before .before .before .before .before .before .is-element .ensures) ∙ not-false _ (c .before .before .before .before .before .if1 .left)))
-
-add-t9 : tie.Need-add-t9
-add-t9 c = search needs
-
-add-t11 : tie.Need-add-t11
-add-t11 c = omega (arith, element-near (c .before .before .before .before .before .before .before .fetch .ensures) (c .before .before .before .before .before .before .before .before .before .pre) (sym (c .before .before .before .before .before .before .is-element .ensures) ∙ not-false _ (c .before .before .before .before .before .if1 .left)))
+returns-3 c = sym (element-text (c .before .before .before .before .before .before .before .fetch .ensures) (c .before .before .before .before .size-of .ensures .is _ _ (c .before .before .before .before .before .before .before .fetch .ensures)) (sym (c .before .before .before .before .before .before .is-element .ensures) ∙ not-false _ (c .before .before .before .before .before .if1 .left)) (c .before .before .if2 .left) (c .before .padded .ensures (c .before .before .before .before .before .before .before .fetch .ensures .b)) (c .if3 .taken))
 
 returns-4 : tie.Need-returns-4
-returns-4 c = sym (element-text (c .before .before .before .before .before .before .before .fetch .ensures) (sym (c .before .before .before .before .before .before .is-element .ensures) ∙ not-false _ (c .before .before .before .before .before .if1 .left)) (c .before .before .before .if2 .left) (c .before .padded .ensures (c .before .before .before .before .before .before .before .fetch .ensures .b)) (not-false _ (c .if3 .left)))
+returns-4 c = sym (element-unpadded (c .before .before .before .before .before .before .before .fetch .ensures) (c .before .before .before .before .size-of .ensures .is _ _ (c .before .before .before .before .before .before .before .fetch .ensures)) (sym (c .before .before .before .before .before .before .is-element .ensures) ∙ not-false _ (c .before .before .before .before .before .if1 .left)) (c .before .before .if2 .left) (c .before .padded .ensures (c .before .before .before .before .before .before .before .fetch .ensures .b)) (c .if3 .left))
 
 pub element-end-spec : {M : Type 1} → statement M
 element-end-spec =
@@ -49,12 +40,9 @@ element-end-spec =
     fetch-requires
     is-element-requires
     returns
-    add-t7
+    size-of-requires
+    add-end
     returns-2
-    cast-b
     padded-requires
     returns-3
-    add-t8
-    add-t9
-    add-t11
     returns-4)

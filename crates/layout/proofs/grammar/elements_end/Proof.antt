@@ -4,7 +4,8 @@ use mathlib.Core.Path.{_≡_, sym, _∙_}
 use native.Mathlib.Omega.{arith}
 use native.Mathlib.Nat.{sub-zero}
 use Rattle.rules.specs.Layout.{inRow, elementEnd}
-use Rattle.layout.proofs.GrammarLaws.{row-go, row-broken, row-done, got, lost}
+use Rattle.laws.specs.Reads.{in-row-go, in-row-broken, in-row-done}
+use Rattle.layout.proofs.GrammarLaws.{got, lost}
 use borrow.Author.Needs.{needs}
 use Rattle.layout.proofs.grammar.elements_end.Statement.{statement}
 use Rattle.layout.proofs.grammar.elements_end.Tie as tie
@@ -28,7 +29,7 @@ enum-told : tie.Need-enum-told Inv-loop μ-loop
 enum-told c = search needs
 
 returns : tie.Need-returns Inv-loop μ-loop
-returns c = sym (row-broken _ _ _ _ (c .before .before .before .loop-test .taken) (lost (c .before .before .element-end .ensures) (c .enum-told .given .1))) ∙ c .before .before .before .before .loop .inv .1
+returns c = sym (in-row-broken _ _ _ _ (c .before .before .before .loop-test .taken) (lost (c .before .before .element-end .ensures) (c .enum-told .given .1))) ∙ c .before .before .before .before .loop .inv .1
 
 add-k : tie.Need-add-k Inv-loop μ-loop
 add-k c = search needs
@@ -37,10 +38,10 @@ loop-less : tie.Need-loop-less Inv-loop μ-loop
 loop-less c = search needs
 
 loop-again : tie.Need-loop-again Inv-loop μ-loop
-loop-again c = (omega arith, sym (row-go _ _ _ _ _ (c .before .before .before .before .loop-test .taken) (got (c .before .before .before .element-end .ensures) (c .before .next .given .1))) ∙ c .before .before .before .before .before .loop .inv .1)
+loop-again c = (omega arith, sym (in-row-go _ _ _ _ _ (c .before .before .before .before .loop-test .taken) (got (c .before .before .before .element-end .ensures) (c .before .next .given .1))) ∙ c .before .before .before .before .before .loop .inv .1)
 
 returns-2 : tie.Need-returns-2 Inv-loop μ-loop
-returns-2 c = sym (row-done _ _ _ _ (c .loop-test .left)) ∙ c .before .loop .inv .1
+returns-2 c = sym (in-row-done _ _ _ _ (c .loop-test .left)) ∙ c .before .loop .inv .1
 
 pub elements-end-spec : {M : Type 1} → statement M
 elements-end-spec =

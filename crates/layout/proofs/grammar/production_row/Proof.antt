@@ -3,13 +3,13 @@ use borrow.Author.Needs.{needs}
 use native.Mathlib.Omega.{arith}
 use Rattle.rules.specs.Records.{recordCount}
 use Rattle.rules.specs.Layout.{whileKind, productionEnd}
-use Rattle.layout.proofs.GrammarLaws.{Left, left-start, left-stop, left-go, left-broken, kind-here, kind-other, near, inside, production-number, production-over, production-elements, elements-grow, got, lost}
+use Rattle.layout.proofs.GrammarLaws.{ThingsLeft, left-start, left-stop, left-go, left-broken, kind-here, kind-other, near, inside, production-number, production-over, production-elements, elements-grow, got, lost}
 use borrow.Author.Needs.{needs}
 use Rattle.layout.proofs.grammar.production_row.Statement.{statement}
 use Rattle.layout.proofs.grammar.production_row.Tie as tie
 
 abbrev Inv-loop : tie.InvT-loop
-Inv-loop g start p₀ n₀ p n = Left g 3 (productionEnd g) (whileKind g 3 (productionEnd g) (recordCount g) 0 start) n p
+Inv-loop g start p₀ n₀ p n = ThingsLeft g 3 (productionEnd g) (whileKind g 3 (productionEnd g) (recordCount g) 0 start) n p
 
 abbrev μ-loop : tie.MeasureT-loop
 μ-loop g start p₀ n₀ p n = recordCount g - p
@@ -54,7 +54,7 @@ add-n : tie.Need-add-n Inv-loop μ-loop
 add-n c = search needs
 
 loop-less : tie.Need-loop-less Inv-loop μ-loop
-loop-less c = omega (arith, inside (c .before .before .before .before .before .before .before .before .before .before .before .before .before .before .pre) _ 2 (kind-here (c .before .before .before .before .before .before .before .before .before .before .before .fetch .ensures) 3 (c .before .before .before .before .before .before .before .before .before .if1 .left)), elements-grow _ _ _ _ (got (c .before .before .before .elements-end .ensures) (c .before .next .given .1)))
+loop-less c = omega (arith, inside _ (c .before .before .before .before .before .before .before .before .before .before .before .before .before .before .pre) _ 2 (kind-here (c .before .before .before .before .before .before .before .before .before .before .before .fetch .ensures) 3 (c .before .before .before .before .before .before .before .before .before .if1 .left)), elements-grow _ _ _ _ (got (c .before .before .before .elements-end .ensures) (c .before .next .given .1)))
 
 loop-again : tie.Need-loop-again Inv-loop μ-loop
 loop-again c = left-go (c .before .before .before .before .before .before .before .before .before .before .before .before .before .before .pre) (kind-here (c .before .before .before .before .before .before .before .before .before .before .before .fetch .ensures) 3 (c .before .before .before .before .before .before .before .before .before .if1 .left)) (c .before .before .before .before .before .before .before .before .before .before .before .before .loop .inv) _ (production-elements (c .before .before .before .before .before .before .before .before .before .before .before .fetch .ensures) _ _ (c .before .before .before .before .before .before .before .if2 .left) (c .before .before .before .before .before .if3 .left) (got (c .before .before .before .elements-end .ensures) (c .before .next .given .1))) (elements-grow _ _ _ _ (got (c .before .before .before .elements-end .ensures) (c .before .next .given .1)))

@@ -27,14 +27,14 @@ loop-holds c = (omega arith, rw sub-zero, c .place-of .ensures)
 fetch-at-requires : tie.Need-fetch-at-requires Inv-loop μ-loop
 fetch-at-requires c κs = search needs
 
-element-size-requires : tie.Need-element-size-requires Inv-loop μ-loop
-element-size-requires c κs = search needs
+size-of-requires : tie.Need-size-of-requires Inv-loop μ-loop
+size-of-requires c κs = search needs
 
 add-q : tie.Need-add-q Inv-loop μ-loop
-add-q c = omega (arith, after-room _ _ _ _ _ (c .before .before .loop-test .taken) (c .before .before .before .loop .inv .1), c .element-size .ensures _ _ (c .before .fetch-at .ensures _ (c .before .before .before .loop .inv .2)), c .before .before .before .before .before .before .pre)
+add-q c = omega (arith, after-room _ _ _ _ _ (c .before .before .loop-test .taken) (c .before .before .before .loop .inv .1), c .size-of .ensures .is _ _ (c .before .fetch-at .ensures _ (c .before .before .before .loop .inv .2)), c .before .before .before .before .before .before .pre)
 
 forward-requires : tie.Need-forward-requires Inv-loop μ-loop
-forward-requires c κs = reach _ _ _ (c .before .before .before .loop .inv .2) (omega (arith, after-room _ _ _ _ _ (c .before .before .loop-test .taken) (c .before .before .before .loop .inv .1), c .element-size .ensures _ _ (c .before .fetch-at .ensures _ (c .before .before .before .loop .inv .2)), c .before .before .before .before .before .before .pre))
+forward-requires c κs = reach _ _ _ (c .before .before .before .loop .inv .2) (omega (arith, after-room _ _ _ _ _ (c .before .before .loop-test .taken) (c .before .before .before .loop .inv .1), c .size-of .ensures .is _ _ (c .before .fetch-at .ensures _ (c .before .before .before .loop .inv .2)), c .before .before .before .before .before .before .pre))
 
 add-k : tie.Need-add-k Inv-loop μ-loop
 add-k c = search needs
@@ -43,7 +43,7 @@ loop-less : tie.Need-loop-less Inv-loop μ-loop
 loop-less c = search needs
 
 loop-again : tie.Need-loop-again Inv-loop μ-loop
-loop-again c = (omega arith, rw (c .before .element-size .ensures _ _ (c .before .before .fetch-at .ensures _ (c .before .before .before .before .loop .inv .2))) (sym (after-go _ _ _ _ (c .before .before .before .loop-test .taken)) ∙ c .before .before .before .before .loop .inv .1), c .forward .ensures _ (c .before .before .before .before .loop .inv .2))
+loop-again c = (omega arith, rw (c .before .size-of .ensures .is _ _ (c .before .before .fetch-at .ensures _ (c .before .before .before .before .loop .inv .2))) (sym (after-go _ _ _ _ (c .before .before .before .loop-test .taken)) ∙ c .before .before .before .before .loop .inv .1), c .forward .ensures _ (c .before .before .before .before .loop .inv .2))
 
 returns : tie.Need-returns Inv-loop μ-loop
 returns c = sym (after-done _ _ _ _ (c .loop-test .left)) ∙ c .before .loop .inv .1
@@ -57,7 +57,7 @@ after-elements-spec =
     place-of-requires
     loop-holds
     fetch-at-requires
-    element-size-requires
+    size-of-requires
     add-q
     forward-requires
     add-k

@@ -4,13 +4,13 @@ use native.Mathlib.Omega.{arith}
 use lib.ListN.{length}
 use Rattle.layout.specs.Heads.{withRecords}
 use Rattle.layout.proofs.GrammarLaws.{kind-here, kind-other}
-use Rattle.layout.proofs.HeadsFillLaws.{Filling, fill-start, fill-stop, fill-room, fill-near, fill-go, records-next}
+use Rattle.layout.proofs.HeadsFillLaws.{FillingRow, fill-start, fill-stop, fill-room, fill-near, fill-go, records-next}
 use borrow.Author.Needs.{needs}
 use Rattle.layout.proofs.heads.first_row.Statement.{statement}
 use Rattle.layout.proofs.heads.first_row.Tie as tie
 
 abbrev Inv-loop : tie.InvT-loop
-Inv-loop s table₀ p₀ n₀ table p n = Filling s (withRecords s) 1 0 table₀ table n p
+Inv-loop s table₀ p₀ n₀ table p n = FillingRow s (withRecords s) 1 0 table₀ table n p
 
 abbrev μ-loop : tie.MeasureT-loop
 μ-loop s table₀ p₀ n₀ table p n = length table₀ - n

@@ -5,13 +5,13 @@ use lib.ListN.{length}
 use mathlib.Core.Path.{_∙_}
 use Rattle.rules.specs.Grammar.{productionSize}
 use Rattle.layout.proofs.GrammarLaws.{kind-here, kind-other}
-use Rattle.layout.proofs.HeadsFillLaws.{Filling, fill-start, fill-stop, fill-room, fill-near, fill-go, elements-from}
+use Rattle.layout.proofs.HeadsFillLaws.{FillingRow, fill-start, fill-stop, fill-room, fill-near, fill-go, elements-from}
 use borrow.Author.Needs.{needs}
 use Rattle.layout.proofs.heads.production_row.Statement.{statement}
 use Rattle.layout.proofs.heads.production_row.Tie as tie
 
 abbrev Inv-loop : tie.InvT-loop
-Inv-loop g start table₀ p₀ n₀ table p n = Filling g (productionSize g) 3 start table₀ table n p
+Inv-loop g start table₀ p₀ n₀ table p n = FillingRow g (productionSize g) 3 start table₀ table n p
 
 abbrev μ-loop : tie.MeasureT-loop
 μ-loop g start table₀ p₀ n₀ table p n = length table₀ - n
@@ -47,7 +47,7 @@ add-after-elements : tie.Need-add-after-elements Inv-loop μ-loop
 add-after-elements c = omega (arith, fill-near (kind-here (c .before .before .before .fetch .ensures) 3 (c .before .if1 .left)) (c .before .before .before .before .loop .inv) .0)
 
 after-elements-requires : tie.Need-after-elements-requires Inv-loop μ-loop
-after-elements-requires c κs = omega (arith, fill-near (kind-here (c .before .before .before .fetch .ensures) 3 (c .before .if1 .left)) (c .before .before .before .before .loop .inv) .1, elements-from (c .before .before .before .fetch .ensures))
+after-elements-requires c κs = (c .before .before .before .before .loop .inv .ahead .sized, omega (arith, fill-near (kind-here (c .before .before .before .fetch .ensures) 3 (c .before .if1 .left)) (c .before .before .before .before .loop .inv) .1, elements-from (c .before .before .before .fetch .ensures)))
 
 loop-less : tie.Need-loop-less Inv-loop μ-loop
 loop-less c = omega (arith, fill-room (kind-here (c .before .before .before .before .fetch .ensures) 3 (c .before .before .if1 .left)) (c .before .before .before .before .before .loop .inv), c .before .before .before .before .before .loop .inv .same)

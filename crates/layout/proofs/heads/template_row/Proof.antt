@@ -4,13 +4,13 @@ use native.Mathlib.Omega.{arith}
 use lib.ListN.{length}
 use Rattle.rules.specs.Records.{fieldC}
 use Rattle.layout.proofs.GrammarLaws.{kind-here, kind-other}
-use Rattle.layout.proofs.HeadsFillLaws.{Filling, fill-start, fill-stop, fill-room, fill-near, fill-go, size-next}
+use Rattle.layout.proofs.HeadsFillLaws.{FillingRow, fill-start, fill-stop, fill-room, fill-near, fill-go, size-next}
 use borrow.Author.Needs.{needs}
 use Rattle.layout.proofs.heads.template_row.Statement.{statement}
 use Rattle.layout.proofs.heads.template_row.Tie as tie
 
 abbrev Inv-loop : tie.InvT-loop
-Inv-loop t start table₀ p₀ n₀ table p n = Filling t (fieldC t) 3 start table₀ table n p
+Inv-loop t start table₀ p₀ n₀ table p n = FillingRow t (fieldC t) 3 start table₀ table n p
 
 abbrev μ-loop : tie.MeasureT-loop
 μ-loop t start table₀ p₀ n₀ table p n = length table₀ - n

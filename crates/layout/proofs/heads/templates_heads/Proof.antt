@@ -1,22 +1,42 @@
-use Rattle.layout.proofs.HeadsRowLaws.{templates-rows, first-ahead, first-listed, second-ahead, second-listed}
+use native.Mathlib.Omega.{arith}
+use Rattle.layout.proofs.HeadsRowLaws.{templates-rows, first-ahead, in-table, second-ahead, tables}
+use borrow.Author.Needs.{needs}
 use Rattle.layout.proofs.heads.templates_heads.Statement.{statement}
 use Rattle.layout.proofs.heads.templates_heads.Tie as tie
 
 first-row-requires : tie.Need-first-row-requires
-first-row-requires c κs = first-ahead (templates-rows (c .before .before .before .before .pre .0)) (c .before .before .before .before .pre .1 .in-first)
+first-row-requires c κs = first-ahead (templates-rows (c .before .before .before .pre .0)) (c .before .before .before .pre .1)
+
+mul-template-row : tie.Need-mul-template-row
+mul-template-row c = omega (arith, in-table (templates-rows (c .before .before .before .before .before .before .pre .0)) (c .before .before .first-row .ensures) (c .before .before .first-row .kept .1 .0) (c .before .before .before .before .before .before .pre .1), c .before .before .first-row .kept .1 .0, c .before .before .before .before .before .before .good)
+
+sub-template-row : tie.Need-sub-template-row
+sub-template-row c = in-table (templates-rows (c .before .before .before .before .before .before .pre .0)) (c .before .before .first-row .ensures) (c .before .before .first-row .kept .1 .0) (c .before .before .before .before .before .before .pre .1)
+
+part-template-row-start : tie.Need-part-template-row-start
+part-template-row-start c = in-table (templates-rows (c .before .before .before .before .before .before .pre .0)) (c .before .before .first-row .ensures) (c .before .before .first-row .kept .1 .0) (c .before .before .before .before .before .before .pre .1)
+
+part-template-row-end : tie.Need-part-template-row-end
+part-template-row-end c = search needs
 
 template-row-requires : tie.Need-template-row-requires
-template-row-requires c κs = second-ahead (templates-rows (c .before .before .before .before .before .before .before .before .pre .0)) (c .before .before .before .first-row .ensures) (c .before .before .before .before .before .before .before .before .pre .1 .in-second)
+template-row-requires c κs = second-ahead (templates-rows (c .before .before .before .before .before .before .before .pre .0)) (c .before .before .before .first-row .ensures) (c .before .before .before .first-row .kept .1 .0) (c .before .before .before .before .before .before .before .pre .1)
 
 same-length : tie.Need-same-length
-same-length c = c .before .before .before .before .before .before .first-row .kept .1 .0
-
-same-length-2 : tie.Need-same-length-2
-same-length-2 c = c .before .before .template-row .kept .1 .1 .0
+same-length c = search needs
 
 returns : tie.Need-returns
-returns c = record { first = first-listed (templates-rows (c .before .before .before .before .before .before .before .before .before .before .before .pre .0)) (c .before .before .before .before .before .before .first-row .ensures); second = second-listed (templates-rows (c .before .before .before .before .before .before .before .before .before .before .before .pre .0)) (c .before .before .before .before .before .before .first-row .ensures) (c .before .before .template-row .ensures) }
+returns c = tables (templates-rows (c .before .before .before .before .before .before .before .before .before .before .pre .0)) (c .before .before .before .before .before .before .first-row .ensures) (c .before .before .before .before .before .before .first-row .kept .1 .0) (c .before .before .before .before .before .before .before .before .before .before .pre .1) (c .before .before .template-row .ensures) (c .before .before .template-row .kept .1 .1 .0)
 
 pub templates-heads-spec : {M : Type 1} → statement M
 templates-heads-spec =
-    tie.close (tie.spec first-row-requires template-row-requires same-length same-length-2 returns)
+    tie.close
+    (tie.spec
+    first-row-requires
+    mul-template-row
+    sub-template-row
+    part-template-row-start
+    part-template-row-end
+    template-row-requires
+    same-length
+    returns)

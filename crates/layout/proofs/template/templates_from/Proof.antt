@@ -28,7 +28,7 @@ returns : tie.Need-returns Inv-loop μ-loop
 returns c = c .tail-right .ensures ∙ templates-stop (c .before .before .before .before .before .before .pre) _ (c .before .before .before .fetch .ensures) (c .before .before .before .before .loop .inv) (c .before .if1 .taken)
 
 template-right-requires : tie.Need-template-right-requires Inv-loop μ-loop
-template-right-requires c κs = record { well-sized = c .before .before .before .before .before .pre; fetched = c .before .before .fetch .ensures; inside = inside (c .before .before .before .before .before .pre) _ 2 (kind-here (c .before .before .fetch .ensures) 3 (c .if1 .left)) }
+template-right-requires c κs = record { sized = c .before .before .before .before .before .pre; fetched = c .before .before .fetch .ensures; inside = inside _ (c .before .before .before .before .before .pre) _ 2 (kind-here (c .before .before .fetch .ensures) 3 (c .if1 .left)) }
 
 returns-2 : tie.Need-returns-2 Inv-loop μ-loop
 returns-2 c = templates-wrong (c .before .before .before .before .before .before .before .pre) _ (c .before .before .before .before .fetch .ensures) (c .before .before .before .before .before .loop .inv) (c .before .before .if1 .left) (sym (not-true _ (c .if2 .taken)) ∙ c .before .template-right .ensures)
@@ -40,7 +40,7 @@ add-q : tie.Need-add-q Inv-loop μ-loop
 add-q c = omega (arith, near (c .before .before .before .before .before .fetch .ensures) (c .before .before .before .before .before .before .before .before .pre) 2 (c .before .before .before .if1 .left))
 
 loop-less : tie.Need-loop-less Inv-loop μ-loop
-loop-less c = omega (arith, inside (c .before .before .before .before .before .before .before .before .pre) _ 2 (kind-here (c .before .before .before .before .before .fetch .ensures) 3 (c .before .before .before .if1 .left)), templates-go (c .before .before .before .before .before .before .before .before .pre) _ (c .before .before .before .before .before .fetch .ensures) (c .before .before .before .before .before .before .loop .inv) (c .before .before .before .if1 .left) (sym (not-false _ (c .before .if2 .left)) ∙ c .before .before .template-right .ensures) .0)
+loop-less c = omega (arith, inside _ (c .before .before .before .before .before .before .before .before .pre) _ 2 (kind-here (c .before .before .before .before .before .fetch .ensures) 3 (c .before .before .before .if1 .left)), templates-go (c .before .before .before .before .before .before .before .before .pre) _ (c .before .before .before .before .before .fetch .ensures) (c .before .before .before .before .before .before .loop .inv) (c .before .before .before .if1 .left) (sym (not-false _ (c .before .if2 .left)) ∙ c .before .before .template-right .ensures) .0)
 
 loop-again : tie.Need-loop-again Inv-loop μ-loop
 loop-again c = templates-go (c .before .before .before .before .before .before .before .before .pre) _ (c .before .before .before .before .before .fetch .ensures) (c .before .before .before .before .before .before .loop .inv) (c .before .before .before .if1 .left) (sym (not-false _ (c .before .if2 .left)) ∙ c .before .before .template-right .ensures) .1

@@ -30,7 +30,7 @@ returns : tie.Need-returns Inv-loop μ-loop
 returns c = types-stop (c .before .before .before .before .before .before .pre) (c .before .before .fetch-at .ensures _ (c .before .before .before .loop .inv .1)) (c .before .before .before .loop .inv .2) (c .if1 .taken)
 
 type-right-requires : tie.Need-type-right-requires Inv-loop μ-loop
-type-right-requires c κs = record { index = c .before .before .before .loop .p; place-is = c .before .before .before .loop .inv .1; near = omega (arith, c .before .before .before .loop .inv .0) }
+type-right-requires c κs = record { sized = c .before .before .before .before .before .before .pre; index = c .before .before .before .loop .p; place-is = c .before .before .before .loop .inv .1; near = omega (arith, c .before .before .before .loop .inv .0) }
 
 returns-2 : tie.Need-returns-2 Inv-loop μ-loop
 returns-2 c = types-broken (c .before .before .before .before .before .before .before .before .pre) (c .before .before .before .before .fetch-at .ensures _ (c .before .before .before .before .before .loop .inv .1)) (c .before .before .before .before .before .loop .inv .2) (c .before .before .if1 .left) _ (c .before .type-right .ensures _ (c .before .before .before .before .before .loop .inv .1) (c .before .before .before .before .fetch-at .ensures _ (c .before .before .before .before .before .loop .inv .1))) (not-true _ (c .if2 .taken))
@@ -48,7 +48,7 @@ forward-requires : tie.Need-forward-requires Inv-loop μ-loop
 forward-requires c κs = reach _ (c .before .before .before .before .before .before .loop .inv .1) (omega (arith, c .before .before .before .before .before .before .loop .inv .0)) (search needs)
 
 loop-less : tie.Need-loop-less Inv-loop μ-loop
-loop-less c = omega (arith, inside (c .before .before .before .before .before .before .before .before .before .before .pre) _ 0 (kind-here (c .before .before .before .before .before .before .fetch-at .ensures _ (c .before .before .before .before .before .before .before .loop .inv .1)) 1 (c .before .before .before .before .if1 .left)))
+loop-less c = omega (arith, inside _ (c .before .before .before .before .before .before .before .before .before .before .pre) _ 0 (kind-here (c .before .before .before .before .before .before .fetch-at .ensures _ (c .before .before .before .before .before .before .before .loop .inv .1)) 1 (c .before .before .before .before .if1 .left)))
 
 loop-again : tie.Need-loop-again Inv-loop μ-loop
 loop-again c = (omega (arith, near (c .before .before .before .before .before .before .fetch-at .ensures _ (c .before .before .before .before .before .before .before .loop .inv .1)) (c .before .before .before .before .before .before .before .before .before .before .pre) 0 (c .before .before .before .before .if1 .left), c .before .struct-known2 .given), c .forward .ensures _ (c .before .before .before .before .before .before .before .loop .inv .1), types-go (c .before .before .before .before .before .before .before .before .before .before .pre) (c .before .before .before .before .before .before .fetch-at .ensures _ (c .before .before .before .before .before .before .before .loop .inv .1)) (c .before .before .before .before .before .before .before .loop .inv .2) (c .before .before .before .before .if1 .left) _ (c .before .before .before .type-right .ensures _ (c .before .before .before .before .before .before .before .loop .inv .1) (c .before .before .before .before .before .before .fetch-at .ensures _ (c .before .before .before .before .before .before .before .loop .inv .1))) (not-false _ (c .before .before .if2 .left)))

@@ -5,6 +5,7 @@ use native.Mathlib.Nat.{sub-zero}
 use Rattle.rules.specs.Value.{valueSize}
 use Rattle.stream.specs.Record.{placeOf}
 use Rattle.layout.specs.Tree.{chain}
+use Rattle.laws.specs.Reads.{few-records}
 use Rattle.layout.proofs.CommonLaws.{reach, in-stream}
 use Rattle.layout.proofs.TreeTurns.{chain-done, chain-late, chain-empty, chain-go}
 use borrow.Author.Needs.{needs}
@@ -30,10 +31,10 @@ size-of-requires : tie.Need-size-of-requires Inv-loop μ-loop
 size-of-requires c κs = search needs
 
 returns-2 : tie.Need-returns-2 Inv-loop μ-loop
-returns-2 c = sym (chain-empty _ _ _ _ _ (c .before .before .before .before .loop-test .taken) (c .before .before .before .if1 .left) _ (c .before .size-of .ensures .size-is _ _ (c .before .before .fetch-in .ensures _ (c .before .before .before .before .before .loop .inv .0))) (c .if2 .taken)) ∙ c .before .before .before .before .before .loop .inv .3
+returns-2 c = sym (chain-empty _ _ _ _ _ (c .before .before .before .before .loop-test .taken) (c .before .before .before .if1 .left) _ (c .before .size-of .ensures .is _ _ (c .before .before .fetch-in .ensures _ (c .before .before .before .before .before .loop .inv .0))) (c .if2 .taken)) ∙ c .before .before .before .before .before .loop .inv .3
 
 add-q : tie.Need-add-q Inv-loop μ-loop
-add-q c = omega (arith, c .before .size-of .ensures .small, c .before .before .before .if1 .left, c .before .before .before .before .before .before .before .pre .within .few)
+add-q c = omega (arith, c .before .size-of .ensures .small, c .before .before .before .if1 .left, few-records _ (c .before .before .before .before .before .before .before .pre .within .sized), c .before .before .before .before .before .before .before .pre .within .inside)
 
 forward-requires : tie.Need-forward-requires Inv-loop μ-loop
 forward-requires c κs = reach _ (c .before .before .before .before .before .loop .inv .0) (omega arith) (omega (arith, c .before .size-of .ensures .small))
@@ -45,7 +46,7 @@ loop-less : tie.Need-loop-less Inv-loop μ-loop
 loop-less c = omega (arith, c .before .before .before .before .before .loop-test .taken)
 
 loop-again : tie.Need-loop-again Inv-loop μ-loop
-loop-again c = (c .forward .ensures _ (c .before .before .before .before .before .before .loop .inv .0), omega (arith, c .before .before .size-of .ensures .small, c .before .before .before .before .if1 .left, c .before .before .before .before .before .before .before .before .pre .within .few), omega (arith, c .before .before .before .before .before .loop-test .taken), sym (chain-go _ _ _ _ _ (c .before .before .before .before .before .loop-test .taken) (c .before .before .before .before .if1 .left) _ (c .before .before .size-of .ensures .size-is _ _ (c .before .before .before .fetch-in .ensures _ (c .before .before .before .before .before .before .loop .inv .0))) (c .before .if2 .left)) ∙ c .before .before .before .before .before .before .loop .inv .3)
+loop-again c = (c .forward .ensures _ (c .before .before .before .before .before .before .loop .inv .0), omega (arith, c .before .before .size-of .ensures .small, c .before .before .before .before .if1 .left, few-records _ (c .before .before .before .before .before .before .before .before .pre .within .sized), c .before .before .before .before .before .before .before .before .pre .within .inside), omega (arith, c .before .before .before .before .before .loop-test .taken), sym (chain-go _ _ _ _ _ (c .before .before .before .before .before .loop-test .taken) (c .before .before .before .before .if1 .left) _ (c .before .before .size-of .ensures .is _ _ (c .before .before .before .fetch-in .ensures _ (c .before .before .before .before .before .before .loop .inv .0))) (c .before .if2 .left)) ∙ c .before .before .before .before .before .before .loop .inv .3)
 
 returns-3 : tie.Need-returns-3 Inv-loop μ-loop
 returns-3 c = sym (chain-done _ _ _ _ _ (c .loop-test .left)) ∙ c .before .loop .inv .3

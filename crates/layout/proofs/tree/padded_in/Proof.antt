@@ -2,30 +2,35 @@ use mathlib.Core.Path.{_∙_}
 use native.Mathlib.Omega.{arith}
 use Rattle.rules.specs.Records.{units}
 use Rattle.layout.proofs.CommonLaws.{reach, in-stream, padding-none, padding-is}
-use borrow.Author.Needs.{needs}
 use Rattle.layout.proofs.tree.padded_in.Statement.{statement}
 use Rattle.layout.proofs.tree.padded_in.Tie as tie
 
 returns : tie.Need-returns
 returns c = λ p e b. padding-none _ _ _ b (c .if1 .taken)
 
-add-forward : tie.Need-add-forward
-add-forward c = search needs
+units-requires : tie.Need-units-requires
+units-requires c κs = omega arith
 
 forward-requires : tie.Need-forward-requires
-forward-requires c κs = reach _ (c .before .before .pre .place-is) (omega arith) (search needs)
+unfolding units
+forward-requires c κs = reach _ (c .before .before .before .pre .place-is) (omega (arith, c .before .before .before .pre .near)) (omega (arith, c .units .ensures))
 
 fetch-in-requires : tie.Need-fetch-in-requires
-unfolding units
-fetch-in-requires c κs = in-stream (c .before .before .before .args .s .now) (c .forward .ensures _ (c .before .before .before .pre .place-is)) (omega (arith, c .before .before .before .pre .inside))
+fetch-in-requires c κs = in-stream (c .before .before .before .before .args .s .now) (c .forward .ensures _ (c .before .before .before .before .pre .place-is)) (omega (arith, c .before .before .before .before .pre .inside, c .before .units .ensures))
 
 zero-from-requires : tie.Need-zero-from-requires
 zero-from-requires c κs = omega arith
 
 returns-2 : tie.Need-returns-2
-returns-2 c = λ p e b. c .zero-from .ensures ∙ padding-is _ _ _ b _ (c .before .fetch-in .ensures _ (c .before .before .forward .ensures _ e)) (c .before .before .before .if1 .left)
+returns-2 c = λ p e b. c .zero-from .ensures ∙ padding-is _ _ _ b _ (c .before .before .before .units .ensures) _ (c .before .fetch-in .ensures _ (c .before .before .forward .ensures _ e)) (c .before .before .before .before .if1 .left)
 
 pub padded-in-spec : {M : Type 1} → statement M
 padded-in-spec =
     tie.close
-    (tie.spec returns add-forward forward-requires fetch-in-requires zero-from-requires returns-2)
+    (tie.spec
+    returns
+    units-requires
+    forward-requires
+    fetch-in-requires
+    zero-from-requires
+    returns-2)
