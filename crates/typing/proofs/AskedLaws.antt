@@ -13,7 +13,8 @@ use Rattle.rules.specs.Grammar.{productions, Element, elementNumbered, elementA
 use Rattle.rules.specs.Typing.{positions}
 use Rattle.rules.specs.declared.Position.{Position}
 use Rattle.rules.specs.declared.Position.the-variants.{Repetition}
-use Rattle.typing.specs.Asked.{askedAmong, askedOf, positionNumbered, positionAt, Row, Filled}
+use Rattle.laws.specs.Lists.{length-map}
+use Rattle.typing.specs.Asked.{askedAmong, askedOf, positionNumbered, positionAt, AskedRow, AskedFilled}
 
 -- the positions of a production are those of its asked elements
 
@@ -40,15 +41,11 @@ pub positions-are : (g : List ℕ) (q : ℕ) → positions (elements g q) ≡ ma
 unfolding elements askedOf
 positions-are g q = positions-among g (elementHeads g q)
 
-length-map : {A B : Type 0} (f : A → B) (xs : List A) → length (map f xs) ≡ length xs
-length-map f [] = refl
-length-map f (x ∷ xs) = ap suc (length-map f xs)
-
 pub positions-count : (g : List ℕ) (q : ℕ) → length (positions (elements g q)) ≡ length (askedOf g q)
 positions-count g q = ap length (positions-are g q) ∙ length-map (positionAt g) (askedOf g q)
 
 -- the row of a production that was found by its number
-pub row-of : (g hs asked : List ℕ) → hs ≡ productions g → Filled g asked → (k q : ℕ) → nth hs k ≡ some q → Row g asked q
+pub row-of : (g hs asked : List ℕ) → hs ≡ productions g → AskedFilled g asked → (k q : ℕ) → nth hs k ≡ some q → AskedRow g asked q
 row-of g hs asked e f k q h = f .rows k q (rw e at h)
 
 pub repetition-at : (a b b′ : ℕ) → b ≡ b′ → (a ≡ 1 → ⊥) → (a ≡ 2 → ⊥) → Repetition b ≡ positionNumbered a b′

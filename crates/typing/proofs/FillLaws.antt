@@ -1,22 +1,23 @@
 -- Laws of filling the table of asked elements. Assumes nothing.
-use Prim.Native.Nat.{ℕ, zero, suc, _+_, _-_, _*_, _/_, _≤_, _<_}
+use Prim.Native.Nat.{ℕ, zero, suc, _+_, _-_, _*_, _≤_, _<_}
 use mathlib.Core.Path.{_≡_, refl, sym, ap, _∙_}
 use mathlib.Core.List.{List, [], _∷_, _++_, append-assoc, append-nil}
 use mathlib.Core.Bool.{Bool, true, false}
 use mathlib.Core.Option.{none, some, Option·some-ne-none}
 use native.Mathlib.Omega.{arith}
 use native.Mathlib.Nat.{sub-zero, le-of-suc-le-suc, not-suc-le-zero}
-use native.Mathlib.Numerals.{add-one}
 use lib.ListN.{length, getD, take, drop, set, length-set, length-take, length-drop, List·getD-eq-default}
-use lib.Seq.{getD-take, getD-drop, getD-set-same, take-set-le, drop-set-add, drop-set-lt, take-suc-set}
+use lib.Seq.{getD-take, getD-drop, getD-set-same, take-set-le, drop-set-add, drop-set-lt}
 use lib.Dec.{eqb, ltb}
 use borrow.Author.Tests.{eq-eqb, ne-eqb, eqb-true, ltb-true, ltb-false}
 use Rattle.rules.specs.Blocks.{streamLength}
-use Rattle.rules.specs.Records.{base, byteOf, kindOf, fieldA, fieldB, fieldD, units, heads, after, things, ofKind, nth, recordCount}
+use Rattle.rules.specs.Records.{base, byteOf, kindOf, fieldA, fieldD, heads, after, things, ofKind, nth, recordCount}
 use Rattle.rules.specs.Grammar.{elementSize, productionSize, grammarSize, grammarThings, productions, elementHeads}
-use Rattle.typing.specs.Asked.{askedAmong, askedOf, Row, Filled, RowPut}
-use Rattle.typing.proofs.AnswerLaws.{nth-some, nth-within, heads-done, heads-more}
-use Rattle.typing.proofs.KindLaws.{whole-blocks}
+use Rattle.laws.specs.Lists.{nth-some, nth-within}
+use Rattle.laws.specs.Reads.{whole-blocks}
+use Rattle.laws.specs.Rows.{heads-done, heads-more, length-heads}
+use Rattle.typing.specs.Asked.{askedAmong, askedOf, AskedRow, AskedFilled, RowPut}
+use Rattle.typing.proofs.AnswerLaws.{one-more}
 
 -- a record that is not all zeros stands in the stream, so its index is below 8,064
 
@@ -62,54 +63,48 @@ filling-start g q n table s k e h =
       done = rw (sub-zero n, e);
     }
 
-keyword-size : (g : List ℕ) (e b : ℕ) → fieldA g e ≡ 0 → b ≡ fieldB g e → 1 + (b + 7) / 8 ≡ elementSize g e
-unfolding elementSize units
-keyword-size g e b h k = sym (rw (h, ← k))
-
-asked-size : (g : List ℕ) (e : ℕ) → (fieldA g e ≡ 0 → ⊥) → 1 ≡ elementSize g e
+size-some : (g : List ℕ) (e : ℕ) → 1 ≤ elementSize g e
 unfolding elementSize
-asked-size g e h = sym (rw (ne-eqb _ _ h))
+size-some g e = omega arith
 
-module _ (g : List ℕ) (q n : ℕ) (before table : List ℕ) (e i count : ℕ) (F : Filling g q n before table e i count) (more : i < n) where
-  among-keyword : fieldA g e ≡ 0 → askedAmong g (heads (elementSize g) (n - i) e) ≡ askedAmong g (heads (elementSize g) (n - (i + 1)) (e + elementSize g e))
-  unfolding askedAmong
-  among-keyword h = rw (heads-more (elementSize g) n i e more, askedAmong, eq-eqb _ _ h)
+module _ {g : List ℕ} {q n : ℕ} {before table : List ℕ} {e i count : ℕ} (F : Filling g q n before table e i count) (more : i < n) where
+  among-more : (c : ℕ) → c ≡ elementSize g e → askedAmong g (heads (elementSize g) (n - i) e) ≡ askedAmong g (e ∷ heads (elementSize g) (n - (i + 1)) (e + c))
+  among-more c k = ap (askedAmong g) (heads-more (elementSize g) n i e more c k)
 
-  among-asked : (fieldA g e ≡ 0 → ⊥) → askedAmong g (heads (elementSize g) (n - i) e) ≡ e ∷ askedAmong g (heads (elementSize g) (n - (i + 1)) (e + elementSize g e))
-  unfolding askedAmong
-  among-asked h = rw (heads-more (elementSize g) n i e more, askedAmong, ne-eqb _ _ h)
+  module _ (c : ℕ) (size : c ≡ elementSize g e) (small : c ≤ 8193) where
+    pub filling-keyword : fieldA g e ≡ 0 → Filling g q n before table (e + c) (i + 1) count
+    unfolding askedAmong
+    filling-keyword h = record {
+      far = omega (arith, F .far);
+      turns = omega arith;
+      behind = omega (arith, F .behind);
+      inside = F .inside;
+      full = F .full;
+      kept = F .kept;
+      done = ap (λ (l : List ℕ). take count (drop (q + 1) table) ++ l) (sym (among-more c size ∙ rw (askedAmong, eq-eqb _ _ h))) ∙ F .done;
+    }
 
-  pub filling-keyword : fieldA g e ≡ 0 → (b : ℕ) → b ≡ fieldB g e → b < 65536 → Filling g q n before table (e + (1 + (b + 7) / 8)) (i + 1) count
-  filling-keyword h b k l = record {
-    far = omega (arith, F .far);
-    turns = omega arith;
-    behind = omega (arith, F .behind);
-    inside = F .inside;
-    full = F .full;
-    kept = F .kept;
-    done = rw (keyword-size g e b h k, ← among-keyword h) (F .done);
-  }
+    put-more : e < 8064 → take (count + 1) (drop (q + 1) (set table (q + 1 + count) e)) ≡ take count (drop (q + 1) table) ++ e ∷ []
+    put-more h = rw (drop-set-add (q + 1) table count e) (one-more (drop (q + 1) table) count e (simp length-drop (omega (arith, F .full, F .behind))))
 
-  put-more : e < 8064 → take (count + 1) (drop (q + 1) (set table (q + 1 + count) e)) ≡ take count (drop (q + 1) table) ++ e ∷ []
-  put-more h = rw (drop-set-add (q + 1) table count e, add-one count) (take-suc-set (drop (q + 1) table) count e (simp length-drop (omega (arith, F .full, F .behind))))
+    pub filling-asked : streamLength g ≡ none → (fieldA g e ≡ 0 → ⊥) → Filling g q n before (set table (q + 1 + count) e) (e + c) (i + 1) (count + 1)
+    unfolding askedAmong
+    filling-asked s h =
+        let l = asked-inside g e s h in
+        let m = size-some g e in
+        record {
+          far = omega (arith, F .far);
+          turns = omega arith;
+          behind = omega (arith, F .behind, size, m);
+          inside = omega (arith, F .behind);
+          full = length-set table _ _ ∙ F .full;
+          kept = take-set-le q table _ e (omega arith) ∙ F .kept;
+          done = rw (put-more l, append-assoc) (ap (λ (t : List ℕ). take count (drop (q + 1) table) ++ t) (sym (among-more c size ∙ rw (askedAmong, ne-eqb _ _ h))) ∙ F .done);
+        }
 
-  pub filling-asked : streamLength g ≡ none → (fieldA g e ≡ 0 → ⊥) → Filling g q n before (set table (q + 1 + count) e) (e + 1) (i + 1) (count + 1)
-  filling-asked s h =
-      let l = asked-inside g e s h in
-      let m : e + elementSize g e ≡ e + 1 = ap (λ (k : ℕ). e + k) (sym (asked-size g e h)) in
-      record {
-        far = omega (arith, F .far);
-        turns = omega arith;
-        behind = omega (arith, F .behind);
-        inside = omega (arith, F .behind);
-        full = length-set table _ _ ∙ F .full;
-        kept = take-set-le q table _ e (omega arith) ∙ F .kept;
-        done = rw (put-more l, append-assoc, ← m, ← among-asked h) (F .done);
-      }
-
-pub filling-end : (g : List ℕ) (q n : ℕ) (before table : List ℕ) (e i count : ℕ) → Filling g q n before table e i count → n ≤ i → RowPut g q before (set table q count)
+pub filling-end : {g : List ℕ} {q n : ℕ} {before table : List ℕ} {e i count : ℕ} → Filling g q n before table e i count → n ≤ i → RowPut g q before (set table q count)
 unfolding askedAmong
-filling-end g q n before table e i count F h =
+filling-end {g} {q} {n} {before} {table} {e} {i} {count} F h =
     let d : take count (drop (q + 1) table) ≡ askedOf g q = sym (append-nil _) ∙ (rw (heads-done (elementSize g) n i e h) at (F .done)) in
     let m : length (askedOf g q) ≡ count = sym (ap length d) ∙ simp (length-take, length-drop) (omega (arith, F .inside, F .full)) in
     let l : q < length table = omega (arith, F .inside, F .full) in
@@ -144,16 +139,11 @@ among-fewer g (e ∷ es) = go (eqb (fieldA g e) 0) (among-fewer g es)
     go true h = omega arith
     go false h = omega arith
 
-length-heads : (size : ℕ → ℕ) (n p : ℕ) → length (heads size n p) ≡ n
-unfolding heads
-length-heads size zero p = refl
-length-heads size (suc n) p = ap suc (length-heads size n (p + size p))
-
 -- a production's row ends before the next thing
 row-ends : (g : List ℕ) (p : ℕ) → kindOf g p ≡ 3 → p + length (askedOf g p) < p + grammarSize g p
-unfolding askedOf elementHeads grammarSize productionSize elementSize
+unfolding askedOf elementHeads grammarSize productionSize
 row-ends g p k =
-    let a = after-grows (elementSize g) (λ e. omega arith) (fieldD g p) (p + 1) in
+    let a = after-grows (elementSize g) (size-some g) (fieldD g p) (p + 1) in
     let b = among-fewer g (heads (elementSize g) (fieldD g p) (p + 1)) in
     let c = length-heads (elementSize g) (fieldD g p) (p + 1) in
     rw (k) (omega (arith, a, b, c))
@@ -234,13 +224,13 @@ apart g = apart-from g (recordCount g) 0
 
 -- the rows of the first k productions are in
 pub record Rows (g table : List ℕ) (k : ℕ) : Type 0 where
-  pub rows : (j q : ℕ) → j < k → nth (productions g) j ≡ some q → Row g table q
+  pub rows : (j q : ℕ) → j < k → nth (productions g) j ≡ some q → AskedRow g table q
 
 -- an entry before q is as it was
 entry-kept : (before table : List ℕ) (q i : ℕ) → take q table ≡ take q before → i < q → getD table i 0 ≡ getD before i 0
 entry-kept before table q i e h = sym (getD-take q table i 0 h) ∙ ap (λ (l : List ℕ). getD l i 0) e ∙ getD-take q before i 0 h
 
-row-kept : (g before table : List ℕ) (p q : ℕ) → take q table ≡ take q before → p + length (askedOf g p) < q → Row g before p → Row g table p
+row-kept : (g before table : List ℕ) (p q : ℕ) → take q table ≡ take q before → p + length (askedOf g p) < q → AskedRow g before p → AskedRow g table p
 row-kept g before table p q e h r = record {
   count = entry-kept before table q p e (omega arith) ∙ r .count;
   heads = λ j k. entry-kept before table q (p + 1 + j) e (omega arith) ∙ r .heads j k;
@@ -248,7 +238,7 @@ row-kept g before table p q e h r = record {
 }
 
 rows-step : (g : List ℕ) (before table : List ℕ) (k q : ℕ) → Rows g before k → RowPut g q before table → nth (productions g) k ≡ some q
-    → (j p : ℕ) → j < k + 1 → nth (productions g) j ≡ some p → (b : Bool) → ltb j k ≡ b → Row g table p
+    → (j p : ℕ) → j < k + 1 → nth (productions g) j ≡ some p → (b : Bool) → ltb j k ≡ b → AskedRow g table p
 rows-step g before table k q R P m j p l n true e =
     let w : j < k = ltb-true _ _ e in
     row-kept g before table p q (P .kept) (apart g j k p q n m w) (R .rows j p w n)
@@ -263,7 +253,7 @@ module _ (g hs table : List ℕ) (he : hs ≡ productions g) where
   pub rows-start : Rows g table 0
   rows-start = record { rows = λ j q l m. absurd (not-suc-le-zero l) }
 
-  pub rows-done : (k : ℕ) → length hs ≤ k → Rows g table k → Filled g table
+  pub rows-done : (k : ℕ) → length hs ≤ k → Rows g table k → AskedFilled g table
   rows-done k l R = record { rows = λ j q m. R .rows j q (omega (arith, nth-within (productions g) j q m, ap length he)) m }
 
 pub rows-next : (g hs before table : List ℕ) (k : ℕ) → hs ≡ productions g → k < length hs → Rows g before k → RowPut g (getD hs k 0) before table → Rows g table (k + 1)

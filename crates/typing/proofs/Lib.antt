@@ -1,9 +1,11 @@
 pub mod AnswerLaws
 pub mod AskedLaws
+pub mod ExpandLaws
 pub mod FillLaws
 pub mod KindLaws
 pub mod LimitLaws
 pub mod NodeLaws
+pub mod RowLaws
 pub mod SuitsLaws
 pub mod TemplateLaws
 pub mod ValueLaws

@@ -1,32 +1,37 @@
 -- Laws of a value and of what stands below it, in step with the code. Assumes nothing.
-use Prim.Native.Nat.{ℕ, zero, suc, _+_, _-_, _≤_, _<_}
+use Prim.Native.Nat.{ℕ, zero, suc, _+_, _-_, _*_, _≤_, _<_}
 use mathlib.Core.Path.{_≡_, refl, sym, ap, _∙_}
-use mathlib.Core.List.{List, [], _∷_, map}
+use mathlib.Core.List.{List, _∷_, map}
 use mathlib.Core.Bool.{Bool, true, false}
-use mathlib.Core.Option.{Option, none, some, Option·some-ne-none}
+use mathlib.Core.Option.{Option, none, some}
 use native.Mathlib.Omega.{arith}
-use native.Mathlib.Nat.{sub-zero, add-zero}
+use native.Mathlib.Nat.{add-zero}
 use lib.ListN.{length}
 use lib.Dec.{eqb}
 use borrow.Author.Tests.{eq-eqb, ne-eqb, eqb-true}
-use Rattle.rules.specs.Faults.{need, both, every, tree, onFound, exists, onlyIf, at}
+use Rattle.rules.specs.Faults.{every, onFound, onlyIf, at}
 use Rattle.rules.specs.Records.{kindOf, fieldB, fieldD, textOf, heads, row}
 use Rattle.rules.specs.Lexeme.{isLexeme}
 use Rattle.rules.specs.Templates.{list, fields, typeOf}
 use Rattle.rules.specs.Value.{valueSize, children, asText, asYesNo, asList, asRecord}
 use Rattle.rules.specs.Limits.{deepest}
 use Rattle.rules.specs.Typing.{Typed, typed, hasForm, hasType, paired, typedOf, typedBelow, mistyped, declaredType, valueTyping}
+use Rattle.laws.specs.Faults.{every-one, every-next, every-stop, every-end, if-exists, on-some, on-none, at-none, at-some, tree-deep, tree-wrong, tree-right}
+use Rattle.laws.specs.Lists.{length-map}
+use Rattle.laws.specs.Rows.{length-heads}
 use Rattle.stream.specs.Fault.{faultOf}
 use Rattle.stream.specs.Record.{Fetched}
 use Rattle.stream.specs.declared.Fault.{Fault}
 use Rattle.stream.specs.declared.Fault.the-variants.{At, Nowhere}
-use Rattle.stream.specs.Text.{textIn, textAfter, Begins}
+use Rattle.stream.specs.Text.{textIn, Begins}
+use Rattle.stream.proofs.BlockLaws.{found, unfound}
 use Rattle.stream.specs.declared.record.Record.{Record}
 use Rattle.stream.specs.declared.text.Text.{Text as StreamText}
-use Rattle.typing.specs.Answers.{kindForm, childCount, childType, sizeIn, typedRow}
+use Rattle.records.specs.Sizes.{ValueSize}
+use Rattle.typing.specs.Answers.{kindForm, childCount, childType, rowOf, typedIn}
 use Rattle.typing.specs.declared.Kind.{Kind}
 use Rattle.typing.specs.declared.Kind.the-variants.{Text, YesNo, Items, Fields, Missing}
-use Rattle.typing.proofs.AnswerLaws.{both-nil, on-some, on-none}
+use Rattle.typing.proofs.RowLaws.{map-row, turns-start, turns-done, turns-more}
 
 -- the value's own test, by the kind of its type
 
@@ -37,29 +42,14 @@ pub missing-is : (g v t : List ℕ) (w : ℕ) → false ≡ hasForm g v (kindFor
 unfolding hasForm
 missing-is g v t w = refl
 
-if-exists : {A : Type 0} (b : Bool) (a : A) → exists (onlyIf b a) ≡ b
-unfolding exists onlyIf
-if-exists true a = refl
-if-exists false a = refl
-
-length-map : {A B : Type 0} (f : A → B) (xs : List A) → length (map f xs) ≡ length xs
-length-map f [] = refl
-length-map f (x ∷ xs) = ap suc (length-map f xs)
-
-length-heads : (size : ℕ → ℕ) (n p : ℕ) → length (heads size n p) ≡ n
-unfolding heads
-length-heads size zero p = refl
-length-heads size (suc n) p = ap suc (length-heads size n (p + size p))
-
 module _ (g v t : List ℕ) (w : ℕ) (r : Record) (f : Fetched v w r) where
   text-is : (c : ℕ) → r .kind ≡ 1 → isLexeme g c (textOf v w) ≡ hasForm g v (kindForm t (Text c)) w
   unfolding hasForm asText onFound onlyIf
   text-is c h = sym (rw (eq-eqb _ _ (sym (f .kind) ∙ h)))
 
   -- the same of the text as it was read
-  pub text-read : (c : ℕ) (x : StreamText) → Begins v (textAfter v w (r .b)) (r .b) x → r .kind ≡ 1 → isLexeme g c (textIn v x) ≡ hasForm g v (kindForm t (Text c)) w
-  unfolding textOf textAfter
-  text-read c x b h = ap (isLexeme g c) (b .text ∙ ap (textAfter v w) (f .b)) ∙ text-is c h
+  pub text-read : (c : ℕ) (x : StreamText) {n : ℕ} → Begins v (textOf v w) n x → r .kind ≡ 1 → isLexeme g c (textIn v x) ≡ hasForm g v (kindForm t (Text c)) w
+  text-read c x b h = ap (isLexeme g c) (b .text) ∙ text-is c h
 
   pub text-other : (c : ℕ) → (r .kind ≡ 1 → ⊥) → false ≡ hasForm g v (kindForm t (Text c)) w
   unfolding hasForm asText onFound onlyIf
@@ -81,19 +71,14 @@ module _ (g v t : List ℕ) (w : ℕ) (r : Record) (f : Fetched v w r) where
   unfolding hasForm asRecord onFound onlyIf
   fields-other h n e = sym (rw (ne-eqb _ _ (λ k. e (f .kind ∙ k))))
 
-pub size-is : (v : List ℕ) (w : ℕ) (r : Record) → Fetched v w r → sizeIn r ≡ valueSize v w
-unfolding sizeIn valueSize
-size-is v w r f = rw (f .kind, f .c)
+-- what stands below a value
 
--- what stands below a value: what is left after i of n children
+items-from : (t v : List ℕ) (ty n i p : ℕ) → map (typed ty) (heads (valueSize v) n p) ≡ rowOf (typedIn t (Items ty)) (valueSize v) n i p
+unfolding typedIn childType
+items-from t v ty n i p = map-row _ _ _ (λ j q. refl) n i p
 
-items-from : (t v : List ℕ) (ty n i p : ℕ) → map (typed ty) (heads (valueSize v) n p) ≡ typedRow t v (Items ty) n i p
-unfolding heads typedRow childType
-items-from t v ty zero i p = refl
-items-from t v ty (suc n) i p = ap (λ (l : List Typed). typed ty p ∷ l) (items-from t v ty n (i + 1) (p + valueSize v p))
-
-fields-from : (t v : List ℕ) (h m n i p : ℕ) → paired (map (fieldB t) (row n (h + 1 + i))) (heads (valueSize v) n p) ≡ typedRow t v (Fields h m) n i p
-unfolding paired row heads typedRow childType
+fields-from : (t v : List ℕ) (h m n i p : ℕ) → paired (map (fieldB t) (row n (h + 1 + i))) (heads (valueSize v) n p) ≡ rowOf (typedIn t (Fields h m)) (valueSize v) n i p
+unfolding paired row heads rowOf typedIn childType
 fields-from t v h m zero i p = refl
 fields-from t v h m (suc n) i p =
     let e : h + 1 + i + 1 ≡ h + 1 + (i + 1) = omega arith in
@@ -116,8 +101,8 @@ record-below g v w tys true k e = (eqb-true _ _ (rw k at e), sym (rw k))
 record-below g v w tys false k e = let z : false ≡ true = rw k at e in (cc, cc)
 
 pub below-are : (g t v : List ℕ) (w : ℕ) (r : Record) → Fetched v w r → (K : Kind) → hasForm g v (kindForm t K) w ≡ true
-    → typedRow t v K (childCount K (r .d)) 0 (w + 1) ≡ typedOf v (kindForm t K) w
-unfolding childCount typedRow typedOf children
+    → rowOf (typedIn t K) (valueSize v) (childCount K (r .d)) 0 (w + 1) ≡ typedOf v (kindForm t K) w
+unfolding childCount rowOf typedOf children
 below-are g t v w r f (Text c) e = refl
 below-are g t v w r f YesNo e = refl
 below-are g t v w r f (Items ty) e = sym (items-from t v ty (r .d) 0 (w + 1)) ∙ rw (f .d) (list-below g v w ty e)
@@ -130,81 +115,69 @@ below-are g t v w r f (Fields h n) e =
     ∙ rw (add-zero (h + 1)) (k .1)
 below-are g t v w r f Missing e = refl
 
-place-none : (o : Option Typed) → at (λ x. x .value) o ≡ none → o ≡ none
-unfolding at
-place-none none e = refl
-place-none (some x) e = absurd (Option·some-ne-none _ e)
+-- a row of values, turn by turn: what is left after i of n. The next of them is child i of a value of kind K
 
-place-both : (a b : Option Typed) (p : ℕ) → at (λ x. x .value) a ≡ some p → some p ≡ at (λ x. x .value) (both a b)
-unfolding at both
-place-both none b p e = absurd (Option·some-ne-none p (sym e))
-place-both (some x) b p e = sym e
+abbrev mistypedRow : List ℕ → List ℕ → List ℕ → ℕ → Kind → ℕ → ℕ → ℕ → Option Typed
+mistypedRow g t v left K n i p = every (mistyped g t v left) (rowOf (typedIn t K) (valueSize v) n i p)
 
--- a value
+pub record ValueTurn (g t v : List ℕ) (left : ℕ) (K : Kind) (first n next i : ℕ) : Type 0 where
+  pub here : next ≤ first + i * 65535
+  pub within : i ≤ n
+  pub rest : mistypedRow g t v left K (n - i) i next ≡ mistypedRow g t v left K n 0 first
 
-module _ (g t v : List ℕ) (left ty w : ℕ) where
-  pub value-deep : left ≡ 0 → some w ≡ at (λ x. x .value) (mistyped g t v left (typed ty w))
-  unfolding mistyped tree at typed
-  value-deep h = sym (rw h)
+pub turn-start : (g t v : List ℕ) (left : ℕ) (K : Kind) (first n : ℕ) → ValueTurn g t v left K first n first 0
+turn-start g t v left K first n = record { here = omega arith; within = omega arith; rest = turns-start _ _ (every (mistyped g t v left)) n first }
 
-  module _ (deep : left ≡ 0 → ⊥) (K : Kind) (is : kindForm t K ≡ typeOf t ty) (b : Bool) (own : b ≡ hasForm g v (kindForm t K) w) where
-    value-more : mistyped g t v left (typed ty w) ≡ both (need b (typed ty w)) (every (mistyped g t v (left - 1)) (typedOf v (kindForm t K) w))
-    unfolding mistyped tree hasType typedBelow typed
-    value-more =
-        let k : left ≡ suc (left - 1) = omega (arith, deep) in
-        ap (λ (m : ℕ). tree (hasType g t v) (typedBelow t v) m (typed ty w)) k ∙ rw (← is, ← own)
+module _ {g t v : List ℕ} {left : ℕ} {K : Kind} {first n next i : ℕ} (T : ValueTurn g t v left K first n next i) where
+  pub turn-end : n ≤ i → none ≡ at (λ x. x .value) (mistypedRow g t v left K n 0 first)
+  unfolding at
+  turn-end h = ap (at (λ x. x .value)) (every-end _ (T .rest) (turns-done _ _ _ _ _ h))
 
-    pub value-own : b ≡ false → some w ≡ at (λ x. x .value) (mistyped g t v left (typed ty w))
-    unfolding need both at typed
-    value-own h = sym (ap (at (λ x. x .value)) value-more ∙ rw h)
+  module _ (more : i < n) where
+    turn-stop : (x : Typed) → mistyped g t v left (typedIn t K i next) ≡ some x → some (x .value) ≡ at (λ x. x .value) (mistypedRow g t v left K n 0 first)
+    unfolding at
+    turn-stop x e = ap (at (λ x. x .value)) (every-stop _ (T .rest) (turns-more _ _ _ _ _ more _ refl) e)
 
-    pub value-below : b ≡ true → (r : Record) → Fetched v w r → (n : ℕ) → n ≡ childCount K (r .d)
-        → every (mistyped g t v (left - 1)) (typedRow t v K n 0 (w + 1)) ≡ mistyped g t v left (typed ty w)
-    unfolding need both
-    value-below h r f n e =
-        ap (λ (m : ℕ). every (mistyped g t v (left - 1)) (typedRow t v K m 0 (w + 1))) e
-        ∙ ap (every (mistyped g t v (left - 1))) (below-are g t v w r f K (sym own ∙ h))
-        ∙ sym (value-more ∙ rw h)
+    turn-next : mistyped g t v left (typedIn t K i next) ≡ none → {r : Record} → Fetched v next r → {c : ℕ} → ValueSize r c → ValueTurn g t v left K first n (next + c) (i + 1)
+    turn-next e f s = record {
+      here = omega (arith, T .here, s .small);
+      within = omega (arith, more);
+      rest = every-next _ (T .rest) (turns-more _ _ _ _ _ more _ (s .is v next f)) e;
+    }
 
--- what a check of a row has answered
-pub below-none : {one : Fault} {R : Option Typed} → faultOf one ≡ at (λ x. x .value) R → one ≡ Nowhere → R ≡ none
-below-none e h = place-none _ (sym e ∙ ap faultOf h)
+    pub turn-deep : left ≡ 0 → some next ≡ at (λ x. x .value) (mistypedRow g t v left K n 0 first)
+    unfolding mistyped typedIn typed
+    turn-deep h = turn-stop (typedIn t K i next) (tree-deep (hasType g t v) (typedBelow t v) left (typedIn t K i next) h)
 
-pub below-some : {one : Fault} {p : ℕ} (R : Option Typed) → faultOf one ≡ at (λ x. x .value) R → one ≡ At p → some p ≡ at (λ x. x .value) R
-below-some R e h = sym (sym e ∙ ap faultOf h)
+    module _ (deep : left ≡ 0 → ⊥) {ty : ℕ} (is : ty ≡ childType t K i) (L : Kind) (kind : kindForm t L ≡ typeOf t ty) {b : Bool} (own : b ≡ hasForm g v (kindForm t L) next) where
+      has-type : hasType g t v (typedIn t K i next) ≡ b
+      unfolding hasType typedIn typed
+      has-type = rw (← is, ← kind) (sym own)
 
-pub no-children : (g t v : List ℕ) (k : ℕ) (K : Kind) (n p : ℕ) → n ≡ 0 → every (mistyped g t v k) (typedRow t v K n 0 p) ≡ none
-unfolding typedRow every
-no-children g t v k K n p h = rw h
+      pub turn-own : b ≡ false → some next ≡ at (λ x. x .value) (mistypedRow g t v left K n 0 first)
+      unfolding mistyped typedIn typed
+      turn-own h = turn-stop (typedIn t K i next) (tree-wrong (hasType g t v) (typedBelow t v) left (typedIn t K i next) (omega (arith, deep)) (has-type ∙ h))
 
--- a row of values: what is left after i of n
+      module _ (right : b ≡ true) {r : Record} (f : Fetched v next r) {m : ℕ} (count : m ≡ childCount L (r .d)) where
+        value-below : mistyped g t v left (typedIn t K i next) ≡ mistypedRow g t v (left - 1) L m 0 (next + 1)
+        unfolding mistyped typedBelow typedIn typed
+        value-below =
+            tree-right (hasType g t v) (typedBelow t v) left (typedIn t K i next) (omega (arith, deep)) (has-type ∙ right)
+            ∙ rw (← is, ← kind, count) (ap (every (mistyped g t v (left - 1))) (sym (below-are g t v next r f L (sym own ∙ right))))
 
-pub row-start : (g t v : List ℕ) (k : ℕ) (K : Kind) (n p : ℕ) → every (mistyped g t v k) (typedRow t v K (n - 0) 0 p) ≡ every (mistyped g t v k) (typedRow t v K n 0 p)
-row-start g t v k K n p = rw (sub-zero n)
+        pub turn-leaf : m ≡ 0 → {c : ℕ} → ValueSize r c → ValueTurn g t v left K first n (next + c) (i + 1)
+        unfolding rowOf every
+        turn-leaf z s = turn-next (value-below ∙ rw z) f s
 
-module _ (g t v : List ℕ) (k : ℕ) (K : Kind) (n i p : ℕ) where
-  pub row-done : n ≤ i → every (mistyped g t v k) (typedRow t v K (n - i) i p) ≡ none
-  unfolding typedRow every
-  row-done h = let e : n - i ≡ 0 = omega arith in rw e
+        -- by what the check of the row below has answered
+        module _ (one : Fault) (says : faultOf one ≡ at (λ x. x .value) (mistypedRow g t v (left - 1) L m 0 (next + 1))) where
+          pub turn-right : one ≡ Nowhere → {c : ℕ} → ValueSize r c → ValueTurn g t v left K first n (next + c) (i + 1)
+          turn-right h s = turn-next (value-below ∙ at-none _ _ .0 (unfound _ _ says h)) f s
 
-  module _ (more : i < n) (c : ℕ) (is : c ≡ childType t K i) where
-    row-more : every (mistyped g t v k) (typedRow t v K (n - i) i p)
-        ≡ both (mistyped g t v k (typed c p)) (every (mistyped g t v k) (typedRow t v K (n - (i + 1)) (i + 1) (p + valueSize v p)))
-    unfolding typedRow every
-    row-more = let e : n - i ≡ suc (n - (i + 1)) = omega arith in rw (e, ← is)
-
-    pub row-next : mistyped g t v k (typed c p) ≡ none → (m : ℕ) → m ≡ valueSize v p
-        → every (mistyped g t v k) (typedRow t v K (n - i) i p) ≡ every (mistyped g t v k) (typedRow t v K (n - (i + 1)) (i + 1) (p + m))
-    unfolding both
-    row-next h m e = row-more ∙ rw (h, e)
-
-    pub row-stop : (q : ℕ) → some q ≡ at (λ x. x .value) (mistyped g t v k (typed c p)) → some q ≡ at (λ x. x .value) (every (mistyped g t v k) (typedRow t v K (n - i) i p))
-    row-stop q h = place-both _ _ q (sym h) ∙ ap (at (λ x. x .value)) (sym row-more)
-
--- the row has come to its end
-pub ended : {R W : Option Typed} → R ≡ none → R ≡ W → none ≡ at (λ x. x .value) W
-unfolding at
-ended h e = sym (ap (at (λ x. x .value)) (sym e ∙ h))
+          pub turn-wrong : {q : ℕ} → one ≡ At q → some q ≡ at (λ x. x .value) (mistypedRow g t v left K n 0 first)
+          turn-wrong h =
+              let x = at-some _ _ _ (found _ _ _ says h) in
+              ap some (sym (x .2)) ∙ turn-stop (x .0) (value-below ∙ x .1)
 
 -- the whole value
 
@@ -213,6 +186,6 @@ unfolding valueTyping
 undeclared g t v h = sym (on-none (some 0) _ h)
 
 pub declared : (g t v : List ℕ) (ty : ℕ) → declaredType t ≡ some ty
-    → at (λ x. x .value) (every (mistyped g t v 200) (typedRow t v (Items ty) 1 0 0)) ≡ valueTyping g t v
-unfolding valueTyping deepest typedRow childType every
-declared g t v ty h = ap (at (λ x. x .value)) (both-nil (mistyped g t v 200 (typed ty 0))) ∙ sym (on-some (some 0) _ h)
+    → at (λ x. x .value) (every (mistyped g t v 200) (rowOf (typedIn t (Items ty)) (valueSize v) 1 0 0)) ≡ valueTyping g t v
+unfolding valueTyping deepest rowOf typedIn childType
+declared g t v ty h = ap (at (λ x. x .value)) (every-one (mistyped g t v 200) (typed ty 0)) ∙ sym (on-some (some 0) _ h)

@@ -1,26 +1,31 @@
 -- What the answers of the checker's functions say, in the terms of crate rules.
-use Prim.Native.Nat.{ℕ, zero, suc, _+_, _/_, _%_}
+use Prim.Native.Nat.{ℕ, zero, suc, _+_, _≤_, _<_}
 use mathlib.Core.Path.{_≡_}
 use mathlib.Core.List.{List, [], _∷_, _++_, map}
-use mathlib.Core.Bool.{cond}
+use mathlib.Core.Bool.{Bool, true, false}
 use mathlib.Core.Option.{Option, none, some}
-use lib.ListN.{take}
-use lib.Dec.{eqb}
-use Rattle.rules.specs.Records.{fieldB, row}
-use Rattle.rules.specs.Templates.{TypeForm, text, yes-no, list, fields, no-type}
-use Rattle.rules.specs.Typing.{Site, Typed, typed}
-use Rattle.rules.specs.Value.{valueSize}
+use lib.ListN.{length, getD, take}
+use Rattle.rules.specs.Records.{fieldB, fieldC, heads, row}
+use Rattle.rules.specs.Templates.{TypeForm, text, yes-no, list, fields, no-type, nodesOf}
+use Rattle.rules.specs.Typing.{Site, site, Typed, typed, suitsForm, sitesOf}
+use Rattle.rules.specs.Limits.{loopsBelow}
+use Rattle.rules.specs.declared.Form.{Form}
 use Rattle.rules.specs.declared.Position.{Position}
-use Rattle.stream.specs.declared.record.Record.{Record}
-use Rattle.typing.specs.declared.Found.{Found}
-use Rattle.typing.specs.declared.Found.the-variants.{Number, Nothing}
+use Rattle.typing.specs.Asked.{positionAt}
+use Rattle.typing.specs.declared.Sought.{Sought}
+use Rattle.typing.specs.declared.Sought.the-variants.{Number, Nothing}
 use Rattle.typing.specs.declared.Kind.{Kind}
 use Rattle.typing.specs.declared.Kind.the-variants.{Text, YesNo, Items, Fields, Missing}
 use Rattle.typing.specs.declared.Frame.{Frame}
+use Rattle.typing.specs.declared.Positions.{Positions}
+use Rattle.typing.specs.declared.Positions.the-variants.{Alike, Asked}
+use Rattle.typing.specs.declared.Below.{Below}
+use Rattle.typing.specs.declared.Tested.{Tested}
+use Rattle.typing.specs.declared.Tested.the-variants.{Unsuited, Above}
 use Rattle.typing.specs.declared.Judged.{Judged}
 use Rattle.typing.specs.declared.Judged.the-variants.{Suits, Offends}
 
-abbrev pub found : Found → Option ℕ
+abbrev pub found : Sought → Option ℕ
 found (Number n) = some n
 found Nothing = none
 
@@ -31,26 +36,61 @@ kindForm t (Items ty) = list ty
 kindForm t (Fields p n) = fields (map (fieldB t) (row n (p + 1)))
 kindForm t Missing = no-type
 
--- the types of a frame's variables, and its site
-abbrev pub varsOf : Frame → List ℕ
-varsOf f = take (f .count) (f .types)
+-- n things in a row from a place on, the first of them thing i, each of so many records
+unfoldable pub rowOf : {A : Type 0} → (ℕ → ℕ → A) → (ℕ → ℕ) → ℕ → ℕ → ℕ → List A
+rowOf make size zero i p = []
+rowOf make size (suc n) i p = make i p ∷ rowOf make size n (i + 1) (p + size p)
 
-abbrev pub siteOf : Frame → Site
-siteOf f = record { node = f .node; position = f .position; vars = varsOf f }
+-- a frame's site
+abbrev pub siteOf : List ℕ → Frame → Site
+siteOf scope f = record { node = f .node; position = f .position; vars = take (f .count) scope }
 
--- the frame of a node below f, with the same variables
-pub record Below (f : Frame) (node : ℕ) (position : Position) (r : Frame) : Type 0 where
-  pub node-is : r .node ≡ node
-  pub position-is : r .position ≡ position
-  pub count-is : r .count ≡ f .count
-  pub types-is : r .types ≡ f .types
+-- the position of node i of a row, and the entry of the table of asked elements that it is read by
+unfoldable pub positionIn : List ℕ → List ℕ → Positions → ℕ → Position
+positionIn g asked (Alike position) i = position
+positionIn g asked (Asked q) i = positionAt g (getD asked (q + 1 + i) 0)
 
--- the same with one variable more, of type ty
-pub record Bound (f : Frame) (node : ℕ) (position : Position) (ty : ℕ) (r : Frame) : Type 0 where
-  pub node-is : r .node ≡ node
-  pub position-is : r .position ≡ position
-  pub count-is : r .count ≡ f .count + 1
-  pub vars-are : varsOf r ≡ varsOf f ++ ty ∷ []
+unfoldable pub entryOf : Positions → ℕ → ℕ
+entryOf (Alike position) i = 0
+entryOf (Asked q) i = q + 1 + i
+
+-- the variables that an item adds
+unfoldable pub bindings : Sought → List ℕ
+bindings (Number ty) = ty ∷ []
+bindings Nothing = []
+
+-- they were put behind the first `count` numbers
+pub record Bound (before : List ℕ) (count : ℕ) (item : Sought) (after : List ℕ) (r : ℕ) : Type 0 where
+  pub count-is : r ≡ count + length (bindings item)
+  pub vars-are : take r after ≡ take count before ++ bindings item
+  pub full : length after ≡ 24
+
+-- the site of node i of a row, and those of a whole row
+unfoldable pub siteIn : List ℕ → List ℕ → List ℕ → Positions → ℕ → ℕ → Site
+siteIn g asked vars positions i p = site vars (positionIn g asked positions i) p
+
+abbrev pub sitesIn : List ℕ → List ℕ → List ℕ → List ℕ → Below → List Site
+sitesIn g t asked vars b = rowOf (siteIn g asked vars (b .positions)) (fieldC t) (b .count) 0 (b .first)
+
+-- of a node that suits its position, and what stands below it
+pub record Suited (g t asked : List ℕ) (x : Site) (form : Form) (b : Below) : Type 0 where
+  pub own : suitsForm g t form x ≡ true
+  pub sites-are : sitesOf g t form x ≡ sitesIn g t asked (x .vars ++ bindings (b .item)) b
+  pub nodes-are : nodesOf t form (x .node) ≡ heads (fieldC t) (b .count) (b .first)
+  pub loops-are : (n : ℕ) → loopsBelow form n ≡ n + length (bindings (b .item))
+  pub bound : length (bindings (b .item)) ≤ b .count
+  pub near : b .first ≤ x .node + 2
+  pub few : b .count < 65536
+  pub inside : (i : ℕ) → i < b .count → entryOf (b .positions) i < 8064
+
+pub record Tests (g t asked : List ℕ) (x : Site) (form : Form) (r : Tested) : Type 0 where
+  pub fails : r ≡ Unsuited → suitsForm g t form x ≡ false
+  pub stands : (b : Below) → r ≡ Above b → Suited g t asked x form b
+
+-- of a node that has nothing below it
+unfoldable pub leafOf : Bool → Tested
+leafOf true = Above (record { first = 0; count = 0; positions = Asked 0; item = Nothing })
+leafOf false = Unsuited
 
 -- a node's place, and the position that it does not suit
 abbrev pub Offence : Type 0
@@ -64,13 +104,11 @@ unfoldable pub offence : Option Site → Option Offence
 offence none = none
 offence (some x) = some (x .node, x .position)
 
--- byte 3 + i of a path, from its record
-unfoldable pub stepIn : Record → ℕ → ℕ
-stepIn r zero = r .b / 256
-stepIn r (suc zero) = r .c % 256
-stepIn r (suc (suc zero)) = r .c / 256
-stepIn r (suc (suc (suc zero))) = r .d % 256
-stepIn r (suc (suc (suc (suc i)))) = r .d / 256
+-- what a check says, and that the types of the first `count` variables are as they were
+pub record Checked (o : Option Site) (count : ℕ) (before after : List ℕ) (r : Judged) : Type 0 where
+  pub says : judged r ≡ offence o
+  pub kept : take count after ≡ take count before
+  pub full : length after ≡ 24
 
 -- of a value whose type is of a kind: how many of its d children are looked at, and the type that child i should have
 unfoldable pub childCount : Kind → ℕ → ℕ
@@ -87,11 +125,6 @@ childType t (Items ty) i = ty
 childType t (Fields p n) i = fieldB t (p + 1 + i)
 childType t Missing i = 0
 
--- the records of a value, from its own record: a yes/no has no size field
-unfoldable pub sizeIn : Record → ℕ
-sizeIn r = cond (eqb (r .kind) 2) 1 (r .c)
-
--- n values in a row from a place on, the first of them child i of a value of a kind, each with the type that it should have
-unfoldable pub typedRow : List ℕ → List ℕ → Kind → ℕ → ℕ → ℕ → List Typed
-typedRow t v kind zero i p = []
-typedRow t v kind (suc n) i p = typed (childType t kind i) p ∷ typedRow t v kind n (i + 1) (p + valueSize v p)
+-- child i of a value of a kind, with the type that it should have
+unfoldable pub typedIn : List ℕ → Kind → ℕ → ℕ → Typed
+typedIn t kind i p = typed (childType t kind i) p

@@ -31,16 +31,16 @@ unfoldable pub positionAt : List ℕ → ℕ → Position
 positionAt g e = positionNumbered (fieldA g e) (fieldB g e)
 
 -- the table's entries for the production at q
-pub record Row (g asked : List ℕ) (q : ℕ) : Type 0 where
+pub record AskedRow (g asked : List ℕ) (q : ℕ) : Type 0 where
   pub count : getD asked q 0 ≡ length (askedOf g q)
   pub heads : (j : ℕ) → j < length (askedOf g q) → getD asked (q + 1 + j) 0 ≡ getD (askedOf g q) j 0
   pub inside : q + length (askedOf g q) < 8064
 
-pub record Filled (g asked : List ℕ) : Type 0 where
-  pub rows : (k q : ℕ) → nth (productions g) k ≡ some q → Row g asked q
+pub record AskedFilled (g asked : List ℕ) : Type 0 where
+  pub rows : (k q : ℕ) → nth (productions g) k ≡ some q → AskedRow g asked q
 
 -- the row of the production at q was put in, and what stood before it is as it was
 pub record RowPut (g : List ℕ) (q : ℕ) (before after : List ℕ) : Type 0 where
   pub full : length after ≡ 8064
   pub kept : take q after ≡ take q before
-  pub row : Row g after q
+  pub row : AskedRow g after q

@@ -1,135 +1,148 @@
 // A node's own test: whether it suits its position, whatever stands below it.
 ghost use mathlib.Core.Path.{_≡_};
 ghost use mathlib.Core.List.{List, map};
-ghost use Prim.Native.Nat.{ℕ, _+_, _≤_, _<_};
-ghost use Rattle.rules.specs.Grammar.{productions as productionHeads};
-ghost use Rattle.lexeme.specs.Sets.{Ready as LexemesReady};
+ghost use mathlib.Core.Option.{none};
+ghost use Prim.Native.Nat.{ℕ, _+_, _<_};
+ghost use Rattle.lexeme.specs.Sets.{LexemesReady};
+ghost use lib.ListN.{take};
+ghost use Rattle.rules.specs.Blocks.{streamLength};
 ghost use Rattle.rules.specs.Records.{fieldB, row};
 ghost use Rattle.rules.specs.Templates.{templates as templateHeads, formOf};
-ghost use Rattle.rules.specs.Typing.{asksClass, asksNonterminal, asksRepetition, asksItem, argumentsFit, suitsForm, suits};
-ghost use Rattle.typing.specs.Answers.{found, varsOf, siteOf};
-ghost use Rattle.typing.specs.Asked.{Filled};
-ghost use Rattle.typing.specs.Asks.{Near, Follows, Lent};
-use crate::Found;
+ghost use Rattle.rules.specs.Typing.{asksClass, asksNonterminal, asksRepetition, asksItem, argumentsFit, suitsForm};
+ghost use Rattle.stream.specs.Record.{Fetched};
+ghost use Rattle.typing.specs.Answers.{found, siteOf, leafOf, Tests};
+ghost use Rattle.typing.specs.Asks.{RoomBelow, TypeTable, Scope, BuildAsks, CheckerTables};
+use crate::Below;
 use crate::Frame;
 use crate::Kind;
+use crate::Positions;
+use crate::RECORDS;
+use crate::Sought;
+use crate::Tested;
+use crate::VARIABLES;
 use crate::kinds::head;
 use crate::kinds::path_kind;
 use crate::kinds::path_type;
 use lexeme::is_lexeme;
+use records::node::form_of;
 use rules::Form;
 use rules::Position;
+use stream::record::Record;
 use stream::record::fetch;
 
 // The class that a position asks for.
-fn asks_class(p: Position) -> Found
+fn asks_class(p: Position) -> Sought
     ensures { λ r. ⌜ found r ≡ asksClass p ⌝ }
 {
     match p {
-        Position::Class(n) => Found::Number(n),
-        Position::Nonterminal(_) => Found::Nothing,
-        Position::Repetition(_) => Found::Nothing,
-        Position::Item(_) => Found::Nothing,
+        Position::Class(n) => Sought::Number(n),
+        Position::Nonterminal(_) => Sought::Nothing,
+        Position::Repetition(_) => Sought::Nothing,
+        Position::Item(_) => Sought::Nothing,
     }
 }
 
 // The nonterminal that a position asks for.
-pub fn asks_nonterminal(p: Position) -> Found
+pub fn asks_nonterminal(p: Position) -> Sought
     ensures { λ r. ⌜ found r ≡ asksNonterminal p ⌝ }
 {
     match p {
-        Position::Class(_) => Found::Nothing,
-        Position::Nonterminal(n) => Found::Number(n),
-        Position::Repetition(_) => Found::Nothing,
-        Position::Item(n) => Found::Number(n),
+        Position::Class(_) => Sought::Nothing,
+        Position::Nonterminal(n) => Sought::Number(n),
+        Position::Repetition(_) => Sought::Nothing,
+        Position::Item(n) => Sought::Number(n),
     }
 }
 
 // The nonterminal whose repetition a position asks for.
-pub fn asks_repetition(p: Position) -> Found
+pub fn asks_repetition(p: Position) -> Sought
     ensures { λ r. ⌜ found r ≡ asksRepetition p ⌝ }
 {
     match p {
-        Position::Class(_) => Found::Nothing,
-        Position::Nonterminal(_) => Found::Nothing,
-        Position::Repetition(n) => Found::Number(n),
-        Position::Item(_) => Found::Nothing,
+        Position::Class(_) => Sought::Nothing,
+        Position::Nonterminal(_) => Sought::Nothing,
+        Position::Repetition(n) => Sought::Number(n),
+        Position::Item(_) => Sought::Nothing,
     }
 }
 
 // The nonterminal of a sequence's item.
-pub fn asks_item(p: Position) -> Found
+pub fn asks_item(p: Position) -> Sought
     ensures { λ r. ⌜ found r ≡ asksItem p ⌝ }
 {
     match p {
-        Position::Class(_) => Found::Nothing,
-        Position::Nonterminal(_) => Found::Nothing,
-        Position::Repetition(_) => Found::Nothing,
-        Position::Item(n) => Found::Number(n),
+        Position::Class(_) => Sought::Nothing,
+        Position::Nonterminal(_) => Sought::Nothing,
+        Position::Repetition(_) => Sought::Nothing,
+        Position::Item(n) => Sought::Number(n),
     }
 }
 
-// The form of a node.
-pub fn form_of(t: &[u8], node: usize) -> Form
-    ensures { λ r. ⌜ r ≡ formOf (now (t .entry)) node ⌝ }
+// Of a node that has nothing below it: the answer of its own test.
+fn leaf(ok: bool) -> Tested
+    ensures { λ r. ⌜ r ≡ leafOf ok ⌝ }
 {
-    let r = fetch(t, node);
-    let a = r.a;
-    match a {
-        0 => Form::Build,
-        1 => Form::Literal,
-        2 => Form::Place,
-        3 => Form::Expand,
-        4 => Form::If,
-        5 => Form::For,
-        6 => Form::Sequence,
-        _ => Form::Unknown,
+    if !ok {
+        return Tested::Unsuited;
     }
+    Tested::Above(Below {
+        first: 0,
+        count: 0,
+        positions: Positions::Asked(0),
+        item: Sought::Nothing,
+    })
 }
 
-// A build: of a production of its nonterminal, with a child for each element that is no keyword.
-fn suits_build(g: &[u8], t: &[u8], productions: &[u16], asked: &[u16; 8064], f: Frame) -> bool
-    requires { ⌜ (now productions ≡ productionHeads (now g)) × (Filled (now g) (now asked)) ⌝ }
-    ensures { λ r. ⌜ r ≡ suitsForm (now (g .entry)) (now (t .entry)) Form.Build (siteOf f) ⌝ }
+// A build: of a production of its nonterminal, with a child for each element that is no keyword, in that element's position.
+fn suits_build(g: &[u8], productions: &[u16], asked: &[u16; RECORDS], f: Frame, r: Record) -> Tested
+    requires { ⌜ (RoomBelow 1 (f .node)) × (BuildAsks (now g) (now productions) (now asked)) ⌝ }
+    ensures { λ a. ⌜ ((t scope : List ℕ) → Fetched t (f .node) r → Tests (now (g .entry)) t (now (asked .entry)) (siteOf scope f) Form.Build a) ⌝ }
 {
     let position = f.position;
-    let Found::Number(n) = asks_nonterminal(position) else {
-        return false;
+    let Sought::Number(n) = asks_nonterminal(position) else {
+        return Tested::Unsuited;
     };
-    let r = fetch(t, f.node);
-    let Found::Number(q) = head(productions, r.b) else {
-        return false;
+    let Sought::Number(q) = head(productions, r.b) else {
+        return Tested::Unsuited;
     };
     let at = q as usize;
     let p = fetch(g, at);
     if p.b != n {
-        return false;
+        return Tested::Unsuited;
     }
-    asked[at] == r.d
+    if asked[at] != r.d {
+        return Tested::Unsuited;
+    }
+    Tested::Above(Below {
+        first: f.node + 1,
+        count: r.d as usize,
+        positions: Positions::Asked(q),
+        item: Sought::Nothing,
+    })
 }
 
 // A literal: a lexeme of its class.
-fn suits_literal(g: &[u8], t: &[u8], classes: &[u16], sets: &[u64], f: Frame) -> bool
-    requires { ⌜ LexemesReady (now g) (now classes) (now sets) ⌝ }
-    ensures { λ r. ⌜ r ≡ suitsForm (now (g .entry)) (now (t .entry)) Form.Literal (siteOf f) ⌝ }
+fn suits_literal(g: &[u8], t: &[u8], classes: &[u16], sets: &[u16], f: Frame) -> bool
+    requires { ⌜ (LexemesReady (now g) (now classes) (now sets)) × (streamLength (now t) ≡ none) ⌝ }
+    ensures { λ r. ⌜ ((scope : List ℕ) → r ≡ suitsForm (now (g .entry)) (now (t .entry)) Form.Literal (siteOf scope f)) ⌝ }
 {
     let position = f.position;
-    let Found::Number(c) = asks_class(position) else {
+    let Sought::Number(c) = asks_class(position) else {
         return false;
     };
     is_lexeme(g, classes, sets, c, t, f.node)
 }
 
 // A place: its path finds a text of that very class.
-fn suits_place(t: &[u8], types: &[u16], f: Frame) -> bool
-    requires { ⌜ (Near 1 (f .node)) × (Follows (now t) (now types) f) ⌝ }
-    ensures { λ r. ⌜ ((g : List ℕ) → r ≡ suitsForm g (now (t .entry)) Form.Place (siteOf f)) ⌝ }
+fn suits_place(t: &[u8], types: &[u16], scope: &[u16; VARIABLES], f: Frame) -> bool
+    requires { ⌜ (RoomBelow 1 (f .node)) × (TypeTable (now t) (now types)) × (Scope (now scope) (f .count)) ⌝ }
+    ensures { λ r. ⌜ ((g : List ℕ) → r ≡ suitsForm g (now (t .entry)) Form.Place (siteOf (now (scope .entry)) f)) ⌝ }
 {
     let position = f.position;
-    let Found::Number(c) = asks_class(position) else {
+    let Sought::Number(c) = asks_class(position) else {
         return false;
     };
-    match path_kind(t, types, f, f.node + 1) {
+    match path_kind(t, types, scope, f.count, f.node + 1) {
         Kind::Text(d) => c == d,
         Kind::YesNo => false,
         Kind::Items(_) => false,
@@ -139,14 +152,21 @@ fn suits_place(t: &[u8], types: &[u16], f: Frame) -> bool
 }
 
 // Whether the n paths of the node find the types of n parameters of the template at q, by their numbers.
-fn arguments_fit(t: &[u8], types: &[u16], f: Frame, n: usize, q: usize) -> bool
-    requires { ⌜ (Near 1 (f .node)) × (Near 1 q) × (n < 65536) × (Follows (now t) (now types) f) ⌝ }
-    ensures { λ r. ⌜ r ≡ argumentsFit (now (t .entry)) (varsOf f) (row n (f .node + 1)) (map (fieldB (now (t .entry))) (row n (q + 1))) ⌝ }
+fn arguments_fit(
+    t: &[u8],
+    types: &[u16],
+    scope: &[u16; VARIABLES],
+    f: Frame,
+    n: usize,
+    q: usize,
+) -> bool
+    requires { ⌜ (RoomBelow 1 (f .node)) × (RoomBelow 1 q) × (n < 65536) × (TypeTable (now t) (now types)) × (Scope (now scope) (f .count)) ⌝ }
+    ensures { λ r. ⌜ r ≡ argumentsFit (now (t .entry)) (take (f .count) (now (scope .entry))) (row n (f .node + 1)) (map (fieldB (now (t .entry))) (row n (q + 1))) ⌝ }
 {
     let node = f.node;
     let mut i = 0;
     while i < n {
-        let Found::Number(has) = path_type(t, types, f, node + 1 + i) else {
+        let Sought::Number(has) = path_type(t, types, scope, f.count, node + 1 + i) else {
             return false;
         };
         let r = fetch(t, q + 1 + i);
@@ -159,16 +179,22 @@ fn arguments_fit(t: &[u8], types: &[u16], f: Frame, n: usize, q: usize) -> bool
 }
 
 // An expand: of a template of its nonterminal, with a path for each parameter that finds the parameter's type.
-fn suits_expand(t: &[u8], templates: &[u16], types: &[u16], f: Frame) -> bool
-    requires { ⌜ (Near 1 (f .node)) × (now templates ≡ templateHeads (now t)) × (Follows (now t) (now types) f) ⌝ }
-    ensures { λ r. ⌜ ((g : List ℕ) → r ≡ suitsForm g (now (t .entry)) Form.Expand (siteOf f)) ⌝ }
+fn suits_expand(
+    t: &[u8],
+    templates: &[u16],
+    types: &[u16],
+    scope: &[u16; VARIABLES],
+    f: Frame,
+    r: Record,
+) -> bool
+    requires { ⌜ (RoomBelow 1 (f .node)) × (now templates ≡ templateHeads (now t)) × (TypeTable (now t) (now types)) × (Scope (now scope) (f .count)) × (Fetched (now t) (f .node) r) ⌝ }
+    ensures { λ a. ⌜ ((g : List ℕ) → a ≡ suitsForm g (now (t .entry)) Form.Expand (siteOf (now (scope .entry)) f)) ⌝ }
 {
     let position = f.position;
-    let Found::Number(n) = asks_nonterminal(position) else {
+    let Sought::Number(n) = asks_nonterminal(position) else {
         return false;
     };
-    let r = fetch(t, f.node);
-    let Found::Number(h) = head(templates, r.b) else {
+    let Sought::Number(h) = head(templates, r.b) else {
         return false;
     };
     let q = h as usize;
@@ -179,79 +205,97 @@ fn suits_expand(t: &[u8], templates: &[u16], types: &[u16], f: Frame) -> bool
     if r.d != p.a as u16 {
         return false;
     }
-    arguments_fit(t, types, f, r.d as usize, q)
+    arguments_fit(t, types, scope, f, r.d as usize, q)
 }
 
-// An if: on a yes/no, for a nonterminal.
-fn suits_if(t: &[u8], types: &[u16], f: Frame) -> bool
-    requires { ⌜ (Near 1 (f .node)) × (Follows (now t) (now types) f) ⌝ }
-    ensures { λ r. ⌜ ((g : List ℕ) → r ≡ suitsForm g (now (t .entry)) Form.If (siteOf f)) ⌝ }
+// An if: on a yes/no, for a nonterminal. Both branches are in its own position, whichever will be taken.
+fn suits_if(t: &[u8], types: &[u16], scope: &[u16; VARIABLES], f: Frame) -> Tested
+    requires { ⌜ (RoomBelow 1 (f .node)) × (TypeTable (now t) (now types)) × (Scope (now scope) (f .count)) ⌝ }
+    ensures { λ r. ⌜ ((g asked : List ℕ) → Tests g (now (t .entry)) asked (siteOf (now (scope .entry)) f) Form.If r) ⌝ }
 {
     let position = f.position;
-    let Found::Number(_) = asks_nonterminal(position) else {
-        return false;
+    let Sought::Number(n) = asks_nonterminal(position) else {
+        return Tested::Unsuited;
     };
-    match path_kind(t, types, f, f.node + 1) {
-        Kind::Text(_) => false,
-        Kind::YesNo => true,
-        Kind::Items(_) => false,
-        Kind::Fields(_, _) => false,
-        Kind::Missing => false,
+    match path_kind(t, types, scope, f.count, f.node + 1) {
+        Kind::YesNo => Tested::Above(Below {
+            first: f.node + 2,
+            count: 2,
+            positions: Positions::Alike(Position::Nonterminal(n)),
+            item: Sought::Nothing,
+        }),
+        Kind::Text(_) => Tested::Unsuited,
+        Kind::Items(_) => Tested::Unsuited,
+        Kind::Fields(_, _) => Tested::Unsuited,
+        Kind::Missing => Tested::Unsuited,
     }
 }
 
-// A for: over a list, as an item of a sequence.
-fn suits_for(t: &[u8], types: &[u16], f: Frame) -> bool
-    requires { ⌜ (Near 1 (f .node)) × (Follows (now t) (now types) f) ⌝ }
-    ensures { λ r. ⌜ ((g : List ℕ) → r ≡ suitsForm g (now (t .entry)) Form.For (siteOf f)) ⌝ }
+// A for: over a list, as an item of a sequence. Its body has one variable more, an item of the list.
+fn suits_for(t: &[u8], types: &[u16], scope: &[u16; VARIABLES], f: Frame) -> Tested
+    requires { ⌜ (RoomBelow 1 (f .node)) × (TypeTable (now t) (now types)) × (Scope (now scope) (f .count)) ⌝ }
+    ensures { λ r. ⌜ ((g asked : List ℕ) → Tests g (now (t .entry)) asked (siteOf (now (scope .entry)) f) Form.For r) ⌝ }
 {
     let position = f.position;
-    let Found::Number(_) = asks_item(position) else {
-        return false;
+    let Sought::Number(n) = asks_item(position) else {
+        return Tested::Unsuited;
     };
-    match path_kind(t, types, f, f.node + 1) {
-        Kind::Text(_) => false,
-        Kind::YesNo => false,
-        Kind::Items(_) => true,
-        Kind::Fields(_, _) => false,
-        Kind::Missing => false,
+    match path_kind(t, types, scope, f.count, f.node + 1) {
+        Kind::Items(ty) => Tested::Above(Below {
+            first: f.node + 2,
+            count: 1,
+            positions: Positions::Alike(Position::Nonterminal(n)),
+            item: Sought::Number(ty),
+        }),
+        Kind::Text(_) => Tested::Unsuited,
+        Kind::YesNo => Tested::Unsuited,
+        Kind::Fields(_, _) => Tested::Unsuited,
+        Kind::Missing => Tested::Unsuited,
     }
 }
 
-// A sequence: for a repetition.
-fn suits_sequence(f: Frame) -> bool
-    ensures { λ r. ⌜ ((g t : List ℕ) → r ≡ suitsForm g t Form.Sequence (siteOf f)) ⌝ }
+// A sequence: for a repetition. Its nodes are in the position of an item.
+fn suits_sequence(f: Frame, r: Record) -> Tested
+    requires { ⌜ RoomBelow 1 (f .node) ⌝ }
+    ensures { λ a. ⌜ ((g t asked scope : List ℕ) → Fetched t (f .node) r → Tests g t asked (siteOf scope f) Form.Sequence a) ⌝ }
 {
     let position = f.position;
-    let Found::Number(_) = asks_repetition(position) else {
-        return false;
+    let Sought::Number(n) = asks_repetition(position) else {
+        return Tested::Unsuited;
     };
-    true
+    Tested::Above(Below {
+        first: f.node + 1,
+        count: r.d as usize,
+        positions: Positions::Alike(Position::Item(n)),
+        item: Sought::Nothing,
+    })
 }
 
-// Whether the frame's node suits its position.
-pub fn suits(
+// A node's own test, by its form: whether it suits its position, and what stands below it.
+pub fn own_test(
     g: &[u8],
     t: &[u8],
     classes: &[u16],
-    sets: &[u64],
+    sets: &[u16],
     productions: &[u16],
-    asked: &[u16; 8064],
+    asked: &[u16; RECORDS],
     types: &[u16],
     templates: &[u16],
+    scope: &[u16; VARIABLES],
     f: Frame,
-) -> bool
-    requires { ⌜ (Lent (now g) (now t) (now classes) (now sets) (now productions) (now asked) (now types) (now templates)) × (Near 1 (f .node)) × (f .count ≤ 24) ⌝ }
-    ensures { λ r. ⌜ r ≡ suits (now (g .entry)) (now (t .entry)) (siteOf f) ⌝ }
+) -> Tested
+    requires { ⌜ (CheckerTables (now g) (now t) (now classes) (now sets) (now productions) (now asked) (now types) (now templates)) × (RoomBelow 1 (f .node)) × (Scope (now scope) (f .count)) ⌝ }
+    ensures { λ r. ⌜ Tests (now (g .entry)) (now (t .entry)) (now (asked .entry)) (siteOf (now (scope .entry)) f) (formOf (now (t .entry)) (f .node)) r ⌝ }
 {
-    match form_of(t, f.node) {
-        Form::Build => suits_build(g, t, productions, asked, f),
-        Form::Literal => suits_literal(g, t, classes, sets, f),
-        Form::Place => suits_place(t, types, f),
-        Form::Expand => suits_expand(t, templates, types, f),
-        Form::If => suits_if(t, types, f),
-        Form::For => suits_for(t, types, f),
-        Form::Sequence => suits_sequence(f),
-        Form::Unknown => false,
+    let r = fetch(t, f.node);
+    match form_of(r) {
+        Form::Build => suits_build(g, productions, asked, f, r),
+        Form::Literal => leaf(suits_literal(g, t, classes, sets, f)),
+        Form::Place => leaf(suits_place(t, types, scope, f)),
+        Form::Expand => leaf(suits_expand(t, templates, types, scope, f, r)),
+        Form::If => suits_if(t, types, scope, f),
+        Form::For => suits_for(t, types, scope, f),
+        Form::Sequence => suits_sequence(f, r),
+        Form::Unknown => Tested::Unsuited,
     }
 }

@@ -1,31 +1,35 @@
 // Refusal 8: the value against its declared type.
 ghost use mathlib.Core.Path.{_≡_};
 ghost use mathlib.Core.List.{List};
+ghost use mathlib.Core.Option.{none};
 ghost use Prim.Native.Nat.{ℕ, _<_};
+ghost use Rattle.rules.specs.Blocks.{streamLength};
 ghost use Rattle.rules.specs.Faults.{every, at};
-ghost use Rattle.lexeme.specs.Sets.{Ready as LexemesReady};
+ghost use Rattle.lexeme.specs.Sets.{LexemesReady};
 ghost use Rattle.rules.specs.Typing.{hasForm, mistyped, valueTyping};
-ghost use Rattle.rules.specs.Templates.{types as typeHeads};
+ghost use Rattle.rules.specs.Value.{valueSize};
 ghost use Rattle.stream.specs.Fault.{faultOf};
 ghost use Rattle.stream.specs.Record.{Fetched};
-ghost use Rattle.typing.specs.Answers.{kindForm, childCount, childType, sizeIn, typedRow};
-ghost use Rattle.typing.specs.Asks.{ValueRow, ValueAsks};
-use crate::Found;
+ghost use Rattle.typing.specs.Answers.{kindForm, childCount, childType, rowOf, typedIn};
+ghost use Rattle.typing.specs.Asks.{TypeTable, ValueRow, ValueAsks};
 use crate::Kind;
+use crate::LEVELS;
+use crate::Sought;
 use crate::kinds::type_of;
 use crate::templates::declared_type;
 use lexeme::admits;
+use records::text::text_of;
+use records::value::size_of;
 use stream::Fault;
 use stream::record::Record;
 use stream::record::fetch;
-use stream::text::text_after;
 
 // Whether the value at w, whose record is r, is of a kind, whatever stands below it.
 fn has_form(
     g: &[u8],
     v: &[u8],
     classes: &[u16],
-    sets: &[u64],
+    sets: &[u16],
     kind: Kind,
     w: usize,
     r: Record,
@@ -36,7 +40,7 @@ fn has_form(
     match kind {
         Kind::Text(c) => {
             if r.kind == 1 {
-                admits(g, classes, sets, c, v, text_after(v, w, r.b as usize))
+                admits(g, classes, sets, c, v, text_of(v, w, r))
             } else {
                 false
             }
@@ -63,7 +67,7 @@ fn child_count(kind: Kind, r: Record) -> usize
 
 // The type of child i of a value of a kind: the item type, or that of field i.
 fn child_type(t: &[u8], kind: Kind, i: usize) -> u16
-    requires { ⌜ i < 65536 ⌝ }
+    requires { ⌜ (streamLength (now t) ≡ none) × (i < 65536) ⌝ }
     ensures { λ r. ⌜ r ≡ childType (now (t .entry)) kind i ⌝ }
 {
     match kind {
@@ -78,13 +82,6 @@ fn child_type(t: &[u8], kind: Kind, i: usize) -> u16
     }
 }
 
-// The records of a value.
-fn size_of(r: Record) -> usize
-    ensures { λ n. ⌜ (n ≡ sizeIn r) × (n < 65536) ⌝ }
-{
-    if r.kind == 2 { 1 } else { r.c as usize }
-}
-
 // The place of the first value that is not of its type, among n values in a row from a place on and all that stands below them, where `left`
 // levels are left. They are the children of a value of a kind.
 fn values_typed(
@@ -92,15 +89,15 @@ fn values_typed(
     t: &[u8],
     v: &[u8],
     classes: &[u16],
-    sets: &[u64],
+    sets: &[u16],
     types: &[u16],
     kind: Kind,
     first: usize,
     n: usize,
     left: usize,
 ) -> Fault
-    requires { ⌜ (LexemesReady (now g) (now classes) (now sets)) × (now types ≡ typeHeads (now t)) × (ValueRow first n left) ⌝ }
-    ensures { λ r. ⌜ faultOf r ≡ at (λ x. x .value) (every (mistyped (now (g .entry)) (now (t .entry)) (now (v .entry)) left) (typedRow (now (t .entry)) (now (v .entry)) kind n 0 first)) ⌝ }
+    requires { ⌜ (LexemesReady (now g) (now classes) (now sets)) × (TypeTable (now t) (now types)) × (streamLength (now v) ≡ none) × (ValueRow first n left) ⌝ }
+    ensures { λ r. ⌜ faultOf r ≡ at (λ x. x .value) (every (mistyped (now (g .entry)) (now (t .entry)) (now (v .entry)) left) (rowOf (typedIn (now (t .entry)) kind) (valueSize (now (v .entry))) n 0 first)) ⌝ }
 {
     let mut next = first;
     let mut i = 0;
@@ -135,15 +132,15 @@ pub fn value_typing(
     t: &[u8],
     v: &[u8],
     classes: &[u16],
-    sets: &[u64],
+    sets: &[u16],
     types: &[u16],
     templates: &[u16],
 ) -> Fault
-    requires { ⌜ ValueAsks (now g) (now t) (now classes) (now sets) (now types) (now templates) ⌝ }
+    requires { ⌜ ValueAsks (now g) (now t) (now v) (now classes) (now sets) (now types) (now templates) ⌝ }
     ensures { λ r. ⌜ faultOf r ≡ valueTyping (now (g .entry)) (now (t .entry)) (now (v .entry)) ⌝ }
 {
-    let Found::Number(ty) = declared_type(t, templates) else {
+    let Sought::Number(ty) = declared_type(t, templates) else {
         return Fault::At(0);
     };
-    values_typed(g, t, v, classes, sets, types, Kind::Items(ty), 0, 1, 200)
+    values_typed(g, t, v, classes, sets, types, Kind::Items(ty), 0, 1, LEVELS)
 }

@@ -14,7 +14,7 @@ abbrev μ-loop : tie.MeasureT-loop
 μ-loop g h asked₀ q n e₀ i₀ count₀ asked e i count = n - i
 
 fetch-requires : tie.Need-fetch-requires Inv-loop μ-loop
-fetch-requires c κs = search needs
+fetch-requires c κs = c .before .pre .0
 
 cast-n : tie.Need-cast-n Inv-loop μ-loop
 cast-n c = search needs
@@ -26,67 +26,58 @@ loop-holds : tie.Need-loop-holds Inv-loop μ-loop
 loop-holds c = filling-start _ _ _ _ (c .before .before .before .pre .0) (c .before .before .before .pre .1) (c .before .fetch .ensures .d) (c .before .before .before .pre .2)
 
 fetch-requires-2 : tie.Need-fetch-requires-2 Inv-loop μ-loop
-fetch-requires-2 c κs = search needs
+fetch-requires-2 c κs = c .before .before .before .before .before .pre .0
+
+size-of-requires : tie.Need-size-of-requires Inv-loop μ-loop
+size-of-requires c κs = search needs
+
+add-next : tie.Need-add-next Inv-loop μ-loop
+add-next c = search needs
 
 add-turn : tie.Need-add-turn Inv-loop μ-loop
-add-turn c = record { fits = omega (arith, c .before .before .loop .inv .far, c .before .before .loop .inv .turns, c .before .before .loop .inv .behind, c .before .before .loop .inv .inside, c .before .loop-test .taken, c .before .before .before .struct-known .given) }
-
-cast-e : tie.Need-cast-e Inv-loop μ-loop
-cast-e c = search needs
-
-add-e-2 : tie.Need-add-e-2 Inv-loop μ-loop
-add-e-2 c = record { fits = omega (arith, c .struct-known3 .given) }
-
-add-e-3 : tie.Need-add-e-3 Inv-loop μ-loop
-add-e-3 c = record { fits = omega (arith, c .struct-known3 .given) }
-
-add-e-4 : tie.Need-add-e-4 Inv-loop μ-loop
-add-e-4 c = record { fits = omega (arith, c .struct-known3 .given, c .before .before .before .before .before .loop .inv .far, c .before .before .before .before .before .loop .inv .turns, c .before .before .before .before .before .loop .inv .behind, c .before .before .before .before .before .loop .inv .inside, c .before .before .before .before .loop-test .taken, c .before .before .before .before .before .before .struct-known .given) }
+add-turn c = search needs
 
 cast-asked : tie.Need-cast-asked Inv-loop μ-loop
-cast-asked c = record { fits = omega (arith, asked-inside _ _ (c .before .before .before .before .before .before .before .before .pre .0) (λ z. c .if1 .left ((c .before .before .fetch2 .ensures .a) ∙ z))) }
+cast-asked c = record { fits = omega (arith, asked-inside _ _ (c .before .before .before .before .before .before .before .before .before .pre .0) (λ z. c .if1 .taken (c .before .before .before .fetch2 .ensures .a ∙ z))) }
 
 add-asked : tie.Need-add-asked Inv-loop μ-loop
-add-asked c = record { fits = omega (arith, c .before .before .before .before .loop .inv .far, c .before .before .before .before .loop .inv .turns, c .before .before .before .before .loop .inv .behind, c .before .before .before .before .loop .inv .inside, c .before .before .before .loop-test .taken, c .before .before .before .before .before .struct-known .given) }
+add-asked c = search needs
 
 add-asked-2 : tie.Need-add-asked-2 Inv-loop μ-loop
-add-asked-2 c = record { fits = omega (arith, c .before .before .before .before .loop .inv .far, c .before .before .before .before .loop .inv .turns, c .before .before .before .before .loop .inv .behind, c .before .before .before .before .loop .inv .inside, c .before .before .before .loop-test .taken, c .before .before .before .before .before .struct-known .given) }
+add-asked-2 c = search needs
 
 mul-asked : tie.Need-mul-asked Inv-loop μ-loop
-mul-asked c = record { fits = omega (arith, c .before .before .before .before .loop .inv .far, c .before .before .before .before .loop .inv .turns, c .before .before .before .before .loop .inv .behind, c .before .before .before .before .loop .inv .inside, c .before .before .before .loop-test .taken, c .before .before .before .before .before .struct-known .given) }
+mul-asked c = search needs
 
 element-write-asked : tie.Need-element-write-asked Inv-loop μ-loop
-element-write-asked c = omega (arith, asked-inside _ _ (c .before .before .before .before .before .before .before .before .pre .0) (λ z. c .if1 .left ((c .before .before .fetch2 .ensures .a) ∙ z)), c .before .before .before .before .loop .inv .far, c .before .before .before .before .loop .inv .turns, c .before .before .before .before .loop .inv .behind, c .before .before .before .before .loop .inv .inside, c .before .before .before .loop-test .taken, c .before .before .before .before .before .struct-known .given)
+element-write-asked c = omega (arith, asked-inside _ _ (c .before .before .before .before .before .before .before .before .before .pre .0) (λ z. c .if1 .taken (c .before .before .before .fetch2 .ensures .a ∙ z)), c .before .before .before .before .before .loop .inv .behind)
 
 add-count : tie.Need-add-count Inv-loop μ-loop
-add-count c = record { fits = omega (arith, c .before .before .before .before .loop .inv .far, c .before .before .before .before .loop .inv .turns, c .before .before .before .before .loop .inv .behind, c .before .before .before .before .loop .inv .inside, c .before .before .before .loop-test .taken, c .before .before .before .before .before .struct-known .given) }
-
-add-e-5 : tie.Need-add-e-5 Inv-loop μ-loop
-add-e-5 c = record { fits = omega (arith, asked-inside _ _ (c .before .before .before .before .before .before .before .before .pre .0) (λ z. c .if1 .left ((c .before .before .fetch2 .ensures .a) ∙ z))) }
+add-count c = search needs
 
 loop-less : tie.Need-loop-less Inv-loop μ-loop
-loop-less c = omega (arith, c .before .before .before .before .loop-test .taken)
+loop-less c = search needs
 
 loop-again : tie.Need-loop-again Inv-loop μ-loop
-loop-again c = filling-keyword _ _ _ _ _ _ _ _ (c .before .before .before .before .before .loop .inv) (c .before .before .before .before .loop-test .taken) (sym (c .before .before .before .fetch2 .ensures .a) ∙ c .before .if1 .taken) _ (c .before .before .before .fetch2 .ensures .b) (omega (arith, c .struct-known3 .given))
+loop-again c = filling-asked (c .before .before .before .before .before .loop .inv) (c .before .before .before .before .loop-test .taken) _ (c .before .before .size-of .ensures .is _ _ (c .before .before .before .fetch2 .ensures)) (c .before .before .size-of .ensures .small) (c .before .before .before .before .before .before .before .before .before .pre .0) (λ z. c .if1 .taken (c .before .before .before .fetch2 .ensures .a ∙ z))
 
 loop-less-2 : tie.Need-loop-less-2 Inv-loop μ-loop
-loop-less-2 c = omega (arith, c .before .before .before .loop-test .taken)
+loop-less-2 c = search needs
 
 loop-again-2 : tie.Need-loop-again-2 Inv-loop μ-loop
-loop-again-2 c = filling-asked _ _ _ _ _ _ _ _ (c .before .before .before .before .loop .inv) (c .before .before .before .loop-test .taken) (c .before .before .before .before .before .before .before .before .pre .0) (λ z. c .if1 .left ((c .before .before .fetch2 .ensures .a) ∙ z))
+loop-again-2 c = filling-keyword (c .before .before .before .before .before .loop .inv) (c .before .before .before .before .loop-test .taken) _ (c .before .before .size-of .ensures .is _ _ (c .before .before .before .fetch2 .ensures)) (c .before .before .size-of .ensures .small) (sym (c .before .before .before .fetch2 .ensures .a) ∙ c .if1 .left)
 
 cast-asked-2 : tie.Need-cast-asked-2 Inv-loop μ-loop
-cast-asked-2 c = record { fits = omega (arith, c .before .loop .inv .inside) }
+cast-asked-2 c = search needs
 
 mul-asked-2 : tie.Need-mul-asked-2 Inv-loop μ-loop
-mul-asked-2 c = record { fits = omega (arith, c .before .loop .inv .inside) }
+mul-asked-2 c = search needs
 
 element-write-asked-2 : tie.Need-element-write-asked-2 Inv-loop μ-loop
-element-write-asked-2 c = omega (arith, c .before .loop .inv .inside)
+element-write-asked-2 c = search needs
 
 returns : tie.Need-returns Inv-loop μ-loop
-returns c = filling-end _ _ _ _ _ _ _ _ (c .before .loop .inv) (c .loop-test .left)
+returns c = filling-end (c .before .loop .inv) (c .loop-test .left)
 
 pub put-row-spec : {M : Type 1} → statement M
 put-row-spec =
@@ -99,18 +90,15 @@ put-row-spec =
     add-e
     loop-holds
     fetch-requires-2
+    size-of-requires
+    add-next
     add-turn
-    cast-e
-    add-e-2
-    add-e-3
-    add-e-4
     cast-asked
     add-asked
     add-asked-2
     mul-asked
     element-write-asked
     add-count
-    add-e-5
     loop-less
     loop-again
     loop-less-2

@@ -1,5 +1,5 @@
 use mathlib.Core.Path.{sym}
-use Rattle.typing.proofs.AnswerLaws.{nth-some, nth-none}
+use Rattle.laws.specs.Lists.{nth-some, nth-none}
 use borrow.Author.Needs.{needs}
 use Rattle.typing.proofs.kinds.head.Statement.{statement}
 use Rattle.typing.proofs.kinds.head.Tie as tie

@@ -15,13 +15,13 @@ enum-told : tie.Need-enum-told
 enum-told c = search needs
 
 returns : tie.Need-returns
-returns c = literal-nothing _ _ _ (lost (c .before .before .asks-class .ensures) (c .enum-told .given .1))
+returns c = λ scope. literal-nothing _ _ _ (lost (c .before .before .asks-class .ensures) (c .enum-told .given .1))
 
 is-lexeme-requires : tie.Need-is-lexeme-requires
-is-lexeme-requires c κs = search needs
+is-lexeme-requires c κs = (c .before .before .before .before .before .before .before .before .pre .0, c .before .before .before .before .before .before .before .before .pre .1)
 
 returns-2 : tie.Need-returns-2
-returns-2 c = c .is-lexeme .ensures ∙ literal-is _ _ _ _ (got (c .before .before .before .before .asks-class .ensures) (c .before .before .c .given .1))
+returns-2 c = λ scope. c .is-lexeme .ensures ∙ literal-is _ _ _ _ (got (c .before .before .before .before .asks-class .ensures) (c .before .before .c .given .1))
 
 pub suits-literal-spec : {M : Type 1} → statement M
 suits-literal-spec =

@@ -1,8 +1,8 @@
 use mathlib.Core.Path.{sym}
 use native.Mathlib.Omega.{arith}
+use Rattle.typing.proofs.AnswerLaws.{got, lost}
 use Rattle.rules.specs.Faults.{onFound}
 use Rattle.rules.specs.Typing.{textClass}
-use Rattle.typing.proofs.AnswerLaws.{got, lost}
 use Rattle.typing.proofs.KindLaws.{kind-is}
 use Rattle.typing.proofs.SuitsLaws.{place-nothing, place-is}
 use borrow.Author.Needs.{needs}
@@ -25,7 +25,7 @@ add-path-kind : tie.Need-add-path-kind
 add-path-kind c = record { fits = omega (arith, c .before .before .before .before .before .before .before .pre .0) }
 
 path-kind-requires : tie.Need-path-kind-requires
-path-kind-requires c κs = c .before .before .before .before .before .before .before .pre .1
+path-kind-requires c κs = (c .before .before .before .before .before .before .before .pre .1, c .before .before .before .before .before .before .before .pre .2)
 
 enum-known-d : tie.Need-enum-known-d
 enum-known-d c = search needs

@@ -26,7 +26,7 @@ add-fetch-2 : tie.Need-add-fetch-2
 add-fetch-2 c = search needs
 
 fetch-requires : tie.Need-fetch-requires
-fetch-requires c κs = search needs
+fetch-requires c κs = c .before .before .before .before .pre .0
 
 enum-told-3 : tie.Need-enum-told-3
 enum-told-3 c = search needs
