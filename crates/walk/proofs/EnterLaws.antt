@@ -1,196 +1,153 @@
--- The visits that are no loops: an expand's body, an if's branch, and a visit's own form. Assumes nothing.
-use Prim.Native.Nat.{ℕ, _+_, _-_, _≤_, _<_}
+-- The visits that are no loops: a build's piece, an expand's body, an if's branch, and a visit's own form. Assumes nothing.
+use Prim.Native.Nat.{ℕ, zero, suc, _+_, _-_, _≤_, _<_}
 use mathlib.Core.Path.{_≡_, refl, sym, ap, _∙_}
 use mathlib.Core.List.{List}
 use mathlib.Core.Bool.{Bool, true, false, cond}
-use mathlib.Core.Option.{Option, none, some}
+use mathlib.Core.Option.{none, some}
 use native.Mathlib.Omega.{arith}
 use native.Mathlib.Nat.{le-refl}
-use lib.ListN.{length, getD, take}
-use lib.Dec.{eqb}
-use Rattle.rules.specs.Faults.{exists, onlyIf}
-use Rattle.rules.specs.Records.{fieldA, fieldB, fieldD, row, nth}
-use Rattle.rules.specs.Templates.{templates, formOf, body, first, second}
-use Rattle.rules.specs.Walk.{End, stuck, pathValues}
+use lib.ListN.{length}
+use lib.Dec.{eqb, ltb}
+use borrow.Author.Tests.{ltb-true, lt-ltb}
+use Rattle.rules.specs.Faults.{onlyIf}
+use Rattle.rules.specs.Records.{fieldB, fieldD, row, nth}
+use Rattle.rules.specs.Templates.{formOf, body, first, second}
+use Rattle.rules.specs.Answers.{input}
+use Rattle.rules.specs.Walk.{End, stuck, pathValues, visit}
 use Rattle.rules.specs.declared.Form.{Form}
 use Rattle.rules.specs.declared.Form.the-variants.{Expand, If}
-use Rattle.walk.specs.declared.state.At.{At}
+use Rattle.walk.specs.declared.at.At.{At}
 use Rattle.walk.specs.declared.state.Run.{Run}
-use Rattle.walk.specs.Held.{frame, Passed}
-use Rattle.walk.specs.Small.{Housed}
-use Rattle.walk.specs.Run.{runOf, Ran, Visited}
-use Rattle.walk.specs.Asks.{Near, Ready, Formed, visitAt, formAt}
-use Rattle.walk.proofs.PathLaws.{held-none, nth-some}
+use Rattle.walk.specs.Frames.{frame, Passed}
+use Rattle.walk.specs.Run.{stateOf, RanFrom, VisitedFrom}
+use Rattle.walk.specs.Nodes.{countedAt, belowAt, framedAt, endedAt, visitAt, formAt}
+use Rattle.walk.specs.Asks.{Sources, Visitable, Formed}
 use Rattle.walk.proofs.FrameLaws.{take-less}
 use Rattle.walk.proofs.RunLaws.{ran-is, ran-ended, ran-stuck, visited-is, visited-ran, visited-counted}
-use Rattle.walk.proofs.HouseLaws.{housed-few, housed-paths, housed-branch, housed-template}
+use Rattle.walk.proofs.BodyLaws.{body-first, body-paths, if-below}
 use Rattle.walk.proofs.FormLaws.{expand-none, expand-lost, expand-is, visit-spent, visit-deep, visit-form, visit-blind}
-use Rattle.walk.proofs.LoopLaws.{below, vars-inside}
+use Rattle.walk.proofs.LoopLaws.{visitable-below}
 
--- an if
+-- an if: its branch is at b
 
-pub branch-ready : {g t v ps ts : List ℕ} {at : At} {out s : List ℕ} → Formed If g t v ps ts at out s → (a b : ℕ) → b ≡ cond (eqb a 1) (first (at .node)) (second t (at .node)) → b ≤ at .node + 65537
-    → Ready g t v ps ts (at .left) (below at b (at .steps) (at .bytes)) out s
-branch-ready {t = t} {at = at} formed a b e l = record {
-  lent = formed .ready .lent;
-  near = omega (arith, formed .ready .near);
-  housed = rw e (housed-branch t (at .vars) (at .node) (formed .ready .housed) (formed .is) (eqb a 1));
-  frames = omega (arith, formed .ready .frames);
-  held = formed .ready .held;
-  room = formed .ready .room;
-}
+module _ {s : Sources} {at : At} {out sc : List ℕ} (formed : Formed If s at out sc) {b : ℕ} {there : At} (is : there ≡ belowAt at b) where
+  pub branch-visitable : (a : ℕ) → b ≡ cond (eqb a 1) (first (at .node)) (second (s .templates) (at .node)) → b ≤ at .node + 65537 → Visitable s there out sc
+  branch-visitable a e l = rw is (visitable-below formed b (if-below (s .templates) (at .node) (formed .is) (eqb a 1) b e l))
 
--- an expand: q is the template's place, b its body's
+  pub branch-visited : visitAt (s .grammar) (s .templates) (s .value) (belowAt at b) out sc ≡ formAt If (s .grammar) (s .templates) (s .value) at out sc → {r : Run} {out′ sc′ : List ℕ}
+      → VisitedFrom (visitAt (s .grammar) (s .templates) (s .value) there out sc) there r out out′ sc sc′ → VisitedFrom (formAt If (s .grammar) (s .templates) (s .value) at out sc) at r out out′ sc sc′
+  branch-visited e v = visited-is e (rw is at v)
 
-pub body-is : (t : List ℕ) (q a b : ℕ) → a ≡ fieldA t q → b ≡ q + 1 + a → b ≡ body t q
-unfolding body
-body-is t q a b ha hb = hb ∙ rw ha
+pub falls-there : (at : At) {there : At} (node : ℕ) → there ≡ belowAt at node → there .fuel - there .steps ≤ at .fuel - at .steps
+falls-there at node is = rw is (omega arith)
 
-exists-some : (o : Option (List ℕ)) → true ≡ exists o → (ws : List ℕ) × (o ≡ some ws)
-unfolding exists
-exists-some none e = absurd (let z : _≡_ {A = ℕ} 0 1 = cc in omega arith)
-exists-some (some ws) e = (ws, refl)
+-- an expand: the template is found, whose body is at b
 
-exists-none : (o : Option (List ℕ)) → false ≡ exists o → o ≡ none
-unfolding exists
-exists-none none e = refl
-exists-none (some ws) e = absurd (let z : _≡_ {A = ℕ} 0 1 = cc in omega arith)
+module _ {s : Sources} {at : At} {out sc : List ℕ} (formed : Formed Expand s at out sc) (n : ℕ) (hn : n ≡ fieldB (s .templates) (at .node)) where
+  pub expand-missing : nth (s .template-heads) n ≡ none → formAt Expand (s .grammar) (s .templates) (s .value) at out sc ≡ stuck
+  expand-missing l = expand-none (s .grammar) (s .templates) (s .value) (at .fuel) out _ (at .node) _ _ (s .template-heads) n (formed .visitable .lent .templates-are) hn l
 
--- with no level left: no variables, behind those of this node
-abbrev pub deep : At → ℕ → At
-deep at b = record { node = b; base = at .base + at .vars; vars = 0; left = at .left; fuel = at .fuel; steps = at .steps; bytes = at .bytes }
-
--- else the next frame
-abbrev pub entered : At → ℕ → ℕ → At
-entered at b count = record { node = b; base = at .base + 24; vars = count; left = at .left; fuel = at .fuel; steps = at .steps; bytes = at .bytes }
-
-module _ {g t v ps ts : List ℕ} {at : At} {out s : List ℕ} (formed : Formed Expand g t v ps ts at out s) where
-  pub expand-missing : (n : ℕ) → n ≡ fieldB t (at .node) → length ts ≤ n → formAt Expand g t v at out s ≡ stuck
-  expand-missing n h l = expand-none g t v (at .fuel) out _ (at .node) _ _ ts n (formed .ready .lent .templates-are) h l
-
-  module _ (n : ℕ) (hn : n ≡ fieldB t (at .node)) (ln : n < length ts) (count : ℕ) (hc : count ≡ fieldD t (at .node)) where
+  module _ {q : ℕ} (found : nth (s .template-heads) n ≡ some q) (count : ℕ) (hc : count ≡ fieldD (s .templates) (at .node)) where
     pub count-few : count ≤ 8
-    count-few = omega (arith, housed-paths t (at .vars) (at .node) (formed .ready .housed) (formed .is))
+    count-few = omega (arith, body-paths (formed .visitable .lent .few-paths) (formed .visitable .in-body) (formed .is))
 
-    module _ (a : ℕ) (ha : a ≡ fieldA t (getD ts n 0)) where
-      found : nth ts n ≡ some (getD ts n 0)
-      found = nth-some ts n ln
+    pub expand-room : ltb 1 (at .left) ≡ true → at .base + at .vars + count ≤ length sc
+    expand-room m = let l : 1 < at .left = ltb-true 1 (at .left) m in omega (arith, count-few, formed .visitable .alive, formed .visitable .stored)
 
-      template-found : nth (templates t) n ≡ some (getD ts n 0)
-      template-found = ap (λ (l : List ℕ). nth l n) (sym (formed .ready .lent .templates-are)) ∙ found
-
-      housed-at : (vars : ℕ) → vars ≤ 8 → Housed t vars 1 (getD ts n 0 + 1 + a)
-      housed-at vars l =
-          rw (body-is t (getD ts n 0) a (getD ts n 0 + 1 + a) ha refl)
-          (housed-template t vars n (getD ts n 0) (formed .ready .lent .templates-small) template-found l)
-
-      near-at : getD ts n 0 < 65536 → a < 256 → Near (at .left) (getD ts n 0 + 1 + a)
-      near-at l m = omega (arith, formed .ready .near)
-
-      pub expand-lacks : false ≡ exists (pathValues t v (frame (at .base) (at .vars) s) (row count (at .node + 1))) → formAt Expand g t v at out s ≡ stuck
-      expand-lacks e = expand-lost g t v (at .fuel) out _ (at .node) _ _ ts n _ count (formed .ready .lent .templates-are) hn found hc (exists-none _ e)
-
-      -- with no level left
-      module _ (none-left : at .left ≡ 0) where
-        pub deep-ready : getD ts n 0 < 65536 → a < 256 → Ready g t v ps ts (at .left) (deep at (getD ts n 0 + 1 + a)) out s
-        deep-ready l m = record {
-          lent = formed .ready .lent;
-          near = near-at l m;
-          housed = housed-at 0 (omega arith);
-          frames = omega (arith, vars-inside (formed .ready));
-          held = held-none v;
-          room = formed .ready .room;
-        }
-
-        pub deep-visited : true ≡ exists (pathValues t v (frame (at .base) (at .vars) s) (row count (at .node + 1))) → (r : Run) (out′ s′ : List ℕ)
-            → Visited (visitAt g t v (deep at (getD ts n 0 + 1 + a)) out s) (at .steps) (at .bytes) r out out′ (at .base + at .vars + 0) s s′
-            → Visited (formAt Expand g t v at out s) (at .steps) (at .bytes) r out out′ (at .base + at .vars) s s′
-        deep-visited e r out′ s′ visited =
-            let ws = exists-some _ e in
-            record {
-              ran = ran-is (visit-blind g t v (at .fuel) out (at .left) _ _ (ws .0) _ none-left
-                  ∙ expand-is g t v (at .fuel) out _ (at .node) _ _ ts n _ count (formed .ready .lent .templates-are) hn found hc (ws .0) (ws .1) a _ ha refl) (visited .ran);
-              kept = take-less (at .base + at .vars) (at .base + at .vars + 0) s′ s (omega arith) (visited .kept);
-            }
-
-      -- with one
-      module _ (r : Bool) (s₁ : List ℕ) (passed : Passed t v (at .base) (at .vars) (at .node + 1) count r s s₁) (lens : length s₁ ≡ length s) where
-        kept-back : take (at .base + at .vars) s₁ ≡ take (at .base + at .vars) s
-        kept-back = take-less (at .base + at .vars) (at .base + 24) s₁ s (omega (arith, housed-few t (at .vars) (at .node) (formed .ready .housed))) (passed .kept)
-
-        pub enter-lost : r ≡ false → (u : Run) → u ≡ runOf 99 (at .node) (at .steps) (at .bytes) → Visited (formAt Expand g t v at out s) (at .steps) (at .bytes) u out out (at .base + at .vars) s s₁
-        unfolding onlyIf
-        enter-lost e u w =
-            let p : pathValues t v (frame (at .base) (at .vars) s) (row count (at .node + 1)) ≡ none = passed .is ∙ rw e in
-            record {
-              ran = ran-stuck (at .node) (at .steps) (at .bytes) u out (formed .ready .room) w
-                  (expand-lost g t v (at .fuel) out _ (at .node) _ _ ts n _ count (formed .ready .lent .templates-are) hn found hc p);
-              kept = kept-back;
-            }
-
-        module _ (yes : r ≡ true) where
-          pub enter-ready : (at .left ≡ 0 → ⊥) → getD ts n 0 < 65536 → a < 256 → Ready g t v ps ts (at .left) (entered at (getD ts n 0 + 1 + a) count) out s₁
-          enter-ready more l m = record {
-            lent = formed .ready .lent;
-            near = near-at l m;
-            housed = housed-at count count-few;
-            frames = omega (arith, formed .ready .frames, lens);
-            held = passed .held yes;
-            room = formed .ready .room;
+    module _ {r : Bool} {sc₁ : List ℕ} (passed : Passed (s .templates) (s .value) (at .base) (at .vars) (at .node + 1) count (ltb 1 (at .left)) r sc sc₁) (lens : length sc₁ ≡ length sc) where
+      pub enter-lost : r ≡ false → {u : Run} → u ≡ endedAt 99 at → VisitedFrom (formAt Expand (s .grammar) (s .templates) (s .value) at out sc) at u out out sc sc₁
+      unfolding onlyIf
+      enter-lost e w =
+          let p : pathValues (s .templates) (s .value) (frame (at .base) (at .vars) sc) (row count (at .node + 1)) ≡ none = passed .is ∙ rw e in
+          record {
+            ran = ran-stuck at (formed .visitable .room) w
+                (expand-lost (s .grammar) (s .templates) (s .value) (at .fuel) out _ (at .node) _ _ (s .template-heads) n _ count (formed .visitable .lent .templates-are) hn found hc p);
+            kept = passed .kept;
           }
 
-          pub enter-visited : (u : Run) (out′ s′ : List ℕ)
-              → Visited (visitAt g t v (entered at (getD ts n 0 + 1 + a) count) out s₁) (at .steps) (at .bytes) u out out′ (at .base + 24 + count) s₁ s′
-              → Visited (formAt Expand g t v at out s) (at .steps) (at .bytes) u out out′ (at .base + at .vars) s s′
-          unfolding onlyIf
-          enter-visited u out′ s′ visited =
-              let p : pathValues t v (frame (at .base) (at .vars) s) (row count (at .node + 1)) ≡ some (frame (at .base + 24) count s₁) = passed .is ∙ rw yes in
-              record {
-                ran = ran-is (expand-is g t v (at .fuel) out _ (at .node) _ _ ts n _ count (formed .ready .lent .templates-are) hn found hc _ p a _ ha refl) (visited .ran);
-                kept = take-less (at .base + at .vars) (at .base + 24 + count) s′ s₁ (omega (arith, housed-few t (at .vars) (at .node) (formed .ready .housed))) (visited .kept) ∙ kept-back;
-              }
+      module _ (yes : r ≡ true) (b : ℕ) (hb : b ≡ body (s .templates) q) {there inner : At} (e₁ : there ≡ belowAt at b) (e₂ : inner ≡ framedAt there (at .base + at .vars) count) where
+        -- a level below has its variables stored
+        stored : 1 ≤ at .left - 1 → frame (at .base + at .vars) count sc₁ ≡ passed .values
+        stored l = passed .next yes (lt-ltb 1 (at .left) (omega arith))
+
+        pub enter-visitable : b < 65792 → Visitable s inner out sc₁
+        enter-visitable l = rw (e₂, e₁) (record {
+          lent = formed .visitable .lent;
+          near = omega (arith, formed .level, formed .visitable .near);
+          in-body = rw hb (body-first (s .templates) n q (ap (λ (ts : List ℕ). nth ts n) (sym (formed .visitable .lent .templates-are)) ∙ found));
+          alive = omega (arith, formed .level, count-few, formed .visitable .alive);
+          stored = omega (arith, formed .visitable .stored, lens);
+          held = λ m. rw (stored m) (passed .held);
+          room = formed .visitable .room;
+        })
+
+        pub enter-falls : inner .fuel - inner .steps ≤ at .fuel - at .steps
+        enter-falls = rw (e₂, e₁) (omega arith)
+
+        whole : visit (input (s .grammar) (s .templates) (s .value) (at .fuel) out) (at .left - 1) b (passed .values) (stateOf (at .steps) (at .bytes) out) ≡ formAt Expand (s .grammar) (s .templates) (s .value) at out sc
+        unfolding onlyIf
+        whole =
+            expand-is (s .grammar) (s .templates) (s .value) (at .fuel) out _ (at .node) _ _ (s .template-heads) n _ count (formed .visitable .lent .templates-are) hn found hc
+            (passed .values) (passed .is ∙ rw yes) b hb
+
+        -- the body's visit has the variables that were found, or reads none
+        entered : (left : ℕ) → at .left - 1 ≡ left → visitAt (s .grammar) (s .templates) (s .value) (framedAt (belowAt at b) (at .base + at .vars) count) out sc₁ ≡ formAt Expand (s .grammar) (s .templates) (s .value) at out sc
+        entered zero h = visit-blind (s .grammar) (s .templates) (s .value) (at .fuel) out (at .left - 1) b _ (passed .values) _ h ∙ whole
+        entered (suc k) h =
+            ap (λ (env : List ℕ). visit (input (s .grammar) (s .templates) (s .value) (at .fuel) out) (at .left - 1) b env (stateOf (at .steps) (at .bytes) out)) (stored (omega (arith, h))) ∙ whole
+
+        pub enter-visited : {u : Run} {out′ sc′ : List ℕ} → VisitedFrom (visitAt (s .grammar) (s .templates) (s .value) inner out sc₁) inner u out out′ sc₁ sc′
+            → VisitedFrom (formAt Expand (s .grammar) (s .templates) (s .value) at out sc) at u out out′ sc sc′
+        enter-visited {u} {out′} {sc′} v =
+            let v′ : VisitedFrom (visitAt (s .grammar) (s .templates) (s .value) (framedAt (belowAt at b) (at .base + at .vars) count) out sc₁) (framedAt (belowAt at b) (at .base + at .vars) count) u out out′ sc₁ sc′ = rw (e₂, e₁) at v in
+            record {
+              ran = ran-is (entered (at .left - 1) refl) (v′ .ran);
+              kept = take-less (at .base + at .vars) (at .base + at .vars + count) sc′ sc₁ (omega arith) (v′ .kept) ∙ passed .kept;
+            }
 
 -- a visit that a limit ends
 
-module _ {g t v ps ts : List ℕ} {at : At} {out s : List ℕ} (ready : Ready g t v ps ts (at .left) at out s) (r : Run) where
-  pub spent-visited : at .fuel ≤ at .steps → r ≡ runOf 10 (at .node) (at .steps) (at .bytes) → Visited (visitAt g t v at out s) (at .steps) (at .bytes) r out out (at .base + at .vars) s s
+module _ {s : Sources} {at : At} {out sc : List ℕ} (visitable : Visitable s at out sc) where
+  pub spent-visited : {r : Run} → at .fuel ≤ at .steps → r ≡ endedAt 10 at → VisitedFrom (visitAt (s .grammar) (s .templates) (s .value) at out sc) at r out out sc sc
   spent-visited h w =
-      visited-ran _ s (ran-ended 10 (at .node) (at .steps) (at .steps) (at .bytes) r out (ready .room) (le-refl _) w
-      (visit-spent g t v (at .fuel) out (at .node) _ (at .steps) (at .bytes) out (at .left) h))
+      visited-ran _ sc (ran-ended 10 at (at .steps) (visitable .room) (le-refl _) w
+      (visit-spent (s .grammar) (s .templates) (s .value) (at .fuel) out (at .node) _ (at .steps) (at .bytes) out (at .left) h))
 
-  pub deepest-visited : at .steps < at .fuel → at .left ≡ 0 → r ≡ runOf 11 (at .node) (at .steps + 1) (at .bytes) → Visited (visitAt g t v at out s) (at .steps) (at .bytes) r out out (at .base + at .vars) s s
-  deepest-visited h e w =
-      visited-ran _ s (ran-ended 11 (at .node) (at .steps) (at .steps + 1) (at .bytes) r out (ready .room) (omega arith) w
-      (visit-deep g t v (at .fuel) out (at .node) _ (at .steps) (at .bytes) out (at .left) h e))
+  -- its step is counted
+  module _ (spare : at .steps < at .fuel) {here : At} (is : here ≡ countedAt at) where
+    pub deepest-visited : {r : Run} → at .left ≡ 0 → r ≡ endedAt 11 here → VisitedFrom (visitAt (s .grammar) (s .templates) (s .value) at out sc) at r out out sc sc
+    deepest-visited e w =
+        visited-ran _ sc (ran-ended 11 (countedAt at) (at .steps) (visitable .room) (omega arith) (w ∙ rw is)
+        (visit-deep (s .grammar) (s .templates) (s .value) (at .fuel) out (at .node) _ (at .steps) (at .bytes) out (at .left) spare e))
 
--- a visit, which has counted its step
+    pub form-falls : here .fuel - here .steps < at .fuel - at .steps
+    form-falls = rw is (omega arith)
 
-abbrev pub formed-at : At → ℕ → At
-formed-at at steps = record { node = at .node; base = at .base; vars = at .vars; left = at .left - 1; fuel = at .fuel; steps = steps; bytes = at .bytes }
+    module _ (level : at .left ≡ 0 → ⊥) {form : Form} (f : formOf (s .templates) (here .node) ≡ form) where
+      form-there : formOf (s .templates) (at .node) ≡ form
+      form-there = rw is at f
 
-module _ {g t v ps ts : List ℕ} {at : At} {out s : List ℕ} (ready : Ready g t v ps ts (at .left) at out s) (spare : at .steps < at .fuel) (level : at .left ≡ 0 → ⊥) where
-  pub form-ready : (form : Form) → formOf t (at .node) ≡ form → Formed form g t v ps ts (formed-at at (at .steps + 1)) out s
-  form-ready form is =
-      let e : at .left - 1 + 1 ≡ at .left = omega arith in
-      record {
-        is = is;
-        ready = record {
-          lent = ready .lent;
-          near = rw e (ready .near);
-          housed = ready .housed;
-          frames = rw e (ready .frames);
-          held = ready .held;
-          room = ready .room;
+      pub form-formed : Formed form s here out sc
+      form-formed = rw is (record {
+        is = form-there;
+        level = omega arith;
+        visitable = record {
+          lent = visitable .lent;
+          near = visitable .near;
+          in-body = visitable .in-body;
+          alive = visitable .alive;
+          stored = visitable .stored;
+          held = visitable .held;
+          room = visitable .room;
         };
-      }
+      })
 
-  pub form-visited : (form : Form) → formOf t (at .node) ≡ form → (r : Run) (out′ s′ : List ℕ)
-      → Visited (formAt form g t v (formed-at at (at .steps + 1)) out s) (at .steps + 1) (at .bytes) r out out′ (at .base + at .vars) s s′
-      → Visited (visitAt g t v at out s) (at .steps) (at .bytes) r out out′ (at .base + at .vars) s s′
-  form-visited form is r out′ s′ visited =
-      visited-counted (visited-is (visit-form g t v (at .fuel) out (at .node) _ (at .steps) (at .bytes) out (at .left) spare level form is) visited)
+      pub form-visited : {u : Run} {out′ sc′ : List ℕ} → VisitedFrom (formAt form (s .grammar) (s .templates) (s .value) here out sc) here u out out′ sc sc′
+          → VisitedFrom (visitAt (s .grammar) (s .templates) (s .value) at out sc) at u out out′ sc sc′
+      form-visited v =
+          visited-counted (visited-is (visit-form (s .grammar) (s .templates) (s .value) (at .fuel) out (at .node) _ (at .steps) (at .bytes) out (at .left) spare level form form-there) (rw is at v))
 
-  -- a form that only writes keeps all of the scratch
-  pub form-ran : (form : Form) → formOf t (at .node) ≡ form → (e : End) → e ≡ formAt form g t v (formed-at at (at .steps + 1)) out s → (r : Run) (out′ : List ℕ)
-      → Ran e (at .steps + 1) (at .bytes) r out out′ → Visited (visitAt g t v at out s) (at .steps) (at .bytes) r out out′ (at .base + at .vars) s s
-  form-ran form is e same r out′ ran = form-visited form is r out′ s (visited-ran _ s (ran-is same ran))
+      -- a form that only writes keeps all of the scratch
+      pub form-ran : {e : End} → e ≡ formAt form (s .grammar) (s .templates) (s .value) here out sc → {u : Run} {out′ : List ℕ} → RanFrom e here u out out′
+          → VisitedFrom (visitAt (s .grammar) (s .templates) (s .value) at out sc) at u out out′ sc sc
+      form-ran same ran = form-visited (visited-ran _ sc (ran-is same ran))

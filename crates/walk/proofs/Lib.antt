@@ -1,9 +1,9 @@
-pub mod HeldLaws
 pub mod PathLaws
 pub mod FrameLaws
 pub mod RunLaws
-pub mod HouseLaws
+pub mod BodyLaws
 pub mod FormLaws
 pub mod LoopLaws
+pub mod BuildLaws
 pub mod EnterLaws
 pub mod StartLaws

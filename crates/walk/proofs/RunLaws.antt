@@ -14,8 +14,10 @@ use borrow.Rule.Slice.PartMut.{putMid}
 use Rattle.rules.specs.Walk.{State, fuel-spent, too-deep, output-full, End, done, ended, stuck, andThen, write}
 use Rattle.stream.specs.Text.{withText, Copied}
 use Rattle.stream.proofs.TextCopyLaws.{lent-rest}
+use Rattle.walk.specs.declared.at.At.{At}
 use Rattle.walk.specs.declared.state.Run.{Run}
-use Rattle.walk.specs.Run.{stateOf, runOf, endNumbered, view, Grown, Ran, Visited}
+use Rattle.walk.specs.Run.{stateOf, runOf, endNumbered, view, Grown, Ran, Visited, RanFrom, VisitedFrom}
+use Rattle.walk.specs.Nodes.{endedAt, writeAt}
 
 -- the ends that runs stand for
 
@@ -41,16 +43,13 @@ view-ends r out next h = numbered-ends (r .number) (r .place) _ next h
 
 -- what grows
 
-pub grown-none : (steps bytes : ℕ) (r : Run) (out : List ℕ) → bytes ≤ length out → steps ≤ r .steps → r .bytes ≡ bytes → Grown steps bytes r out out
-grown-none steps bytes r out h s b = record { steps-grow = s; bytes-grow = omega arith; inside = omega arith; rest = refl }
-
 drop-more : (m n : ℕ) (a b : List ℕ) → m ≤ n → drop m a ≡ drop m b → drop n a ≡ drop n b
 drop-more m n a b h e =
     let k : n ≡ m + (n - m) = omega arith in
     ap (λ (j : ℕ). drop j a) k ∙ sym (drop-drop (n - m) m a) ∙ ap (drop (n - m)) e ∙ drop-drop (n - m) m b ∙ ap (λ (j : ℕ). drop j b) (sym k)
 
 -- first to r, and from there to u
-pub grown-more : (steps bytes : ℕ) (r u : Run) (a b d : List ℕ) → length b ≡ length a → Grown steps bytes r a b → Grown (r .steps) (r .bytes) u b d → Grown steps bytes u a d
+grown-more : (steps bytes : ℕ) (r u : Run) (a b d : List ℕ) → length b ≡ length a → Grown steps bytes r a b → Grown (r .steps) (r .bytes) u b d → Grown steps bytes u a d
 grown-more steps bytes r u a b d e g h = record {
   steps-grow = le-trans (g .steps-grow) (h .steps-grow);
   bytes-grow = le-trans (g .bytes-grow) (h .bytes-grow);
@@ -69,18 +68,18 @@ pub visited-ran : {e : End} {steps bytes : ℕ} {r : Run} {out out′ : List ℕ
 visited-ran keep s g = record { ran = g; kept = refl }
 
 -- a run that ends where it is
-pub ran-ended : (number place steps₀ steps bytes : ℕ) (r : Run) (out : List ℕ) {e : End} → bytes ≤ length out → steps₀ ≤ steps → r ≡ runOf number place steps bytes
-    → endNumbered number place (stateOf steps bytes out) ≡ e → Ran e steps₀ bytes r out out
+pub ran-ended : (number : ℕ) (at : At) (steps : ℕ) {r : Run} {out : List ℕ} {e : End} → at .bytes ≤ length out → steps ≤ at .steps → r ≡ endedAt number at
+    → endNumbered number (at .node) (stateOf (at .steps) (at .bytes) out) ≡ e → Ran e steps (at .bytes) r out out
 unfolding view
-ran-ended number place steps₀ steps bytes r out b h w e =
+ran-ended number at steps b h w e =
     rw w (record { meets = e; grown = record { steps-grow = h; bytes-grow = le-refl _; inside = b; rest = refl } })
 
-pub ran-stuck : (place steps bytes : ℕ) (r : Run) (out : List ℕ) {e : End} → bytes ≤ length out → r ≡ runOf 99 place steps bytes → e ≡ stuck → Ran e steps bytes r out out
+pub ran-stuck : (at : At) {r : Run} {out : List ℕ} {e : End} → at .bytes ≤ length out → r ≡ endedAt 99 at → e ≡ stuck → RanFrom e at r out out
 unfolding endNumbered
-ran-stuck place steps bytes r out b w e = ran-ended 99 place steps steps bytes r out b (le-refl _) w (sym e)
+ran-stuck at b w e = ran-ended 99 at (at .steps) b (le-refl _) w (sym e)
 
-pub visited-stuck : (place steps bytes : ℕ) (r : Run) (out : List ℕ) {e : End} (keep : ℕ) (s : List ℕ) → bytes ≤ length out → r ≡ runOf 99 place steps bytes → e ≡ stuck → Visited e steps bytes r out out keep s s
-visited-stuck place steps bytes r out keep s b w e = visited-ran keep s (ran-stuck place steps bytes r out b w e)
+pub visited-stuck : (at : At) {r : Run} {out s : List ℕ} {e : End} → at .bytes ≤ length out → r ≡ endedAt 99 at → e ≡ stuck → VisitedFrom e at r out out s s
+visited-stuck at {s = s} b w e = visited-ran _ s (ran-stuck at b w e)
 
 -- what is shown from one step more
 pub ran-counted : {e : End} {steps bytes : ℕ} {r : Run} {out out′ : List ℕ} → Ran e (steps + 1) bytes r out out′ → Ran e steps bytes r out out′
@@ -103,9 +102,13 @@ module _ (out x : List ℕ) (b : ℕ) (fits : b + length x ≤ length out) where
 
 -- what a write leaves, whose text was copied to the beginning of what is left of the output, if it fits there
 
-module _ (x out last : List ℕ) (node steps bytes n : ℕ) (room : bytes ≤ length out) (c : Copied x (take (length out - bytes) (drop bytes out)) last n) where
+module _ (x out last : List ℕ) (at : At) (bytes n : ℕ) {text : List ℕ} (same : text ≡ x) (is : bytes ≡ at .bytes) (room : at .bytes ≤ length out)
+    (copied : Copied text (take (length out - bytes) (drop bytes out)) last n) where
+  c : Copied x (take (length out - bytes) (drop bytes out)) last n
+  c = rw same at copied
+
   longer : length (take bytes out) + length x ≡ bytes + n
-  longer = rw (length-take-le bytes out room, ← c .long)
+  longer = rw (length-take-le bytes out (omega arith), ← c .long)
 
   put-none : length out - bytes < n → putMid bytes (length out - bytes) out last ≡ out
   unfolding withText
@@ -119,75 +122,68 @@ module _ (x out last : List ℕ) (node steps bytes n : ℕ) (room : bytes ≤ le
       let l : length x ≤ length (drop bytes out) = simp length-drop (omega (arith, c .long)) in
       lent-rest x out last bytes n c ∙ rw (le-leb (length x) (length (drop bytes out)) l, drop-drop)
 
-  pub wrote-none : length out - bytes < n → (r : Run) → r ≡ runOf 12 node steps bytes
-      → Ran (write (length out) node x (stateOf steps bytes out)) steps bytes r out (putMid bytes (length out - bytes) out last)
+  pub wrote-none : length out - bytes < n → (r : Run) → r ≡ endedAt 12 at → RanFrom (writeAt at x out) at r out (putMid bytes (length out - bytes) out last)
   unfolding write endNumbered
   wrote-none h r w =
-      let l : length out < length (take bytes out) + length x = omega (arith, longer) in
-      rw (put-none h, lt-leb _ _ l) (ran-ended 12 node steps steps bytes r out room (le-refl _) w refl)
+      let l : length out < length (take (at .bytes) out) + length x = rw (← is) (omega (arith, longer)) in
+      rw (put-none h, lt-leb _ _ l) (ran-ended 12 at (at .steps) room (le-refl _) w refl)
 
-  pub wrote-whole : n ≤ length out - bytes → (r : Run) → r ≡ runOf 0 0 steps (bytes + n)
-      → Ran (write (length out) node x (stateOf steps bytes out)) steps bytes r out (putMid bytes (length out - bytes) out last)
+  pub wrote-whole : n ≤ length out - bytes → (r : Run) → r ≡ runOf 0 (at .node) (at .steps) (bytes + n) → RanFrom (writeAt at x out) at r out (putMid bytes (length out - bytes) out last)
   unfolding write view endNumbered
   wrote-whole h r w =
       let l : length (take bytes out) + length x ≤ length out = omega (arith, longer) in
       let f : bytes + length x ≤ length out = omega (arith, c .long) in
       let e : bytes + n ≡ bytes + length x = ap (λ (m : ℕ). bytes + m) (c .long) in
-      rw (put-whole h, le-leb _ _ l, w, e) (record {
-        meets = ap (λ (y : List ℕ). done (record { steps = steps; text = y })) (put-take out x bytes f);
+      rw (put-whole h, ← is, le-leb _ _ l, w, e) (record {
+        meets = ap (λ (y : List ℕ). done (record { steps = at .steps; text = y })) (put-take out x bytes f);
         grown = record { steps-grow = le-refl _; bytes-grow = omega arith; inside = f; rest = put-drop out x bytes f };
       })
 
 -- loops of visits: what is left to do from here on comes to the whole's end
 
-pub record Going (rest : State → End) (whole : End) (steps₀ bytes₀ : ℕ) (out₀ : List ℕ) (keep : ℕ) (s₀ : List ℕ) (steps bytes : ℕ) (out s : List ℕ) : Type 0 where
-  pub same : rest (stateOf steps bytes out) ≡ whole
-  pub grown : Grown steps₀ bytes₀ (runOf 0 0 steps bytes) out₀ out
-  pub kept : take keep s ≡ take keep s₀
+pub record Going (rest : State → End) (whole : End) (at : At) (out₀ s₀ : List ℕ) (r : Run) (out s : List ℕ) : Type 0 where
+  pub goes : r .number ≡ 0
+  pub same : rest (stateOf (r .steps) (r .bytes) out) ≡ whole
+  pub grown : Grown (at .steps) (at .bytes) r out₀ out
+  pub kept : take (at .base + at .vars) s ≡ take (at .base + at .vars) s₀
   pub len : length out ≡ length out₀
   pub lens : length s ≡ length s₀
 
-module _ (rest : State → End) (whole : End) (steps₀ bytes₀ : ℕ) (out₀ : List ℕ) (keep : ℕ) (s₀ : List ℕ) where
-  pub going-start : bytes₀ ≤ length out₀ → rest (stateOf steps₀ bytes₀ out₀) ≡ whole → Going rest whole steps₀ bytes₀ out₀ keep s₀ steps₀ bytes₀ out₀ s₀
-  going-start b e = record {
+module _ {rest : State → End} {whole : End} {at : At} {out₀ s₀ : List ℕ} where
+  pub going-start : {r : Run} → r ≡ endedAt 0 at → at .bytes ≤ length out₀ → rest (stateOf (at .steps) (at .bytes) out₀) ≡ whole → Going rest whole at out₀ s₀ r out₀ s₀
+  going-start w b e = rw w (record {
+    goes = refl;
     same = e;
     grown = record { steps-grow = le-refl _; bytes-grow = le-refl _; inside = b; rest = refl };
     kept = refl;
     len = refl;
     lens = refl;
-  }
+  })
 
-  module _ (steps bytes : ℕ) (out s : List ℕ) (inv : Going rest whole steps₀ bytes₀ out₀ keep s₀ steps bytes out s) where
-    pub going-end : ((x : State) → rest x ≡ done x) → (r : Run) → r ≡ runOf 0 0 steps bytes → Visited whole steps₀ bytes₀ r out₀ out keep s₀ s
-    going-end d r w = rw w (record {
-      ran = record { meets = view-going (runOf 0 0 steps bytes) out refl ∙ sym (d _) ∙ inv .same; grown = inv .grown };
+  module _ {r : Run} {out s : List ℕ} (inv : Going rest whole at out₀ s₀ r out s) where
+    pub going-end : ((x : State) → rest x ≡ done x) → VisitedFrom whole at r out₀ out s₀ s
+    going-end d = record {
+      ran = record { meets = view-going r out (inv .goes) ∙ sym (d _) ∙ inv .same; grown = inv .grown };
       kept = inv .kept;
-    })
+    }
 
-    pub going-stuck : rest (stateOf steps bytes out) ≡ stuck → (place : ℕ) (r : Run) → r ≡ runOf 99 place steps bytes → Visited whole steps₀ bytes₀ r out₀ out keep s₀ s
-    unfolding view endNumbered
-    going-stuck d place r w = rw w (record {
-      ran = record { meets = sym d ∙ inv .same; grown = record { steps-grow = inv .grown .steps-grow; bytes-grow = inv .grown .bytes-grow; inside = inv .grown .inside; rest = inv .grown .rest } };
-      kept = inv .kept;
-    })
-
-    module _ (e : End) (next : State → End) (more : rest (stateOf steps bytes out) ≡ andThen e next) (r : Run) (out′ s′ : List ℕ)
-        (v : Visited e steps bytes r out out′ keep s s′) (len′ : length out′ ≡ length out) where
-      pub going-stop : (r .number ≡ 0 → ⊥) → Visited whole steps₀ bytes₀ r out₀ out′ keep s₀ s′
+    module _ {e : End} (next : State → End) (more : rest (stateOf (r .steps) (r .bytes) out) ≡ andThen e next) {u : Run} {out′ s′ : List ℕ}
+        (v : Visited e (r .steps) (r .bytes) u out out′ (at .base + at .vars) s s′) (len′ : length out′ ≡ length out) where
+      pub going-stop : (u .number ≡ 0 → ⊥) → VisitedFrom whole at u out₀ out′ s₀ s′
       going-stop z = record {
         ran = record {
-          meets = sym (view-ends r out′ next z) ∙ ap (λ (x : End). andThen x next) (v .ran .meets) ∙ sym more ∙ inv .same;
-          grown = grown-more steps₀ bytes₀ (runOf 0 0 steps bytes) r out₀ out out′ (inv .len) (inv .grown) (v .ran .grown);
+          meets = sym (view-ends u out′ next z) ∙ ap (λ (x : End). andThen x next) (v .ran .meets) ∙ sym more ∙ inv .same;
+          grown = grown-more (at .steps) (at .bytes) r u out₀ out out′ (inv .len) (inv .grown) (v .ran .grown);
         };
         kept = v .kept ∙ inv .kept;
       }
 
-      pub going-next : r .number ≡ 0 → length s′ ≡ length s → Going next whole steps₀ bytes₀ out₀ keep s₀ (r .steps) (r .bytes) out′ s′
+      pub going-next : u .number ≡ 0 → length s′ ≡ length s → Going next whole at out₀ s₀ u out′ s′
       unfolding andThen
       going-next z lens′ = record {
-        same = ap (λ (x : End). andThen x next) (sym (view-going r out′ z) ∙ v .ran .meets) ∙ sym more ∙ inv .same;
-        grown = let g = grown-more steps₀ bytes₀ (runOf 0 0 steps bytes) r out₀ out out′ (inv .len) (inv .grown) (v .ran .grown) in
-            record { steps-grow = g .steps-grow; bytes-grow = g .bytes-grow; inside = g .inside; rest = g .rest };
+        goes = z;
+        same = ap (λ (x : End). andThen x next) (sym (view-going u out′ z) ∙ v .ran .meets) ∙ sym more ∙ inv .same;
+        grown = grown-more (at .steps) (at .bytes) r u out₀ out out′ (inv .len) (inv .grown) (v .ran .grown);
         kept = v .kept ∙ inv .kept;
         len = len′ ∙ inv .len;
         lens = lens′ ∙ inv .lens;

@@ -1,4 +1,6 @@
 pub mod Run
-pub mod Held
-pub mod Small
+pub mod Lookups
+pub mod Frames
+pub mod Nodes
+pub mod Bodies
 pub mod Asks

@@ -1,5 +1,5 @@
 -- What a run stands for, in the terms of crate rules, and what the functions of the walk promise.
-use Prim.Native.Nat.{ℕ, _≤_}
+use Prim.Native.Nat.{ℕ, _+_, _≤_}
 use mathlib.Core.Path.{_≡_}
 use mathlib.Core.List.{List, _++_}
 use mathlib.Core.Bool.{cond}
@@ -7,6 +7,7 @@ use lib.ListN.{length, take, drop, replicate}
 use lib.Dec.{eqb}
 use Rattle.rules.specs.Walk.{State, fuel-spent, too-deep, output-full, End, done, ended, stuck, walk}
 use Rattle.rules.specs.Answers.{input}
+use Rattle.walk.specs.declared.at.At.{At}
 use Rattle.walk.specs.declared.state.Run.{Run}
 
 -- the state of a run: its steps, and the text that it has written
@@ -44,6 +45,13 @@ pub record Ran (e : End) (steps bytes : ℕ) (r : Run) (out out′ : List ℕ) :
 pub record Visited (e : End) (steps bytes : ℕ) (r : Run) (out out′ : List ℕ) (keep : ℕ) (scratch scratch′ : List ℕ) : Type 0 where
   pub ran : Ran e steps bytes r out out′
   pub kept : take keep scratch′ ≡ take keep scratch
+
+-- so from a node: from its steps and its bytes on, and up to the end of its variables
+abbrev pub RanFrom : End → At → Run → List ℕ → List ℕ → Type 0
+RanFrom e at r out out′ = Ran e (at .steps) (at .bytes) r out out′
+
+abbrev pub VisitedFrom : End → At → Run → List ℕ → List ℕ → List ℕ → List ℕ → Type 0
+VisitedFrom e at r out out′ scratch scratch′ = Visited e (at .steps) (at .bytes) r out out′ (at .base + at .vars) scratch scratch′
 
 -- the whole walk: the output begins with the run's text and is as it was after it, and all of the scratch is zero
 pub record Walked (g t v : List ℕ) (fuel : ℕ) (r : Run) (out out′ scratch scratch′ : List ℕ) : Type 0 where

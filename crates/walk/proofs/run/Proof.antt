@@ -1,47 +1,46 @@
-use Prim.Native.Nat.{ℕ}
 use mathlib.Core.Path.{_∙_}
 use native.Mathlib.Omega.{arith}
-use lib.ListN.{length-set}
-use Rattle.walk.proofs.StartLaws.{start-missing, start-ready, start-walked}
+use Rattle.walk.proofs.PathLaws.{got, lost}
+use Rattle.walk.proofs.StartLaws.{scratch-room, start-missing, start-visitable, start-walked}
 use borrow.Author.Needs.{needs}
 use Rattle.walk.proofs.run.Statement.{statement}
 use Rattle.walk.proofs.run.Tie as tie
 
+head-at-requires : tie.Need-head-at-requires
+head-at-requires c κs = search needs
+
+enum-known-template : tie.Need-enum-known-template
+enum-known-template c = search needs
+
+enum-told : tie.Need-enum-told
+enum-told c = search needs
+
 clear-requires : tie.Need-clear-requires
 clear-requires c κs = search needs
 
-ended-requires : tie.Need-ended-requires
-ended-requires c κs = search needs
+start-requires : tie.Need-start-requires
+start-requires c κs = search needs
+
+stuck-requires : tie.Need-stuck-requires
+stuck-requires c κs = search needs
 
 same-length : tie.Need-same-length
 same-length c = search needs
 
 returns : tie.Need-returns
-returns c = start-missing (c .before .before .before .before .before .before .before .before .before .before .before .before .before .pre) (c .before .before .before .before .before .if1 .taken) (c .ended .ensures) (c .before .before .before .clear .ensures)
+returns c = start-missing (c .before .before .before .before .before .before .before .before .before .before .before .before .before .before .before .before .before .before .pre) (lost (c .before .before .before .before .before .before .before .before .head-at .ensures) (c .before .before .before .before .before .before .enum-told .given .1)) (c .before .start .ensures) (c .stuck .ensures) (c .before .before .before .before .clear .ensures)
 
-shared-slice-read-template : tie.Need-shared-slice-read-template
-shared-slice-read-template c = search needs
+body-of-requires : tie.Need-body-of-requires
+body-of-requires c κs = c .before .before .before .before .before .before .before .before .before .before .before .before .before .pre .lent .templates-sized
 
-cast-template : tie.Need-cast-template
-cast-template c = record { fits = omega (arith, c .shared-slice-known6 .given 0) }
+bind-requires : tie.Need-bind-requires
+bind-requires c κs = omega (arith, scratch-room (c .before .before .before .before .before .before .before .before .before .before .before .before .before .before .before .pre))
 
-fetch-requires : tie.Need-fetch-requires
-fetch-requires c κs = search needs
-
-add-t13 : tie.Need-add-t13
-add-t13 c = record { fits = omega (arith, c .before .shared-slice-known6 .given 0) }
-
-cast-t20 : tie.Need-cast-t20
-cast-t20 c = search needs
-
-add-t21 : tie.Need-add-t21
-add-t21 c = record { fits = omega (arith, c .before .before .shared-slice-known6 .given 0) }
-
-slice-write-scratch : tie.Need-slice-write-scratch
-slice-write-scratch c = search needs
+start-requires-2 : tie.Need-start-requires-2
+start-requires-2 c κs = search needs
 
 visit-requires : tie.Need-visit-requires
-visit-requires c κs = start-ready (c .before .before .before .before .before .before .before .before .before .before .before .before .before .pre) (c .before .before .before .before .before .if1 .left) _ (c .before .before .before .fetch .ensures .a) _ _ _ (omega (arith, c .before .before .before .before .shared-slice-known6 .given 0)) (omega arith)
+visit-requires c κs = start-visitable (c .before .before .before .before .before .before .before .before .before .before .before .before .before .before .before .before .before .before .before .before .before .pre) (got (c .before .before .before .before .before .before .before .before .before .before .before .head-at .ensures) (c .before .before .before .before .before .before .before .before .before .template .given .1)) _ (c .before .before .before .before .before .before .before .body-of .ensures .0) (c .before .before .before .before .before .bind .ensures) (c .before .before .before .before .before .bind .kept .0) _ (c .start2 .ensures) (c .before .before .before .before .before .before .before .body-of .ensures .1) _
 
 clear-requires-2 : tie.Need-clear-requires-2
 clear-requires-2 c κs = search needs
@@ -50,26 +49,26 @@ same-length-2 : tie.Need-same-length-2
 same-length-2 c = search needs
 
 same-length-3 : tie.Need-same-length-3
-same-length-3 c = c .before .before .clear2 .kept .0 ∙ c .before .before .before .before .before .before .before .before .visit .kept .1 .1 .1 .1 .1 .1 .0 ∙ length-set {A = ℕ} (c .before .before .before .before .before .before .before .before .before .before .before .before .before .before .before .before .before .before .before .before .before .before .args .scratch .now) 0 0
+same-length-3 c = c .before .before .clear2 .kept .0 ∙ c .before .before .before .before .before .before .before .before .visit .kept .1 .1 .1 .1 .1 .1 .1 .1 .0 ∙ c .before .before .before .before .before .before .before .before .before .before .before .before .before .before .bind .kept .0
 
 returns-2 : tie.Need-returns-2
-returns-2 c = start-walked (c .before .before .before .before .before .before .before .before .before .before .before .before .before .before .before .before .before .before .before .before .before .before .pre) (c .before .before .before .before .before .before .before .before .before .before .before .before .before .before .if1 .left) _ (c .before .before .before .before .before .before .before .before .before .before .before .before .fetch .ensures .a) (c .before .before .before .before .before .before .before .before .visit .ensures) (c .before .before .before .before .before .before .before .before .visit .kept .1 .1 .1 .1 .1 .1 .0) (c .before .before .clear2 .ensures)
+returns-2 c = start-walked (c .before .before .before .before .before .before .before .before .before .before .before .before .before .before .before .before .before .before .before .before .before .before .before .before .before .before .before .before .before .before .pre) (got (c .before .before .before .before .before .before .before .before .before .before .before .before .before .before .before .before .before .before .before .before .head-at .ensures) (c .before .before .before .before .before .before .before .before .before .before .before .before .before .before .before .before .before .before .template .given .1)) _ (c .before .before .before .before .before .before .before .before .before .before .before .before .before .before .before .before .body-of .ensures .0) (c .before .before .before .before .before .before .before .before .before .before .before .before .before .before .bind .ensures) (c .before .before .before .before .before .before .before .before .before .before .before .before .before .before .bind .kept .0) _ (c .before .before .before .before .before .before .before .before .before .start2 .ensures) (c .before .before .before .before .before .before .before .before .visit .ensures) (c .before .before .before .before .before .before .before .before .visit .kept .1 .1 .1 .1 .1 .1 .1 .1 .0) (c .before .before .clear2 .ensures)
 
 pub run-spec : {M : Type 1} → statement M
 run-spec =
     tie.close
     (tie.spec
+    head-at-requires
+    enum-known-template
+    enum-told
     clear-requires
-    ended-requires
+    start-requires
+    stuck-requires
     same-length
     returns
-    shared-slice-read-template
-    cast-template
-    fetch-requires
-    add-t13
-    cast-t20
-    add-t21
-    slice-write-scratch
+    body-of-requires
+    bind-requires
+    start-requires-2
     visit-requires
     clear-requires-2
     same-length-2

@@ -13,19 +13,15 @@ returns : tie.Need-returns
 unfolding first second
 returns c = (sym (rw (eq-eqb _ _ (c .if1 .taken))), omega arith)
 
-fetch-requires : tie.Need-fetch-requires
-fetch-requires c κs = search needs
-
-cast-result : tie.Need-cast-result
-cast-result c = search needs
+size-at-requires : tie.Need-size-at-requires
+size-at-requires c κs = search needs
 
 add-result : tie.Need-add-result
 add-result c = search needs
 
 returns-2 : tie.Need-returns-2
 unfolding first second
-returns-2 c = (sym (rw (ne-eqb _ _ (c .before .if1 .left), ← c .fetch .ensures .c)), omega (arith, c .fetch .ensures .c))
+returns-2 c = (sym (rw (ne-eqb _ _ (c .before .if1 .left), ← c .size-at .ensures .0)), omega (arith, c .size-at .ensures .1))
 
 pub branch-of-spec : {M : Type 1} → statement M
-branch-of-spec =
-    tie.close (tie.spec add-yes returns fetch-requires cast-result add-result returns-2)
+branch-of-spec = tie.close (tie.spec add-yes returns size-at-requires add-result returns-2)

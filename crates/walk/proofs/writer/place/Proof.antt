@@ -9,7 +9,7 @@ add-path-value : tie.Need-add-path-value
 add-path-value c = search needs
 
 path-value-requires : tie.Need-path-value-requires
-path-value-requires c κs = c .before .before .before .before .before .pre .0
+path-value-requires c κs = search needs
 
 enum-known-w : tie.Need-enum-known-w
 enum-known-w c = search needs
@@ -17,11 +17,11 @@ enum-known-w c = search needs
 enum-told : tie.Need-enum-told
 enum-told c = search needs
 
-ended-requires : tie.Need-ended-requires
-ended-requires c κs = search needs
+stuck-requires : tie.Need-stuck-requires
+stuck-requires c κs = search needs
 
 returns : tie.Need-returns
-returns c = ran-stuck _ _ _ _ _ (c .before .before .before .before .before .before .before .before .before .pre .2) (c .ended .ensures) (place-lost _ _ _ _ _ (lost (c .before .before .before .path-value .ensures .is) (c .before .enum-told .given .1)))
+returns c = ran-stuck (c .before .before .before .before .before .before .before .before .before .before .before .args .at) (c .before .before .before .before .before .before .before .before .before .before .before .pre .2) (c .stuck .ensures) (place-lost _ _ _ _ _ (lost (c .before .before .before .path-value .ensures .is) (c .before .enum-told .given .1)))
 
 cast-i : tie.Need-cast-i
 cast-i c = search needs
@@ -29,17 +29,11 @@ cast-i c = search needs
 fetch-requires : tie.Need-fetch-requires
 fetch-requires c κs = search needs
 
-ended-requires-2 : tie.Need-ended-requires-2
-ended-requires-2 c κs = search needs
+stuck-requires-2 : tie.Need-stuck-requires-2
+stuck-requires-2 c κs = search needs
 
 returns-2 : tie.Need-returns-2
-returns-2 c = ran-stuck _ _ _ _ _ (c .before .before .before .before .before .before .before .before .before .before .before .before .before .pre .2) (c .ended2 .ensures) (place-other _ _ _ _ _ _ (got (c .before .before .before .before .before .before .before .path-value .ensures .is) (c .before .before .before .before .before .w .given .1)) _ (c .before .before .before .fetch .ensures .kind) (c .before .if1 .taken))
-
-cast-text-after : tie.Need-cast-text-after
-cast-text-after c = search needs
-
-text-after-requires : tie.Need-text-after-requires
-text-after-requires c κs = search needs
+returns-2 c = ran-stuck (c .before .before .before .before .before .before .before .before .before .before .before .before .before .before .before .args .at) (c .before .before .before .before .before .before .before .before .before .before .before .before .before .before .before .pre .2) (c .stuck2 .ensures) (place-other _ _ _ _ _ _ (got (c .before .before .before .before .before .before .before .path-value .ensures .is) (c .before .before .before .before .before .w .given .1)) _ (c .before .before .before .fetch .ensures .kind) (c .before .if1 .taken))
 
 write-requires : tie.Need-write-requires
 write-requires c κs = search needs
@@ -48,7 +42,7 @@ same-length : tie.Need-same-length
 same-length c = search needs
 
 returns-3 : tie.Need-returns-3
-returns-3 c = ran-is (place-text _ _ _ _ _ _ (got (c .before .before .before .before .before .before .before .before .before .before .before .before .path-value .ensures .is) (c .before .before .before .before .before .before .before .before .before .before .w .given .1)) _ (c .before .before .before .before .before .before .before .before .fetch .ensures .kind) (c .before .before .before .before .before .before .if1 .left) _ _ (c .before .before .before .before .before .before .before .before .fetch .ensures .b) (c .before .before .before .before .text-after .ensures)) (c .before .before .write .ensures)
+returns-3 c = ran-is (place-text _ _ _ _ _ _ (got (c .before .before .before .before .before .before .before .before .before .before .path-value .ensures .is) (c .before .before .before .before .before .before .before .before .w .given .1)) _ (c .before .before .before .before .before .before .fetch .ensures .kind) (c .before .before .before .before .if1 .left)) (c .before .before .write .ensures)
 
 pub place-spec : {M : Type 1} → statement M
 place-spec =
@@ -58,14 +52,12 @@ place-spec =
     path-value-requires
     enum-known-w
     enum-told
-    ended-requires
+    stuck-requires
     returns
     cast-i
     fetch-requires
-    ended-requires-2
+    stuck-requires-2
     returns-2
-    cast-text-after
-    text-after-requires
     write-requires
     same-length
     returns-3)

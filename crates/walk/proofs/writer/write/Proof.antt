@@ -1,3 +1,4 @@
+use mathlib.Core.Path.{refl}
 use Rattle.walk.proofs.RunLaws.{wrote-none, wrote-whole}
 use borrow.Author.Needs.{needs}
 use Rattle.walk.proofs.writer.write.Statement.{statement}
@@ -5,6 +6,9 @@ use Rattle.walk.proofs.writer.write.Tie as tie
 
 sub-left : tie.Need-sub-left
 sub-left c = search needs
+
+text-of-requires : tie.Need-text-of-requires
+text-of-requires c κs = search needs
 
 sub-copy-text : tie.Need-sub-copy-text
 sub-copy-text c = search needs
@@ -25,25 +29,23 @@ same-length : tie.Need-same-length
 same-length c = search needs
 
 returns : tie.Need-returns
-returns c = wrote-none _ _ _ _ _ _ _ (c .before .before .before .before .before .before .before .before .pre) (c .before .before .before .before .copy-text .ensures) (c .before .if1 .taken) _ (c .ended .ensures)
+returns c = wrote-none _ _ _ (c .before .before .before .before .before .before .before .before .before .args .at) _ _ (c .before .before .before .before .before .before .text-of .ensures .text) refl (c .before .before .before .before .before .before .before .before .before .pre .1) (c .before .before .before .before .copy-text .ensures) (c .before .if1 .taken) _ (c .ended .ensures)
 
-add-going : tie.Need-add-going
-add-going c = search needs
-
-going-requires : tie.Need-going-requires
-going-requires c κs = search needs
+add-t9 : tie.Need-add-t9
+add-t9 c = search needs
 
 same-length-2 : tie.Need-same-length-2
 same-length-2 c = search needs
 
 returns-2 : tie.Need-returns-2
-returns-2 c = wrote-whole _ _ _ _ _ _ _ (c .before .before .before .before .before .before .before .before .pre) (c .before .before .before .before .copy-text .ensures) (c .before .if1 .left) _ (c .going .ensures)
+returns-2 c = wrote-whole _ _ _ (c .before .before .before .before .before .before .before .before .args .at) _ _ (c .before .before .before .before .before .text-of .ensures .text) refl (c .before .before .before .before .before .before .before .before .pre .1) (c .before .before .before .copy-text .ensures) (c .if1 .left) _ refl
 
 pub write-spec : {M : Type 1} → statement M
 write-spec =
     tie.close
     (tie.spec
     sub-left
+    text-of-requires
     sub-copy-text
     part-copy-text-start
     part-copy-text-end
@@ -51,7 +53,6 @@ write-spec =
     ended-requires
     same-length
     returns
-    add-going
-    going-requires
+    add-t9
     same-length-2
     returns-2)
