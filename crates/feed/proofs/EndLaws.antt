@@ -1,4 +1,4 @@
--- What is left when no check refuses: the variables fit their frames, the walk is not stuck, and the call leaves what the walk left.
+-- What is left when no check refuses: the variables fit the scratch, the walk is not stuck, and the call leaves what the walk left.
 use Prim.Native.Nat.{ℕ, _≤_}
 use mathlib.Core.Path.{_≡_, refl, sym, ap, _∙_}
 use mathlib.Core.List.{List, _++_}
@@ -7,45 +7,23 @@ use mathlib.Core.Option.{none}
 use native.Mathlib.Omega.{arith}
 use lib.Dec.{eqb}
 use lib.ListN.{length, take, drop, replicate, length-take}
-use borrow.Author.Tests.{le-leb, eqb-true}
-use Rattle.rules.specs.Templates.{nodesBelow}
-use Rattle.rules.specs.Limits.{deepest, looped, loopedBelow, fewLoops, templatesLimits}
+use borrow.Author.Tests.{eqb-true}
+use Rattle.rules.specs.Limits.{templatesLimits}
 use Rattle.rules.specs.Typing.{templatesTyping}
 use Rattle.rules.specs.Walk.{fuel-spent, too-deep, output-full, done, ended, stuck}
 use Rattle.rules.specs.Answers.{answer, evaluateRefusal, limitNumber, Outcome, left, walked, unlessRefused, input, evaluate}
 use Rattle.rules.specs.declared.Answer.{Answer}
-use Rattle.rules.specs.declared.Form.{Form}
-use Rattle.rules.specs.declared.Form.the-variants.{Build, Literal, Place, Expand, If, For, Sequence, Unknown}
-use Rattle.theorems.specs.Laws.{and-iff, leb-iff, in-every, in-tree}
-use Rattle.theorems.specs.LimitsExactly.{limits-exactly}
-use Rattle.theorems.specs.Ranges.{below-leading, looped-leading}
 use Rattle.theorems.specs.Few.{paths-few}
 use Rattle.theorems.specs.Sound.{never-stuck}
 use Rattle.theorems.specs.Kept.{admitted-typed}
 use Rattle.walk.specs.declared.state.Run.{Run}
 use Rattle.walk.specs.Run.{stateOf, endNumbered, view, Walked}
-use Rattle.walk.specs.Small.{fewPaths, fits, small}
+use Rattle.walk.specs.Bodies.{FewPaths}
 use Rattle.feed.specs.Verdict.{runAnswer, outcome}
 
--- an expand alone has paths to count
-few-of : (f : Form) (d : ℕ) → (f ≡ Expand → d ≤ 8) → fewPaths f d ≡ true
-unfolding fewPaths
-few-of Build d h = refl
-few-of Literal d h = refl
-few-of Place d h = refl
-few-of Expand d h = le-leb d 8 (h refl)
-few-of If d h = refl
-few-of For d h = refl
-few-of Sequence d h = refl
-few-of Unknown d h = refl
-
-pub frames-fit : (g t : List ℕ) → templatesLimits t ≡ none → templatesTyping g t ≡ none → small t ≡ none
-unfolding small fits fewLoops deepest looped
-frames-fit g t e h = in-every _ _ λ p i. in-tree _ _ 200 _ λ d x b.
-    let w = limits-exactly t .0 e p i in
-    let l = w .at-most-200-deep d x b in
-    let few = paths-few g t e h p d (x .node) i (below-leading (λ x. x .node) (loopedBelow t) (nodesBelow t) (looped-leading t) b) in
-    (omega arith, and-iff _ _ .1 (leb-iff _ _ .1 (w .at-most-16-loops d x b), few-of _ _ few))
+-- an accepted expand has few paths
+pub paths-fit : (g t : List ℕ) → templatesLimits t ≡ none → templatesTyping g t ≡ none → FewPaths t
+paths-fit g t e h = record { each = paths-few g t e h }
 
 -- the answer of a run that is not stuck is that of its end
 module _ (out scratch out′ : List ℕ) (bytes : ℕ) (fits-in : bytes ≤ length out) (same : length out′ ≡ length out) (output : out′ ≡ take bytes out′ ++ drop bytes out) where

@@ -2,7 +2,8 @@
 use Prim.Native.Nat.{ℕ, _≤_, _<_}
 use mathlib.Core.Path.{_≡_, refl, sym, ap, _∙_}
 use mathlib.Core.List.{List, [], _∷_}
-use mathlib.Core.Option.{Option, none, some}
+use mathlib.Core.Bool.{Bool, true, false, cond}
+use mathlib.Core.Option.{Option, none, some, Option·some-ne-none}
 use lib.ListN.{length}
 use lib.Dec.{leb}
 use borrow.Author.Tests.{le-leb, lt-leb}
@@ -15,14 +16,15 @@ use Rattle.rules.specs.Typing.{templatesTyping, valueTyping}
 use Rattle.rules.specs.Answers
 use Rattle.rules.specs.Answers.{answer, Stream, streamKind, bytesOf, layoutOf, limitsOf, placed, over, try, accept, setRefusal, checkRefusal, scratchNeeded, evaluateRefusal, check, kept, unlessRefused, evaluate}
 use Rattle.rules.specs.declared.Answer.{Answer}
-use Rattle.theorems.specs.Laws.{both-iff, placed-iff, try-iff}
-use Rattle.theorems.specs.Streams.{WellSized, length-exactly}
+use Rattle.laws.specs.Faults.{need-none, both-nil, both-iff, on-some, on-none, placed-iff, try-iff}
+use Rattle.records.specs.Children.{Children}
 use Rattle.layout.specs.Heads.{LaidGrammar, LaidTemplates}
 use Rattle.feed.specs.declared.verdict.Offence.{Offence}
 use Rattle.feed.specs.declared.verdict.Offence.the-variants.{In, Nowhere}
 use Rattle.feed.specs.declared.verdict.Verdict.{Verdict}
 use Rattle.feed.specs.declared.verdict.Verdict.the-variants.{Refused, Passed}
-use Rattle.feed.specs.Verdict.{offenceOf, verdictOf, firstOf, streamsRefusal, setJudgement, outcome}
+use Rattle.feed.specs.Asks.{AllJudged}
+use Rattle.feed.specs.Verdict.{offenceOf, verdictOf, firstOf, streamsRefusal, setJudgement, judgement, outcome}
 
 -- What an offence and a verdict say
 pub offends : (o : Offence) (x : Option (ℕ × ℕ)) (kind place : ℕ) → offenceOf o ≡ x → o ≡ In kind place → x ≡ some (kind, place)
@@ -48,11 +50,6 @@ unfolding try
 went-on number o next e = rw e
 
 -- "each over grammar, templates, value before the next"
-both-none : {A : Type 0} (x : Option A) → both x none ≡ x
-unfolding both
-both-none none = refl
-both-none (some x) = refl
-
 abbrev pub two : List ℕ → List ℕ → List Stream
 two g t = Answers.grammar g ∷ Answers.templates t ∷ []
 
@@ -66,7 +63,7 @@ over-two f g t = refl
 over-three : (f : Stream → Option ℕ) (g t v : List ℕ)
     → firstOf (f (Answers.grammar g)) (f (Answers.templates t)) (f (Answers.value v)) ≡ over f (three g t v)
 unfolding firstOf over every streamKind
-over-three f g t v = rw (both-none (placed 3 (f (Answers.value v))))
+over-three f g t v = rw (both-nil (placed 3 (f (Answers.value v))))
 
 pub lengths-two : (a b : Option ℕ) (g t : List ℕ) → a ≡ streamLength g → b ≡ streamLength t
     → firstOf a b none ≡ over (λ s. streamLength (bytesOf s)) (two g t)
@@ -119,6 +116,12 @@ judgement-then : (g t : List ℕ) (value : Option ℕ) → Then (setJudgement g 
 unfolding setJudgement
 judgement-then g t value = try-then 4 _ _ (try-then 5 _ _ (try-then 6 _ _ (try-last 7 _)))
 
+-- and a part that goes on with another
+judgement-then-then : (g t : List ℕ) (value : Option ℕ) (part : (Unit {0} → Option Answer) → Option Answer) → Then part → (next : Unit {0} → Option Answer)
+    → setJudgement g t value (λ _. part next) ≡ onFound (setJudgement g t value (λ _. part accept)) (next tt) some
+unfolding setJudgement
+judgement-then-then g t value part h next = try-then 4 _ (λ n. try 5 _ (λ _. try 6 _ (λ _. try 7 _ (λ _. part n)))) (try-then 5 _ (λ n. try 6 _ (λ _. try 7 _ (λ _. part n))) (try-then 6 _ (λ n. try 7 _ (λ _. part n)) (try-then 7 _ part h))) next
+
 limits-two : (g t : List ℕ) → over limitsOf (two g t) ≡ firstOf none (templatesLimits t) none
 unfolding limitsOf
 limits-two g t = sym (over-two limitsOf g t)
@@ -129,7 +132,7 @@ limits-three g t v = sym (over-three limitsOf g t v)
 
 first-two : (a b : Option ℕ) → both (placed 1 a) (placed 2 b) ≡ firstOf a b none
 unfolding firstOf placed
-first-two a b = ap (both (placed 1 a)) (sym (both-none (placed 2 b)))
+first-two a b = ap (both (placed 1 a)) (sym (both-nil (placed 2 b)))
 
 split-two : (g t : List ℕ) (next : Unit {0} → Option Answer)
     → setRefusal g t [] next ≡ streamsRefusal (two g t) (λ _. setJudgement g t none next)
@@ -159,17 +162,14 @@ first-none a b c e =
     let y = both-iff _ _ .0 (x .1) in
     (placed-iff 1 a .0 (x .0), placed-iff 2 b .0 (y .0), placed-iff 3 c .0 (y .1))
 
-pub two-sized : (g t : List ℕ) → over (λ s. streamLength (bytesOf s)) (two g t) ≡ none → WellSized g × WellSized t
+pub two-sized : (g t : List ℕ) → over (λ s. streamLength (bytesOf s)) (two g t) ≡ none → (streamLength g ≡ none) × (streamLength t ≡ none)
 unfolding bytesOf
-two-sized g t e =
-    let a = first-none _ _ _ (over-two (λ s. streamLength (bytesOf s)) g t ∙ e) in
-    (length-exactly g .0 (a .0), length-exactly t .0 (a .1))
+two-sized g t e = let a = first-none _ _ _ (over-two (λ s. streamLength (bytesOf s)) g t ∙ e) in (a .0, a .1)
 
-pub three-sized : (g t v : List ℕ) → over (λ s. streamLength (bytesOf s)) (three g t v) ≡ none → WellSized g × WellSized t
+pub three-sized : (g t v : List ℕ) → over (λ s. streamLength (bytesOf s)) (three g t v) ≡ none
+    → (streamLength g ≡ none) × (streamLength t ≡ none) × (streamLength v ≡ none)
 unfolding bytesOf
-three-sized g t v e =
-    let a = first-none _ _ _ (over-three (λ s. streamLength (bytesOf s)) g t v ∙ e) in
-    (length-exactly g .0 (a .0), length-exactly t .0 (a .1))
+three-sized g t v e = first-none _ _ _ (over-three (λ s. streamLength (bytesOf s)) g t v ∙ e)
 
 pub two-laid : (g t : List ℕ) → streamsRefusal (two g t) accept ≡ none → LaidGrammar g × LaidTemplates t
 unfolding streamsRefusal bytesOf layoutOf
@@ -192,6 +192,22 @@ three-laid g t v e =
     let m = first-none _ _ _ (over-three layoutOf g t v ∙ c .0) in
     (record { length-right = l .0; laid-out = m .0 }, record { length-right = l .1; laid-out = m .1 }, l .2, m .2)
 
+-- 1 to 3 of all three streams, with the table of the value's children
+pub all-refused : (g t v firsts places : List ℕ) (number kind place : ℕ) → some (answer number kind place 0 0) ≡ streamsRefusal (three g t v) accept
+    → AllJudged g t v firsts places (Refused number kind place)
+all-refused g t v firsts places number kind place e =
+    record { is = e; children = λ h. absurd (Option·some-ne-none (answer number kind place 0 0) (ap verdictOf h)) }
+
+pub all-passed : (g t v firsts places : List ℕ) → none ≡ streamsRefusal (three g t v) accept → Children v firsts places → AllJudged g t v firsts places Passed
+all-passed g t v firsts places e r = record { is = e; children = λ h. r }
+
+pub laid-children : (g t v firsts places : List ℕ) → over layoutOf (three g t v) ≡ none → {right : Bool}
+    → (need {A = ℕ} right 0 ≡ valueLayout v) × (right ≡ true → Children v firsts places) → Children v firsts places
+unfolding layoutOf
+laid-children g t v firsts places e {right} h =
+    let m = first-none _ _ _ (over-three layoutOf g t v ∙ e) in
+    h .1 (need-none right 0 (h .0 ∙ m .2))
+
 pub set-passed : (g t : List ℕ) (value : Option ℕ) → setJudgement g t value accept ≡ none → (templatesLimits t ≡ none) × (templatesTyping g t ≡ none)
 unfolding setJudgement
 set-passed g t value e =
@@ -201,37 +217,79 @@ set-passed g t value e =
     let d = try-iff 7 _ _ .0 (c .1) in
     (first-none _ _ _ (a .0) .1, placed-iff 2 _ .0 (d .0))
 
+-- 4 to 8, with a value or without
+module _ (g t v : List ℕ) where
+  judgement-is : (valued : Bool) → judgement g t v valued
+      ≡ onFound (setJudgement g t (cond valued (valueLimits v) none) accept) (cond valued (try 8 (placed 3 (valueTyping g t v)) accept) none) some
+  unfolding judgement
+  judgement-is valued = judgement-then g t (cond valued (valueLimits v) none) _
+
+  pub set-refuses : (valued : Bool) (a : Answer) → setJudgement g t (cond valued (valueLimits v) none) accept ≡ some a → judgement g t v valued ≡ some a
+  unfolding onFound
+  set-refuses valued a e = rw (judgement-is valued, e)
+
+  pub set-alone : setJudgement g t none accept ≡ none → judgement g t v false ≡ none
+  unfolding onFound
+  set-alone e = rw (judgement-is false, e)
+
+  pub value-refused : (place : ℕ) → setJudgement g t (valueLimits v) accept ≡ none → valueTyping g t v ≡ some place → judgement g t v true ≡ some (answer 8 3 place 0 0)
+  unfolding onFound placed try
+  value-refused place e h = rw (judgement-is true, e, h)
+
+  pub value-passed : setJudgement g t (valueLimits v) accept ≡ none → valueTyping g t v ≡ none → judgement g t v true ≡ none
+  unfolding onFound placed try accept
+  value-passed e h = rw (judgement-is true, e, h)
+
+  set-within : (o last : Option Answer) → onFound o last some ≡ none → (o ≡ none) × (last ≡ none)
+  unfolding onFound
+  set-within none last e = (refl, e)
+  set-within (some a) last e = absurd (Option·some-ne-none a e)
+
+  pub judged-set : judgement g t v true ≡ none → (templatesLimits t ≡ none) × (templatesTyping g t ≡ none)
+  judged-set e = set-passed g t (valueLimits v) (set-within _ _ (sym (judgement-is true) ∙ e) .0)
+
 -- the check call
 module _ (g t : List ℕ) where
   check-is : check g t ≡ onFound (onFound (streamsRefusal (two g t) accept) (setJudgement g t none accept) some) (answer 0 0 0 0 0) (λ a. a)
   unfolding check checkRefusal
   check-is = rw (split-two g t accept, streams-then (two g t) (λ _. setJudgement g t none accept))
 
+  alone : (v : List ℕ) → judgement g t v false ≡ setJudgement g t none accept
+  alone v = judgement-is g t v false ∙ go (setJudgement g t none accept)
+    where
+      go : (o : Option Answer) → onFound o none some ≡ o
+      go none = on-none none some refl
+      go (some a) = on-some none some refl
+
   pub check-streams : (a : Answer) → streamsRefusal (two g t) accept ≡ some a → a ≡ check g t
   unfolding onFound
   check-streams a e = rw (check-is, e)
 
-  pub check-set : (a : Answer) → streamsRefusal (two g t) accept ≡ none → setJudgement g t none accept ≡ some a → a ≡ check g t
+  pub check-refused : (v : List ℕ) (a : Answer) → streamsRefusal (two g t) accept ≡ none → judgement g t v false ≡ some a → a ≡ check g t
   unfolding onFound
-  check-set a e h = rw (check-is, e, h)
+  check-refused v a e h = rw (check-is, e, ← alone v, h)
 
-  pub check-accepts : streamsRefusal (two g t) accept ≡ none → setJudgement g t none accept ≡ none → answer 0 0 0 0 0 ≡ check g t
+  pub check-accepts : (v : List ℕ) → streamsRefusal (two g t) accept ≡ none → judgement g t v false ≡ none → answer 0 0 0 0 0 ≡ check g t
   unfolding onFound
-  check-accepts e h = rw (check-is, e, h)
+  check-accepts v e h = rw (check-is, e, ← alone v, h)
 
 -- the evaluate call
 module _ (g t v scratch : List ℕ) where
   last : Option Answer
-  last = try 8 (placed 3 (valueTyping g t v)) λ _. try 9 (placed 0 (need (leb scratchNeeded (length scratch)) 0)) accept
+  last = try 9 (placed 0 (need (leb scratchNeeded (length scratch)) 0)) accept
 
-  refusal-is : evaluateRefusal g t v scratch ≡ onFound (streamsRefusal (three g t v) accept) (onFound (setJudgement g t (valueLimits v) accept) last some) some
+  value-then : (next : Unit {0} → Option Answer) → setJudgement g t (valueLimits v) (λ _. try 8 (placed 3 (valueTyping g t v)) next)
+      ≡ onFound (judgement g t v true) (next tt) some
+  unfolding judgement
+  value-then next = judgement-then-then g t (valueLimits v) (try 8 (placed 3 (valueTyping g t v))) (try-last 8 _) next
+
+  refusal-is : evaluateRefusal g t v scratch ≡ onFound (streamsRefusal (three g t v) accept) (onFound (judgement g t v true) last some) some
   unfolding evaluateRefusal last
-  refusal-is = split-three g t v _ ∙ streams-then (three g t v) _ ∙ ap (λ (x : Option Answer). onFound (streamsRefusal (three g t v) accept) x some) (judgement-then g t (valueLimits v) _)
+  refusal-is = split-three g t v _ ∙ streams-then (three g t v) _ ∙ ap (λ (x : Option Answer). onFound (streamsRefusal (three g t v) accept) x some) (value-then _)
 
-  pub none-refuses : streamsRefusal (three g t v) accept ≡ none → setJudgement g t (valueLimits v) accept ≡ none
-      → valueTyping g t v ≡ none → 4800 ≤ length scratch → evaluateRefusal g t v scratch ≡ none
+  pub none-refuses : streamsRefusal (three g t v) accept ≡ none → judgement g t v true ≡ none → 4800 ≤ length scratch → evaluateRefusal g t v scratch ≡ none
   unfolding onFound last placed try need scratchNeeded deepest accept
-  none-refuses e h k l = rw (refusal-is, e, h, k, le-leb 4800 (length scratch) l)
+  none-refuses e h l = rw (refusal-is, e, h, le-leb 4800 (length scratch) l)
 
 module _ (g t v : List ℕ) (fuel : ℕ) (out scratch : List ℕ) where
   keeps : (a : Answer) → evaluateRefusal g t v scratch ≡ some a → outcome a out scratch ≡ evaluate g t v fuel out scratch
@@ -242,17 +300,12 @@ module _ (g t v : List ℕ) (fuel : ℕ) (out scratch : List ℕ) where
   unfolding onFound
   evaluate-streams a e = keeps a (rw (refusal-is g t v scratch, e))
 
-  pub evaluate-set : (a : Answer) → streamsRefusal (three g t v) accept ≡ none → setJudgement g t (valueLimits v) accept ≡ some a
+  pub evaluate-refused : (a : Answer) → streamsRefusal (three g t v) accept ≡ none → judgement g t v true ≡ some a
       → outcome a out scratch ≡ evaluate g t v fuel out scratch
   unfolding onFound
-  evaluate-set a e h = keeps a (rw (refusal-is g t v scratch, e, h))
+  evaluate-refused a e h = keeps a (rw (refusal-is g t v scratch, e, h))
 
-  pub evaluate-value : (place : ℕ) → streamsRefusal (three g t v) accept ≡ none → setJudgement g t (valueLimits v) accept ≡ none
-      → valueTyping g t v ≡ some place → outcome (answer 8 3 place 0 0) out scratch ≡ evaluate g t v fuel out scratch
-  unfolding onFound last placed try
-  evaluate-value place e h k = keeps (answer 8 3 place 0 0) (rw (refusal-is g t v scratch, e, h, k))
-
-  pub evaluate-scratch : streamsRefusal (three g t v) accept ≡ none → setJudgement g t (valueLimits v) accept ≡ none
-      → valueTyping g t v ≡ none → length scratch < 4800 → outcome (answer 9 0 0 0 0) out scratch ≡ evaluate g t v fuel out scratch
+  pub evaluate-scratch : streamsRefusal (three g t v) accept ≡ none → judgement g t v true ≡ none → length scratch < 4800
+      → outcome (answer 9 0 0 0 0) out scratch ≡ evaluate g t v fuel out scratch
   unfolding onFound last placed try need scratchNeeded deepest
-  evaluate-scratch e h k l = keeps (answer 9 0 0 0 0) (rw (refusal-is g t v scratch, e, h, k, lt-leb 4800 (length scratch) l))
+  evaluate-scratch e h l = keeps (answer 9 0 0 0 0) (rw (refusal-is g t v scratch, e, h, lt-leb 4800 (length scratch) l))

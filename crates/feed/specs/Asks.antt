@@ -1,18 +1,30 @@
--- What refusals 4 to 7 are lent, and what they promise.
+-- What the parts of a call are lent, and what they promise.
 use Prim.Native.Nat.{ℕ, _*_, _≤_}
 use mathlib.Core.Path.{_≡_}
 use mathlib.Core.List.{List, [], _∷_}
 use mathlib.Core.Option.{Option, none}
 use lib.ListN.{length}
 use Rattle.rules.specs.Blocks.{streamLength}
+use Rattle.rules.specs.Records.{recordCount}
 use Rattle.rules.specs.Grammar.{classes, productions}
 use Rattle.rules.specs.Templates.{types, templates}
 use Rattle.rules.specs.Answers
 use Rattle.rules.specs.Answers.{grammar, value, accept}
-use Rattle.lexeme.specs.Sets.{Ready}
+use Rattle.records.specs.Children.{Children}
+use Rattle.lexeme.specs.Sets.{LexemesReady}
 use Rattle.feed.specs.declared.verdict.Verdict.{Verdict}
 use Rattle.feed.specs.declared.verdict.Verdict.the-variants.{Passed}
 use Rattle.feed.specs.Verdict.{verdictOf, streamsRefusal, setJudgement}
+
+-- the two rows of a table have room for the children of a value of right length
+pub record ChildRoom (v firsts places : List ℕ) : Type 0 where
+  pub in-firsts : streamLength v ≡ none → recordCount v ≤ length firsts
+  pub in-places : streamLength v ≡ none → recordCount v ≤ length places
+
+-- the verdict is that of 1 to 3; if all passed, the table is that of the value's children
+pub record AllJudged (g t v firsts places : List ℕ) (r : Verdict) : Type 0 where
+  pub is : verdictOf r ≡ streamsRefusal (grammar g ∷ Answers.templates t ∷ value v ∷ []) accept
+  pub children : r ≡ Passed → Children v firsts places
 
 -- streams of right lengths, and the heads of all four kinds by their numbers
 pub record Tabled (g t cs ps us ts : List ℕ) : Type 0 where
@@ -22,22 +34,34 @@ pub record Tabled (g t cs ps us ts : List ℕ) : Type 0 where
   pub productions-are : ps ≡ productions g
   pub types-are : us ≡ types t
   pub templates-are : ts ≡ templates t
+  pub few-classes : length cs ≤ 256
+
+-- and a value of right length
+pub record Judgeable (g t v cs ps us ts : List ℕ) : Type 0 where
+  pub tabled : Tabled g t cs ps us ts
+  pub value-sized : streamLength v ≡ none
 
 -- and room for a set of each class
 pub record SetAsks (g t cs ps us ts sets : List ℕ) : Type 0 where
   pub tabled : Tabled g t cs ps us ts
-  pub room : 32 * length cs ≤ length sets
+  pub room : 128 * length cs ≤ length sets
 
--- the verdict is that of the rules; if all passed, the sets are those of the classes
+pub record JudgeAsks (g t v cs ps us ts sets : List ℕ) : Type 0 where
+  pub set : SetAsks g t cs ps us ts sets
+  pub value-sized : streamLength v ≡ none
+
+-- the verdict is that of 4 to 7; if all passed, the sets are those of the classes
 pub record SetJudged (g t : List ℕ) (value : Option ℕ) (cs sets : List ℕ) (r : Verdict) : Type 0 where
   pub is : verdictOf r ≡ setJudgement g t value accept
-  pub compiled : r ≡ Passed → Ready g cs sets
+  pub compiled : r ≡ Passed → LexemesReady g cs sets
 
--- 1 to 3 let the streams through
-pub record CheckAsks (g t cs ps us ts sets : List ℕ) : Type 0 where
+-- 1 to 3 let the streams through, and there is room for the heads of the templates' stream
+pub record CheckAsks (g t heads : List ℕ) : Type 0 where
   pub passed : streamsRefusal (grammar g ∷ Answers.templates t ∷ []) accept ≡ none
-  pub asks : SetAsks g t cs ps us ts sets
+  pub room : recordCount t ≤ length heads
 
-pub record EvaluateAsks (g t v cs ps us ts sets : List ℕ) : Type 0 where
+-- the value's children are in their table besides
+pub record EvaluateAsks (g t v firsts places heads : List ℕ) : Type 0 where
   pub passed : streamsRefusal (grammar g ∷ Answers.templates t ∷ value v ∷ []) accept ≡ none
-  pub asks : SetAsks g t cs ps us ts sets
+  pub room : recordCount t ≤ length heads
+  pub children : Children v firsts places

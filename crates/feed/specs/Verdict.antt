@@ -2,16 +2,16 @@
 use Prim.Native.Nat.{ℕ}
 use mathlib.Core.Path.{_≡_}
 use mathlib.Core.List.{List, [], _∷_}
-use mathlib.Core.Bool.{cond}
+use mathlib.Core.Bool.{Bool, cond}
 use mathlib.Core.Option.{Option, none, some}
 use lib.Dec.{eqb}
 use Rattle.rules.specs.Faults.{both}
 use Rattle.rules.specs.Blocks.{streamLength, streamBlocks}
-use Rattle.rules.specs.Limits.{templatesLimits}
+use Rattle.rules.specs.Limits.{templatesLimits, valueLimits}
 use Rattle.rules.specs.Names.{grammarNames, templatesNames}
 use Rattle.rules.specs.Classes.{grammarClasses}
-use Rattle.rules.specs.Typing.{templatesTyping}
-use Rattle.rules.specs.Answers.{answer, Stream, streamKind, bytesOf, layoutOf, placed, over, try, Outcome, Written}
+use Rattle.rules.specs.Typing.{templatesTyping, valueTyping}
+use Rattle.rules.specs.Answers.{answer, Stream, streamKind, bytesOf, layoutOf, placed, over, try, accept, Outcome, Written}
 use Rattle.rules.specs.declared.Answer.{Answer}
 use Rattle.walk.specs.declared.state.Run.{Run}
 use Rattle.feed.specs.declared.verdict.Offence.{Offence}
@@ -46,6 +46,12 @@ setJudgement g t value next =
     try 6 (placed 1 (grammarClasses g)) λ _.
     try 7 (placed 2 (templatesTyping g t)) next
 
+-- refusals 4 to 7 of a set, and 4 and 8 of a value if one comes with it
+unfoldable pub judgement : List ℕ → List ℕ → List ℕ → Bool → Option Answer
+judgement g t v valued =
+    setJudgement g t (cond valued (valueLimits v) none) λ _.
+    cond valued (try 8 (placed 3 (valueTyping g t v)) accept) none
+
 -- the answer of a run: "kind and place are 0 when finished"
 unfoldable pub runAnswer : Run → Answer
 runAnswer r =
@@ -64,7 +70,7 @@ fiveOf a = a .number ∷ a .kind ∷ a .place ∷ a .steps ∷ a .bytes ∷ []
 pub record Left (five out scratch : List ℕ) (o : Outcome) : Type 0 where
   pub result : five ≡ fiveOf (o .result)
   pub output : out ≡ o .output
-  pub cleared : scratch ≡ o .scratch
+  pub kept-or-zero : scratch ≡ o .scratch
 
 pub record Filled (five out : List ℕ) (o : Written) : Type 0 where
   pub result : five ≡ fiveOf (o .result)

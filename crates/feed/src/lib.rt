@@ -2,7 +2,7 @@
 // stated order of the checks; the exports for other languages are in `c`.
 ghost use mathlib.Core.Path.{_≡_};
 ghost use Rattle.rules.specs.Answers.{check, evaluate};
-ghost use Rattle.feed.specs.Asks.{CheckAsks, EvaluateAsks};
+ghost use Rattle.feed.specs.Asks.{ChildRoom, CheckAsks, EvaluateAsks};
 ghost use Rattle.feed.specs.Verdict.{outcome};
 
 pub mod c;
@@ -12,79 +12,70 @@ mod verdict;
 
 use layout::heads::grammar_heads;
 use layout::heads::templates_heads;
-use limits::value::value_limits;
 use rules::Answer;
-use set::is_small;
-use set::judge_set;
-use stream::Fault;
+use set::judge;
 pub use stream::block::block_payload;
 pub use stream::pack::pack;
 pub use stream::pack::unpack;
 use streams::judge_all;
 use streams::judge_two;
-use typing::value::value_typing;
 use verdict::Verdict;
 use verdict::accepted;
 use verdict::ended;
 use verdict::refused;
 use walk::run;
 
-// 4 to 7 of a grammar and a template set that 1 to 3 let through, over the tables of their heads.
-fn check_set(
-    g: &[u8],
-    t: &[u8],
-    classes: &[u16],
-    productions: &[u16],
-    types: &[u16],
-    templates: &[u16],
-    sets: &mut [u64],
-) -> Answer
-    requires { ⌜ CheckAsks (now g) (now t) (now classes) (now productions) (now types) (now templates) (now sets) ⌝ }
+// The classes and the productions of a grammar, at most 256 each, have their heads in one table.
+const GRAMMAR_HEADS: usize = 512;
+
+// The records of a whole stream, and of one of at most 8 blocks: a table of either length has room for the heads of such a template set, or for
+// the children of such a value.
+const RECORDS: usize = 8064;
+
+const SMALL_RECORDS: usize = 504;
+
+const SMALL_STREAM: usize = 4096;
+
+// Refusal 9: "fewer than 4,800 16-bit numbers, 24 for each depth".
+const SCRATCH: usize = 4800;
+
+// 4 to 7 of a grammar and a template set that 1 to 3 let through. The heads of the templates' stream go into a table that is lent.
+fn check_set(g: &[u8], t: &[u8], heads: &mut [u16]) -> Answer
+    requires { ⌜ CheckAsks (now g) (now t) (now heads) ⌝ }
     ensures { λ r. ⌜ r ≡ check (now (g .entry)) (now (t .entry)) ⌝ }
 {
-    if let Verdict::Refused(number, kind, place) = judge_set(
-        g,
-        t,
-        Fault::Nowhere,
-        classes,
-        productions,
-        types,
-        templates,
-        sets,
-    ) {
+    let mut of_g = [0u16; GRAMMAR_HEADS];
+    let in_g = grammar_heads(g, &mut of_g);
+    let in_t = templates_heads(t, heads);
+    let classes = in_g.first;
+    let productions = classes + in_g.second;
+    let types = in_t.first;
+    let templates = types + in_t.second;
+    let all = &of_g[..];
+    let cs = &all[0..classes];
+    let ps = &all[classes..productions];
+    let us = &heads[0..types];
+    let ts = &heads[types..templates];
+    if let Verdict::Refused(number, kind, place) = judge(g, t, g, false, cs, ps, us, ts) {
         return refused(number, kind, place);
     }
     accepted()
 }
 
-// The check call: 1 to 7 of a grammar and a template set. Five zeros mean accepted. Small sets, which are most, take a small table of sets,
-// which is sooner cleared.
+// The check call: 1 to 7 of a grammar and a template set. Five zeros mean accepted. Small template sets, which are most, take a small table of
+// heads, which is sooner cleared.
 pub fn check(g: &[u8], t: &[u8]) -> Answer
     ensures { λ r. ⌜ r ≡ check (now (g .entry)) (now (t .entry)) ⌝ }
 {
     if let Verdict::Refused(number, kind, place) = judge_two(g, t) {
         return refused(number, kind, place);
     }
-    let mut classes = [0u16; 256];
-    let mut productions = [0u16; 256];
-    let mut types = [0u16; 8064];
-    let mut templates = [0u16; 8064];
-    let of_g = grammar_heads(g, &mut classes, &mut productions);
-    let of_t = templates_heads(t, &mut types, &mut templates);
-    let class_count = of_g.first;
-    let production_count = of_g.second;
-    let type_count = of_t.first;
-    let template_count = of_t.second;
-    let cs = &classes[0..class_count];
-    let ps = &productions[0..production_count];
-    let us = &types[0..type_count];
-    let ts = &templates[0..template_count];
-    if is_small(g, class_count) {
-        let mut sets = [0u64; 1024];
-        return check_set(g, t, cs, ps, us, ts, &mut sets);
+    if t.len() <= SMALL_STREAM {
+        let mut heads = [0u16; SMALL_RECORDS];
+        return check_set(g, t, &mut heads);
     }
-    let mut sets = [0u64; 16256];
-    check_set(g, t, cs, ps, us, ts, &mut sets)
+    let mut heads = [0u16; RECORDS];
+    check_set(g, t, &mut heads)
 }
 
 // 4 to 9 of a set and a value that 1 to 3 let through, and the walk.
@@ -92,40 +83,64 @@ fn evaluate_set(
     g: &[u8],
     t: &[u8],
     v: &[u8],
-    classes: &[u16],
-    productions: &[u16],
-    types: &[u16],
-    templates: &[u16],
-    sets: &mut [u64],
+    firsts: &[u16],
+    places: &[u16],
+    heads: &mut [u16],
     fuel: u32,
     out: &mut [u8],
     scratch: &mut [u16],
 ) -> Answer
-    requires { ⌜ EvaluateAsks (now g) (now t) (now v) (now classes) (now productions) (now types) (now templates) (now sets) ⌝ }
+    requires { ⌜ EvaluateAsks (now g) (now t) (now v) (now firsts) (now places) (now heads) ⌝ }
     ensures { λ r. ⌜ outcome r (now (out .exit)) (now (scratch .exit)) ≡ evaluate (now (g .entry)) (now (t .entry)) (now (v .entry)) fuel (now (out .entry)) (now (scratch .entry)) ⌝ }
 {
-    if let Verdict::Refused(number, kind, place) = judge_set(
-        g,
-        t,
-        value_limits(v),
-        classes,
-        productions,
-        types,
-        templates,
-        sets,
-    ) {
+    let mut of_g = [0u16; GRAMMAR_HEADS];
+    let in_g = grammar_heads(g, &mut of_g);
+    let in_t = templates_heads(t, heads);
+    let classes = in_g.first;
+    let productions = classes + in_g.second;
+    let types = in_t.first;
+    let templates = types + in_t.second;
+    let all = &of_g[..];
+    let cs = &all[0..classes];
+    let ps = &all[classes..productions];
+    let us = &heads[0..types];
+    let ts = &heads[types..templates];
+    if let Verdict::Refused(number, kind, place) = judge(g, t, v, true, cs, ps, us, ts) {
         return refused(number, kind, place);
     }
-    if let Fault::At(place) = value_typing(g, t, v, classes, sets, types, templates) {
-        return refused(8, 3, place);
-    }
-    if scratch.len() < 4800 {
+    if scratch.len() < SCRATCH {
         return refused(9, 0, 0);
     }
-    ended(run(g, t, v, productions, templates, fuel, out, scratch))
+    ended(run(g, t, v, ps, ts, firsts, places, fuel, out, scratch))
 }
 
-// The evaluate call: 1 to 9, and then the walk. Refused by 1 to 9 it leaves the output and the scratch as they were.
+// 1 to 3 of all three streams, with the table of the value's children, and what comes after them.
+fn evaluate_all(
+    g: &[u8],
+    t: &[u8],
+    v: &[u8],
+    firsts: &mut [u16],
+    places: &mut [u16],
+    fuel: u32,
+    out: &mut [u8],
+    scratch: &mut [u16],
+) -> Answer
+    requires { ⌜ ChildRoom (now v) (now firsts) (now places) ⌝ }
+    ensures { λ r. ⌜ outcome r (now (out .exit)) (now (scratch .exit)) ≡ evaluate (now (g .entry)) (now (t .entry)) (now (v .entry)) fuel (now (out .entry)) (now (scratch .entry)) ⌝ }
+{
+    if let Verdict::Refused(number, kind, place) = judge_all(g, t, v, firsts, places) {
+        return refused(number, kind, place);
+    }
+    if t.len() <= SMALL_STREAM {
+        let mut heads = [0u16; SMALL_RECORDS];
+        return evaluate_set(g, t, v, firsts, places, &mut heads, fuel, out, scratch);
+    }
+    let mut heads = [0u16; RECORDS];
+    evaluate_set(g, t, v, firsts, places, &mut heads, fuel, out, scratch)
+}
+
+// The evaluate call: 1 to 9, and then the walk. Refused by 1 to 9 it leaves the output and the scratch as they were. A small value takes a small
+// table of children; one of no right length needs none, as 1 refuses it.
 pub fn evaluate(
     g: &[u8],
     t: &[u8],
@@ -136,27 +151,12 @@ pub fn evaluate(
 ) -> Answer
     ensures { λ r. ⌜ outcome r (now (out .exit)) (now (scratch .exit)) ≡ evaluate (now (g .entry)) (now (t .entry)) (now (v .entry)) fuel (now (out .entry)) (now (scratch .entry)) ⌝ }
 {
-    if let Verdict::Refused(number, kind, place) = judge_all(g, t, v) {
-        return refused(number, kind, place);
+    if v.len() <= SMALL_STREAM {
+        let mut firsts = [0u16; SMALL_RECORDS];
+        let mut places = [0u16; SMALL_RECORDS];
+        return evaluate_all(g, t, v, &mut firsts, &mut places, fuel, out, scratch);
     }
-    let mut classes = [0u16; 256];
-    let mut productions = [0u16; 256];
-    let mut types = [0u16; 8064];
-    let mut templates = [0u16; 8064];
-    let of_g = grammar_heads(g, &mut classes, &mut productions);
-    let of_t = templates_heads(t, &mut types, &mut templates);
-    let class_count = of_g.first;
-    let production_count = of_g.second;
-    let type_count = of_t.first;
-    let template_count = of_t.second;
-    let cs = &classes[0..class_count];
-    let ps = &productions[0..production_count];
-    let us = &types[0..type_count];
-    let ts = &templates[0..template_count];
-    if is_small(g, class_count) {
-        let mut sets = [0u64; 1024];
-        return evaluate_set(g, t, v, cs, ps, us, ts, &mut sets, fuel, out, scratch);
-    }
-    let mut sets = [0u64; 16256];
-    evaluate_set(g, t, v, cs, ps, us, ts, &mut sets, fuel, out, scratch)
+    let mut firsts = [0u16; RECORDS];
+    let mut places = [0u16; RECORDS];
+    evaluate_all(g, t, v, &mut firsts, &mut places, fuel, out, scratch)
 }

@@ -1,31 +1,29 @@
-// Refusals 4 to 7 of a grammar and a template set, over the tables of their heads.
+// Refusals 4 to 8, over the tables of heads.
 ghost use mathlib.Core.Path.{_≡_};
-ghost use mathlib.Core.Bool.{true};
+ghost use mathlib.Core.Bool.{true, cond};
 ghost use mathlib.Core.Option.{none};
 ghost use Prim.Native.Nat.{_*_, _≤_};
+ghost use Rattle.rules.specs.Blocks.{streamLength};
+ghost use Rattle.rules.specs.Limits.{valueLimits};
 ghost use Rattle.rules.specs.Names.{grammarNames, templatesNames};
 ghost use Rattle.stream.specs.Fault.{faultOf};
-ghost use Rattle.feed.specs.Asks.{Tabled, SetAsks, SetJudged};
-ghost use Rattle.feed.specs.Verdict.{offenceOf, firstOf};
+ghost use Rattle.feed.specs.Asks.{Tabled, Judgeable, SetAsks, SetJudged, JudgeAsks};
+ghost use Rattle.feed.specs.Verdict.{offenceOf, verdictOf, firstOf, judgement};
 use crate::verdict::Offence;
 use crate::verdict::Verdict;
 use crate::verdict::first;
+use lexeme::sets::SMALL_TABLE;
+use lexeme::sets::TABLE;
 use lexeme::sets::class_sets;
 use limits::classes::grammar_classes;
 use limits::grammar::grammar_names;
 use limits::names::templates_names;
 use limits::nonterminals::nonterminals;
 use limits::templates::templates_limits;
+use limits::value::value_limits;
 use stream::Fault;
 use typing::templates::templates_typing;
-
-// Whether 1,024 words have room for the sets of so many classes, and for hints to all ranges that the grammar could have.
-pub(crate) fn is_small(g: &[u8], classes: usize) -> bool
-    requires { ⌜ classes ≤ 256 ⌝ }
-    ensures { λ r. ⌜ (r ≡ true → 32 * classes ≤ 1024) ⌝ }
-{
-    32 * classes + g.len() / 8 <= 1024
-}
+use typing::value::value_typing;
 
 // Refusal 5 of both streams. (The nonterminals are marked on this function's own stack, which is free again for the typing.)
 fn judge_names(
@@ -47,7 +45,7 @@ fn judge_names(
 
 // `value` is what refusal 4 says of the value that comes with them. The class sets are compiled on the way, for the texts of the templates and
 // of the value.
-pub(crate) fn judge_set(
+fn judge_set(
     g: &[u8],
     t: &[u8],
     value: Fault,
@@ -55,7 +53,7 @@ pub(crate) fn judge_set(
     productions: &[u16],
     types: &[u16],
     templates: &[u16],
-    sets: &mut [u64],
+    sets: &mut [u16],
 ) -> Verdict
     requires { ⌜ SetAsks (now g) (now t) (now classes) (now productions) (now types) (now templates) (now sets) ⌝ }
     ensures { λ r. ⌜ SetJudged (now (g .entry)) (now (t .entry)) (faultOf value) (now (classes .entry)) (now (sets .exit)) r ⌝ }
@@ -74,4 +72,95 @@ pub(crate) fn judge_set(
         return Verdict::Refused(7, 2, place);
     }
     Verdict::Passed
+}
+
+// Whether a small table has room for the sets of so many classes, and for hints to all ranges that the grammar could have.
+fn fits_small(g: &[u8], classes: usize) -> bool
+    requires { ⌜ classes ≤ 256 ⌝ }
+    ensures { λ r. ⌜ (r ≡ true → 128 * classes ≤ 4096) ⌝ }
+{
+    128 * classes + g.len() / 8 <= SMALL_TABLE
+}
+
+// What refusal 4 says of a value, if one comes.
+fn value_depth(v: &[u8], valued: bool) -> Fault
+    requires { ⌜ streamLength (now v) ≡ none ⌝ }
+    ensures { λ r. ⌜ faultOf r ≡ cond valued (valueLimits (now (v .entry))) none ⌝ }
+{
+    if valued {
+        return value_limits(v);
+    }
+    Fault::Nowhere
+}
+
+// 4 to 8 over a table of class sets.
+fn judge_over(
+    g: &[u8],
+    t: &[u8],
+    v: &[u8],
+    valued: bool,
+    classes: &[u16],
+    productions: &[u16],
+    types: &[u16],
+    templates: &[u16],
+    sets: &mut [u16],
+) -> Verdict
+    requires { ⌜ JudgeAsks (now g) (now t) (now v) (now classes) (now productions) (now types) (now templates) (now sets) ⌝ }
+    ensures { λ r. ⌜ verdictOf r ≡ judgement (now (g .entry)) (now (t .entry)) (now (v .entry)) valued ⌝ }
+{
+    let deep = value_depth(v, valued);
+    let of_set = judge_set(g, t, deep, classes, productions, types, templates, sets);
+    if let Verdict::Refused(number, kind, place) = of_set {
+        return Verdict::Refused(number, kind, place);
+    }
+    if !valued {
+        return Verdict::Passed;
+    }
+    if let Fault::At(place) = value_typing(g, t, v, classes, sets, types, templates) {
+        return Verdict::Refused(8, 3, place);
+    }
+    Verdict::Passed
+}
+
+// 4 to 7 of a grammar and a template set that 1 to 3 let through, and 4 and 8 of a value if one comes with them. The table of class sets lies on
+// this function's own stack, so that it is gone when the walk starts. Small grammars, which are most, take a small one, which is sooner cleared.
+pub(crate) fn judge(
+    g: &[u8],
+    t: &[u8],
+    v: &[u8],
+    valued: bool,
+    classes: &[u16],
+    productions: &[u16],
+    types: &[u16],
+    templates: &[u16],
+) -> Verdict
+    requires { ⌜ Judgeable (now g) (now t) (now v) (now classes) (now productions) (now types) (now templates) ⌝ }
+    ensures { λ r. ⌜ verdictOf r ≡ judgement (now (g .entry)) (now (t .entry)) (now (v .entry)) valued ⌝ }
+{
+    if fits_small(g, classes.len()) {
+        let mut sets = [0u16; SMALL_TABLE];
+        return judge_over(
+            g,
+            t,
+            v,
+            valued,
+            classes,
+            productions,
+            types,
+            templates,
+            &mut sets,
+        );
+    }
+    let mut sets = [0u16; TABLE];
+    judge_over(
+        g,
+        t,
+        v,
+        valued,
+        classes,
+        productions,
+        types,
+        templates,
+        &mut sets,
+    )
 }

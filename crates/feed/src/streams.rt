@@ -2,6 +2,7 @@
 ghost use mathlib.Core.Path.{_≡_};
 ghost use mathlib.Core.List.{[], _∷_};
 ghost use Rattle.rules.specs.Answers.{grammar, templates, value, accept};
+ghost use Rattle.feed.specs.Asks.{ChildRoom, AllJudged};
 ghost use Rattle.feed.specs.Verdict.{verdictOf, streamsRefusal};
 use crate::verdict::Offence;
 use crate::verdict::Verdict;
@@ -32,9 +33,16 @@ pub(crate) fn judge_two(g: &[u8], t: &[u8]) -> Verdict
     Verdict::Passed
 }
 
-// Of these and a value.
-pub(crate) fn judge_all(g: &[u8], t: &[u8], v: &[u8]) -> Verdict
-    ensures { λ r. ⌜ verdictOf r ≡ streamsRefusal (grammar (now (g .entry)) ∷ templates (now (t .entry)) ∷ value (now (v .entry)) ∷ []) accept ⌝ }
+// Of these and a value, whose children go into a table on the way.
+pub(crate) fn judge_all(
+    g: &[u8],
+    t: &[u8],
+    v: &[u8],
+    firsts: &mut [u16],
+    places: &mut [u16],
+) -> Verdict
+    requires { ⌜ ChildRoom (now v) (now firsts) (now places) ⌝ }
+    ensures { λ r. ⌜ AllJudged (now (g .entry)) (now (t .entry)) (now (v .entry)) (now (firsts .exit)) (now (places .exit)) r ⌝ }
 {
     if let Offence::In(kind, place) = first(length_fault(g), length_fault(t), length_fault(v)) {
         return Verdict::Refused(1, kind, place);
@@ -48,7 +56,7 @@ pub(crate) fn judge_all(g: &[u8], t: &[u8], v: &[u8]) -> Verdict
     }
     let of_g = at_first(grammar_layout(g));
     let of_t = at_first(templates_layout(t));
-    let of_v = at_first(value_layout(v));
+    let of_v = at_first(value_layout(v, firsts, places));
     if let Offence::In(kind, place) = first(of_g, of_t, of_v) {
         return Verdict::Refused(3, kind, place);
     }

@@ -1,87 +1,16 @@
-use Rattle.feed.proofs.OrderLaws.{refuses, passes, three-laid, evaluate-streams}
-use Rattle.feed.proofs.SetLaws.{small-asks, large-asks}
-use Rattle.feed.proofs.EndLaws.{answered}
+use Rattle.feed.proofs.SetLaws.{small-rows, large-rows}
 use borrow.Author.Needs.{needs}
 use Rattle.feed.proofs.evaluate.Statement.{statement}
 use Rattle.feed.proofs.evaluate.Tie as tie
 
-judge-all-requires : tie.Need-judge-all-requires
-judge-all-requires c κs = search needs
+slice-aggregate-evaluate-all : tie.Need-slice-aggregate-evaluate-all
+slice-aggregate-evaluate-all c = search needs
 
-enum-known-number : tie.Need-enum-known-number
-enum-known-number c = search needs
+slice-aggregate-evaluate-all-2 : tie.Need-slice-aggregate-evaluate-all-2
+slice-aggregate-evaluate-all-2 c = search needs
 
-refused-requires : tie.Need-refused-requires
-refused-requires c κs = search needs
-
-returns : tie.Need-returns
-returns c = answered _ _ _ _ _ (c .refused .ensures) (evaluate-streams _ _ _ _ _ _ _ (refuses _ _ _ _ _ (c .before .before .before .before .judge-all .ensures) (c .before .before .number .given .1)))
-
-enum-told : tie.Need-enum-told
-enum-told c = search needs
-
-slice-aggregate-grammar-heads : tie.Need-slice-aggregate-grammar-heads
-slice-aggregate-grammar-heads c = search needs
-
-slice-aggregate-grammar-heads-2 : tie.Need-slice-aggregate-grammar-heads-2
-slice-aggregate-grammar-heads-2 c = search needs
-
-grammar-heads-requires : tie.Need-grammar-heads-requires
-grammar-heads-requires c κs = ((three-laid _ _ _ (passes _ _ (c .before .before .before .before .judge-all .ensures) (c .before .before .enum-told .given .1))) .0, record { in-first = search needs; in-second = search needs })
-
-slice-aggregate-templates-heads : tie.Need-slice-aggregate-templates-heads
-slice-aggregate-templates-heads c = search needs
-
-slice-aggregate-templates-heads-2 : tie.Need-slice-aggregate-templates-heads-2
-slice-aggregate-templates-heads-2 c = search needs
-
-templates-heads-requires : tie.Need-templates-heads-requires
-templates-heads-requires c κs = ((three-laid _ _ _ (passes _ _ (c .before .before .before .before .before .before .before .before .before .judge-all .ensures) (c .before .before .before .before .before .before .before .enum-told .given .1))) .1, record { in-first = search needs; in-second = search needs })
-
-sub-cs : tie.Need-sub-cs
-sub-cs c = search needs
-
-part-cs-start : tie.Need-part-cs-start
-part-cs-start c = search needs
-
-part-cs-end : tie.Need-part-cs-end
-part-cs-end c = search needs
-
-sub-ps : tie.Need-sub-ps
-sub-ps c = search needs
-
-part-ps-start : tie.Need-part-ps-start
-part-ps-start c = search needs
-
-part-ps-end : tie.Need-part-ps-end
-part-ps-end c = search needs
-
-sub-us : tie.Need-sub-us
-sub-us c = search needs
-
-part-us-start : tie.Need-part-us-start
-part-us-start c = search needs
-
-part-us-end : tie.Need-part-us-end
-part-us-end c = search needs
-
-sub-ts : tie.Need-sub-ts
-sub-ts c = search needs
-
-part-ts-start : tie.Need-part-ts-start
-part-ts-start c = search needs
-
-part-ts-end : tie.Need-part-ts-end
-part-ts-end c = search needs
-
-is-small-requires : tie.Need-is-small-requires
-is-small-requires c κs = c .before .before .before .before .before .before .before .before .before .before .before .before .before .before .before .grammar-heads .ensures .first .few
-
-slice-aggregate-evaluate-set : tie.Need-slice-aggregate-evaluate-set
-slice-aggregate-evaluate-set c = search needs
-
-evaluate-set-requires : tie.Need-evaluate-set-requires
-evaluate-set-requires c κs = record { passed = (passes _ _ (c .before .before .before .before .before .before .before .before .before .before .before .before .before .before .before .before .before .before .before .before .before .before .before .before .before .judge-all .ensures) (c .before .before .before .before .before .before .before .before .before .before .before .before .before .before .before .before .before .before .before .before .before .before .before .enum-told .given .1)); asks = small-asks _ _ _ _ _ _ _ _ _ _ _ _ ((three-laid _ _ _ (passes _ _ (c .before .before .before .before .before .before .before .before .before .before .before .before .before .before .before .before .before .before .before .before .before .before .before .before .before .judge-all .ensures) (c .before .before .before .before .before .before .before .before .before .before .before .before .before .before .before .before .before .before .before .before .before .before .before .enum-told .given .1))) .0) ((three-laid _ _ _ (passes _ _ (c .before .before .before .before .before .before .before .before .before .before .before .before .before .before .before .before .before .before .before .before .before .before .before .before .before .judge-all .ensures) (c .before .before .before .before .before .before .before .before .before .before .before .before .before .before .before .before .before .before .before .before .before .before .before .enum-told .given .1))) .1) (c .before .before .before .before .before .before .before .before .before .before .before .before .before .before .before .before .before .before .before .before .grammar-heads .ensures) (c .before .before .before .before .before .before .before .before .before .before .before .before .before .before .before .templates-heads .ensures) _ (search needs) (c .before .before .before .before .is-small .ensures (c .before .before .before .if1 .taken)) }
+evaluate-all-requires : tie.Need-evaluate-all-requires
+evaluate-all-requires c κs = small-rows _ _ _ (c .before .before .before .before .if1 .taken) (search needs) (search needs)
 
 same-length : tie.Need-same-length
 same-length c = search needs
@@ -89,14 +18,17 @@ same-length c = search needs
 same-length-2 : tie.Need-same-length-2
 same-length-2 c = search needs
 
-returns-2 : tie.Need-returns-2
-returns-2 c = c .before .before .before .before .before .evaluate-set .ensures
+returns : tie.Need-returns
+returns c = search needs
 
-slice-aggregate-evaluate-set-2 : tie.Need-slice-aggregate-evaluate-set-2
-slice-aggregate-evaluate-set-2 c = search needs
+slice-aggregate-evaluate-all-3 : tie.Need-slice-aggregate-evaluate-all-3
+slice-aggregate-evaluate-all-3 c = search needs
 
-evaluate-set-requires-2 : tie.Need-evaluate-set-requires-2
-evaluate-set-requires-2 c κs = record { passed = (passes _ _ (c .before .before .before .before .before .before .before .before .before .before .before .before .before .before .before .before .before .before .before .before .before .before .before .before .before .judge-all .ensures) (c .before .before .before .before .before .before .before .before .before .before .before .before .before .before .before .before .before .before .before .before .before .before .before .enum-told .given .1)); asks = large-asks _ _ _ _ _ _ _ _ _ _ _ _ ((three-laid _ _ _ (passes _ _ (c .before .before .before .before .before .before .before .before .before .before .before .before .before .before .before .before .before .before .before .before .before .before .before .before .before .judge-all .ensures) (c .before .before .before .before .before .before .before .before .before .before .before .before .before .before .before .before .before .before .before .before .before .before .before .enum-told .given .1))) .0) ((three-laid _ _ _ (passes _ _ (c .before .before .before .before .before .before .before .before .before .before .before .before .before .before .before .before .before .before .before .before .before .before .before .before .before .judge-all .ensures) (c .before .before .before .before .before .before .before .before .before .before .before .before .before .before .before .before .before .before .before .before .before .before .before .enum-told .given .1))) .1) (c .before .before .before .before .before .before .before .before .before .before .before .before .before .before .before .before .before .before .before .before .grammar-heads .ensures) (c .before .before .before .before .before .before .before .before .before .before .before .before .before .before .before .templates-heads .ensures) _ (search needs) }
+slice-aggregate-evaluate-all-4 : tie.Need-slice-aggregate-evaluate-all-4
+slice-aggregate-evaluate-all-4 c = search needs
+
+evaluate-all-requires-2 : tie.Need-evaluate-all-requires-2
+evaluate-all-requires-2 c κs = large-rows _ _ _ (search needs) (search needs)
 
 same-length-3 : tie.Need-same-length-3
 same-length-3 c = search needs
@@ -104,44 +36,22 @@ same-length-3 c = search needs
 same-length-4 : tie.Need-same-length-4
 same-length-4 c = search needs
 
-returns-3 : tie.Need-returns-3
-returns-3 c = c .before .before .before .before .before .evaluate-set2 .ensures
+returns-2 : tie.Need-returns-2
+returns-2 c = search needs
 
 pub evaluate-spec : {M : Type 1} → statement M
 evaluate-spec =
     tie.close
     (tie.spec
-    judge-all-requires
-    enum-known-number
-    refused-requires
-    returns
-    enum-told
-    slice-aggregate-grammar-heads
-    slice-aggregate-grammar-heads-2
-    grammar-heads-requires
-    slice-aggregate-templates-heads
-    slice-aggregate-templates-heads-2
-    templates-heads-requires
-    sub-cs
-    part-cs-start
-    part-cs-end
-    sub-ps
-    part-ps-start
-    part-ps-end
-    sub-us
-    part-us-start
-    part-us-end
-    sub-ts
-    part-ts-start
-    part-ts-end
-    is-small-requires
-    slice-aggregate-evaluate-set
-    evaluate-set-requires
+    slice-aggregate-evaluate-all
+    slice-aggregate-evaluate-all-2
+    evaluate-all-requires
     same-length
     same-length-2
-    returns-2
-    slice-aggregate-evaluate-set-2
-    evaluate-set-requires-2
+    returns
+    slice-aggregate-evaluate-all-3
+    slice-aggregate-evaluate-all-4
+    evaluate-all-requires-2
     same-length-3
     same-length-4
-    returns-3)
+    returns-2)

@@ -18,7 +18,7 @@ same-length-2 : tie.Need-same-length-2
 same-length-2 c = search needs
 
 returns : tie.Need-returns
-returns c = record { result = c .put .ensures ∙ ap (λ (o : Outcome). fiveOf (o .result)) (c .before .before .before .before .before .before .evaluate .ensures); output = ap (λ (o : Outcome). o .output) (c .before .before .before .before .before .before .evaluate .ensures); cleared = ap (λ (o : Outcome). o .scratch) (c .before .before .before .before .before .before .evaluate .ensures) }
+returns c = record { result = c .put .ensures ∙ ap (λ (o : Outcome). fiveOf (o .result)) (c .before .before .before .before .before .before .evaluate .ensures); output = ap (λ (o : Outcome). o .output) (c .before .before .before .before .before .before .evaluate .ensures); kept-or-zero = ap (λ (o : Outcome). o .scratch) (c .before .before .before .before .before .before .evaluate .ensures) }
 
 pub feed-evaluate-spec : {M : Type 1} → statement M
 feed-evaluate-spec =

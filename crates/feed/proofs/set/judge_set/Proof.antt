@@ -38,7 +38,7 @@ enum-told-2 : tie.Need-enum-told-2
 enum-told-2 c = search needs
 
 grammar-classes-requires : tie.Need-grammar-classes-requires
-grammar-classes-requires c κs = record { classes-are = c .before .before .before .before .before .before .before .before .before .before .before .before .before .before .pre .tabled .classes-are }
+grammar-classes-requires c κs = record { sized = c .before .before .before .before .before .before .before .before .before .before .before .before .before .before .pre .tabled .grammar-sized; classes-are = c .before .before .before .before .before .before .before .before .before .before .before .before .before .before .pre .tabled .classes-are }
 
 enum-known-place : tie.Need-enum-known-place
 enum-known-place c = search needs

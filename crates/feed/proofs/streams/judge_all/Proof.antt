@@ -1,7 +1,7 @@
-use mathlib.Core.Path.{_∙_}
-use Rattle.feed.proofs.OrderLaws.{offends, offends-not, tried, went-on, lengths-three, blocks-three, layouts-three, three-sized}
+use mathlib.Core.Path.{sym, _∙_}
 use Rattle.rules.specs.Answers.{accept}
 use Rattle.feed.specs.Verdict.{streamsRefusal}
+use Rattle.feed.proofs.OrderLaws.{offends, offends-not, tried, went-on, lengths-three, blocks-three, layouts-three, three-sized, all-refused, all-passed, laid-children}
 use borrow.Author.Needs.{needs}
 use Rattle.feed.proofs.streams.judge_all.Statement.{statement}
 use Rattle.feed.proofs.streams.judge_all.Tie as tie
@@ -23,7 +23,7 @@ enum-known-kind c = search needs
 
 returns : tie.Need-returns
 unfolding streamsRefusal
-returns c = tried 1 _ _ _ _ (offends _ _ _ _ (c .before .before .before .first .ensures ∙ lengths-three _ _ _ _ _ _ (c .before .before .before .before .before .before .length-fault .ensures) (c .before .before .before .before .before .length-fault2 .ensures) (c .before .before .before .before .length-fault3 .ensures)) (c .before .kind .given .1))
+returns c = all-refused _ _ _ _ _ _ _ _ (tried 1 _ _ _ _ (offends _ _ _ _ (c .before .before .before .first .ensures ∙ lengths-three _ _ _ _ _ _ (c .before .before .before .before .before .before .length-fault .ensures) (c .before .before .before .before .before .length-fault2 .ensures) (c .before .before .before .before .length-fault3 .ensures)) (c .before .kind .given .1)))
 
 enum-told : tie.Need-enum-told
 enum-told c = search needs
@@ -45,7 +45,7 @@ enum-known-kind-2 c = search needs
 
 returns-2 : tie.Need-returns-2
 unfolding streamsRefusal
-returns-2 c = tried 2 _ _ _ _ (offends _ _ _ _ (c .before .before .before .first2 .ensures ∙ blocks-three _ _ _ _ _ _ (c .before .before .before .before .before .before .block-fault .ensures) (c .before .before .before .before .before .block-fault2 .ensures) (c .before .before .before .before .block-fault3 .ensures)) (c .before .kind2 .given .1)) ∙ went-on 1 _ _ (offends-not _ _ (c .before .before .before .before .before .before .before .before .before .first .ensures ∙ lengths-three _ _ _ _ _ _ (c .before .before .before .before .before .before .before .before .before .before .before .before .length-fault .ensures) (c .before .before .before .before .before .before .before .before .before .before .before .length-fault2 .ensures) (c .before .before .before .before .before .before .before .before .before .before .length-fault3 .ensures)) (c .before .before .before .before .before .before .before .enum-told .given .1))
+returns-2 c = all-refused _ _ _ _ _ _ _ _ (tried 2 _ _ _ _ (offends _ _ _ _ (c .before .before .before .first2 .ensures ∙ blocks-three _ _ _ _ _ _ (c .before .before .before .before .before .before .block-fault .ensures) (c .before .before .before .before .before .block-fault2 .ensures) (c .before .before .before .before .block-fault3 .ensures)) (c .before .kind2 .given .1)) ∙ went-on 1 _ _ (offends-not _ _ (c .before .before .before .before .before .before .before .before .before .first .ensures ∙ lengths-three _ _ _ _ _ _ (c .before .before .before .before .before .before .before .before .before .before .before .before .length-fault .ensures) (c .before .before .before .before .before .before .before .before .before .before .before .length-fault2 .ensures) (c .before .before .before .before .before .before .before .before .before .before .length-fault3 .ensures)) (c .before .before .before .before .before .before .before .enum-told .given .1)))
 
 enum-told-2 : tie.Need-enum-told-2
 enum-told-2 c = search needs
@@ -63,7 +63,9 @@ at-first-requires-2 : tie.Need-at-first-requires-2
 at-first-requires-2 c κs = search needs
 
 value-layout-requires : tie.Need-value-layout-requires
-value-layout-requires c κs = search needs
+value-layout-requires c κs =
+    let l = three-sized _ _ _ (offends-not _ _ (c .before .before .before .before .before .before .before .before .before .before .before .before .before .before .first .ensures ∙ lengths-three _ _ _ _ _ _ (c .before .before .before .before .before .before .before .before .before .before .before .before .before .before .before .before .before .length-fault .ensures) (c .before .before .before .before .before .before .before .before .before .before .before .before .before .before .before .before .length-fault2 .ensures) (c .before .before .before .before .before .before .before .before .before .before .before .before .before .before .before .length-fault3 .ensures)) (c .before .before .before .before .before .before .before .before .before .before .before .before .enum-told .given .1)) .2 in
+    (l, (c .before .before .before .before .before .before .before .before .before .before .before .before .before .before .before .before .before .before .before .before .before .before .before .pre .in-firsts l, c .before .before .before .before .before .before .before .before .before .before .before .before .before .before .before .before .before .before .before .before .before .before .before .pre .in-places l))
 
 at-first-requires-3 : tie.Need-at-first-requires-3
 at-first-requires-3 c κs = search needs
@@ -74,16 +76,31 @@ first-requires-3 c κs = search needs
 enum-known-kind-3 : tie.Need-enum-known-kind-3
 enum-known-kind-3 c = search needs
 
+same-length : tie.Need-same-length
+same-length c = search needs
+
+same-length-2 : tie.Need-same-length-2
+same-length-2 c = search needs
+
 returns-3 : tie.Need-returns-3
 unfolding streamsRefusal
-returns-3 c = tried 3 _ _ _ _ (offends _ _ _ _ (c .before .before .before .first3 .ensures ∙ layouts-three _ _ _ _ _ _ (c .before .before .before .before .before .before .before .before .at-first .ensures ∙ c .before .before .before .before .before .before .before .before .before .grammar-layout .ensures) (c .before .before .before .before .before .before .at-first2 .ensures ∙ c .before .before .before .before .before .before .before .templates-layout .ensures) (c .before .before .before .before .at-first3 .ensures ∙ c .before .before .before .before .before .value-layout .ensures)) (c .before .kind3 .given .1)) ∙ went-on 2 _ _ (offends-not _ _ (c .before .before .before .before .before .before .before .before .before .before .before .before .first2 .ensures ∙ blocks-three _ _ _ _ _ _ (c .before .before .before .before .before .before .before .before .before .before .before .before .before .before .before .block-fault .ensures) (c .before .before .before .before .before .before .before .before .before .before .before .before .before .before .block-fault2 .ensures) (c .before .before .before .before .before .before .before .before .before .before .before .before .before .block-fault3 .ensures)) (c .before .before .before .before .before .before .before .before .before .before .enum-told2 .given .1)) ∙ went-on 1 _ _ (offends-not _ _ (c .before .before .before .before .before .before .before .before .before .before .before .before .before .before .before .before .before .before .first .ensures ∙ lengths-three _ _ _ _ _ _ (c .before .before .before .before .before .before .before .before .before .before .before .before .before .before .before .before .before .before .before .before .before .length-fault .ensures) (c .before .before .before .before .before .before .before .before .before .before .before .before .before .before .before .before .before .before .before .before .length-fault2 .ensures) (c .before .before .before .before .before .before .before .before .before .before .before .before .before .before .before .before .before .before .before .length-fault3 .ensures)) (c .before .before .before .before .before .before .before .before .before .before .before .before .before .before .before .before .enum-told .given .1))
+returns-3 c = all-refused _ _ _ _ _ _ _ _ (tried 3 _ _ _ _ (offends _ _ _ _ (c .before .before .before .first3 .ensures ∙ layouts-three _ _ _ _ _ _ (c .before .before .before .before .before .before .before .before .before .before .before .before .before .before .at-first .ensures ∙ c .before .before .before .before .before .before .before .before .before .before .before .before .before .before .before .grammar-layout .ensures) (c .before .before .before .before .before .before .before .before .before .before .before .before .at-first2 .ensures ∙ c .before .before .before .before .before .before .before .before .before .before .before .before .before .templates-layout .ensures) (c .before .before .before .before .at-first3 .ensures ∙ c .before .before .before .before .before .before .before .before .before .value-layout .ensures .0)) (c .before .kind3 .given .1)) ∙ went-on 2 _ _ (offends-not _ _ (c .before .before .before .before .before .before .before .before .before .before .before .before .before .before .before .before .before .before .first2 .ensures ∙ blocks-three _ _ _ _ _ _ (c .before .before .before .before .before .before .before .before .before .before .before .before .before .before .before .before .before .before .before .before .before .block-fault .ensures) (c .before .before .before .before .before .before .before .before .before .before .before .before .before .before .before .before .before .before .before .before .block-fault2 .ensures) (c .before .before .before .before .before .before .before .before .before .before .before .before .before .before .before .before .before .before .before .block-fault3 .ensures)) (c .before .before .before .before .before .before .before .before .before .before .before .before .before .before .before .before .enum-told2 .given .1)) ∙ went-on 1 _ _ (offends-not _ _ (c .before .before .before .before .before .before .before .before .before .before .before .before .before .before .before .before .before .before .before .before .before .before .before .before .first .ensures ∙ lengths-three _ _ _ _ _ _ (c .before .before .before .before .before .before .before .before .before .before .before .before .before .before .before .before .before .before .before .before .before .before .before .before .before .before .before .length-fault .ensures) (c .before .before .before .before .before .before .before .before .before .before .before .before .before .before .before .before .before .before .before .before .before .before .before .before .before .before .length-fault2 .ensures) (c .before .before .before .before .before .before .before .before .before .before .before .before .before .before .before .before .before .before .before .before .before .before .before .before .before .length-fault3 .ensures)) (c .before .before .before .before .before .before .before .before .before .before .before .before .before .before .before .before .before .before .before .before .before .before .enum-told .given .1)))
 
 enum-told-3 : tie.Need-enum-told-3
 enum-told-3 c = search needs
 
+same-length-3 : tie.Need-same-length-3
+same-length-3 c = search needs
+
+same-length-4 : tie.Need-same-length-4
+same-length-4 c = search needs
+
 returns-4 : tie.Need-returns-4
 unfolding streamsRefusal accept
-returns-4 c = went-on 3 _ accept (offends-not _ _ (c .before .before .first3 .ensures ∙ layouts-three _ _ _ _ _ _ (c .before .before .before .before .before .before .before .at-first .ensures ∙ c .before .before .before .before .before .before .before .before .grammar-layout .ensures) (c .before .before .before .before .before .at-first2 .ensures ∙ c .before .before .before .before .before .before .templates-layout .ensures) (c .before .before .before .at-first3 .ensures ∙ c .before .before .before .before .value-layout .ensures)) (c .enum-told3 .given .1)) ∙ went-on 2 _ _ (offends-not _ _ (c .before .before .before .before .before .before .before .before .before .before .before .first2 .ensures ∙ blocks-three _ _ _ _ _ _ (c .before .before .before .before .before .before .before .before .before .before .before .before .before .before .block-fault .ensures) (c .before .before .before .before .before .before .before .before .before .before .before .before .before .block-fault2 .ensures) (c .before .before .before .before .before .before .before .before .before .before .before .before .block-fault3 .ensures)) (c .before .before .before .before .before .before .before .before .before .enum-told2 .given .1)) ∙ went-on 1 _ _ (offends-not _ _ (c .before .before .before .before .before .before .before .before .before .before .before .before .before .before .before .before .before .first .ensures ∙ lengths-three _ _ _ _ _ _ (c .before .before .before .before .before .before .before .before .before .before .before .before .before .before .before .before .before .before .before .before .length-fault .ensures) (c .before .before .before .before .before .before .before .before .before .before .before .before .before .before .before .before .before .before .before .length-fault2 .ensures) (c .before .before .before .before .before .before .before .before .before .before .before .before .before .before .before .before .before .before .length-fault3 .ensures)) (c .before .before .before .before .before .before .before .before .before .before .before .before .before .before .before .enum-told .given .1))
+returns-4 c =
+    let laid = offends-not _ _ (c .before .before .first3 .ensures ∙ layouts-three _ _ _ _ _ _ (c .before .before .before .before .before .before .before .before .before .before .before .before .before .at-first .ensures ∙ c .before .before .before .before .before .before .before .before .before .before .before .before .before .before .grammar-layout .ensures) (c .before .before .before .before .before .before .before .before .before .before .before .at-first2 .ensures ∙ c .before .before .before .before .before .before .before .before .before .before .before .before .templates-layout .ensures) (c .before .before .before .at-first3 .ensures ∙ c .before .before .before .before .before .before .before .before .value-layout .ensures .0)) (c .enum-told3 .given .1) in
+    all-passed _ _ _ _ _ (went-on 3 _ accept laid ∙ went-on 2 _ _ (offends-not _ _ (c .before .before .before .before .before .before .before .before .before .before .before .before .before .before .before .before .before .first2 .ensures ∙ blocks-three _ _ _ _ _ _ (c .before .before .before .before .before .before .before .before .before .before .before .before .before .before .before .before .before .before .before .before .block-fault .ensures) (c .before .before .before .before .before .before .before .before .before .before .before .before .before .before .before .before .before .before .before .block-fault2 .ensures) (c .before .before .before .before .before .before .before .before .before .before .before .before .before .before .before .before .before .before .block-fault3 .ensures)) (c .before .before .before .before .before .before .before .before .before .before .before .before .before .before .before .enum-told2 .given .1)) ∙ went-on 1 _ _ (offends-not _ _ (c .before .before .before .before .before .before .before .before .before .before .before .before .before .before .before .before .before .before .before .before .before .before .before .first .ensures ∙ lengths-three _ _ _ _ _ _ (c .before .before .before .before .before .before .before .before .before .before .before .before .before .before .before .before .before .before .before .before .before .before .before .before .before .before .length-fault .ensures) (c .before .before .before .before .before .before .before .before .before .before .before .before .before .before .before .before .before .before .before .before .before .before .before .before .before .length-fault2 .ensures) (c .before .before .before .before .before .before .before .before .before .before .before .before .before .before .before .before .before .before .before .before .before .before .before .before .length-fault3 .ensures)) (c .before .before .before .before .before .before .before .before .before .before .before .before .before .before .before .before .before .before .before .before .before .enum-told .given .1)))
+    (laid-children _ _ _ _ _ laid (c .before .before .before .before .before .before .before .before .value-layout .ensures))
 
 pub judge-all-spec : {M : Type 1} → statement M
 judge-all-spec =
@@ -111,6 +128,10 @@ judge-all-spec =
     at-first-requires-3
     first-requires-3
     enum-known-kind-3
+    same-length
+    same-length-2
     returns-3
     enum-told-3
+    same-length-3
+    same-length-4
     returns-4)
