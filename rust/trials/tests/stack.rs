@@ -1,6 +1,6 @@
 //! A whole call runs on a small stack, on both machines: layout is judged before depth, on the
 //! deepest trees that 128 blocks hold, and a walk goes 201 levels deep, with thousands of items
-//! below the 200th.
+//! below the 200th. And what a call of the proved library takes is measured.
 
 use std::thread::Builder;
 
@@ -164,6 +164,17 @@ fn narrow_walks() -> Vec<Case> {
     ]
 }
 
+/// An empty text in lists, 200 levels in all, of which nothing is written.
+fn text_in_lists() -> Case {
+    let mut templates = Templates::new();
+    let text = templates.text(0);
+    let whole = (0..199).fold(text, |item, _| templates.list(item));
+    templates.template(0, [whole], nothing());
+    let value = (0..199).fold(Value::text(""), |item, _| Value::list([item]));
+    let name = "a text below 199 lists";
+    (name, templates.stream(), value.stream(), [0, 0, 0, 1, 0])
+}
+
 /// Walks over 8,000 items, which lie at depth 200 or would lie at 201.
 fn wide_walks() -> Vec<Case> {
     let wide = || Value::list(vec![Value::list([]); 8_000]).stream();
@@ -189,10 +200,14 @@ fn wide_walks() -> Vec<Case> {
     ]
 }
 
+fn cases() -> Vec<Case> {
+    let text = vec![text_in_lists()];
+    [deepest_trees(), narrow_walks(), text, wide_walks()].concat()
+}
+
 /// Tries all cases on a machine. The streams are built outside of the small stack.
 fn on_a_small_stack(machine: impl Machine + Send + 'static) {
-    let grammars = grammars();
-    let cases = [deepest_trees(), narrow_walks(), wide_walks()].concat();
+    let (grammars, cases) = (grammars(), cases());
     let calls = move || {
         for grammar in &grammars {
             cases.iter().for_each(|case| call(&machine, grammar, case));
@@ -229,4 +244,81 @@ fn the_reference_runs_on_a_small_stack() {
 #[test]
 fn the_second_machine_runs_on_a_small_stack() {
     on_a_small_stack(SECOND);
+}
+
+/// What a call takes is looked for in paint: the stack below it is painted before, and the deepest
+/// byte that the call wrote to is found afterwards. Not counted is what a thread takes for itself at
+/// the top of its stack, some 4.5 KiB with the GNU C library.
+#[cfg(feature = "proved")]
+mod painted {
+    use std::fs::File;
+    use std::hint::black_box;
+    use std::os::unix::fs::FileExt;
+    use std::thread::Builder;
+
+    use trials::{Machine, SECOND};
+
+    use super::{cases, grammars};
+
+    /// Less than this is taken by a call, with the frames of the wrapper and of the test.
+    const MOST: usize = 256 * 1024;
+
+    /// So much is painted below a call.
+    const PAINTED: usize = 1 << 20;
+    const PAINT: u8 = 0xA5;
+
+    #[inline(never)]
+    fn paint() {
+        black_box(&mut [PAINT; PAINTED]);
+    }
+
+    /// The bytes of stack below this frame that a call takes. (They lie below all frames when they
+    /// are looked at, where no reference reaches; so the system is asked for them.)
+    #[inline(never)]
+    fn taken(call: impl FnOnce()) -> usize {
+        let here = black_box(0);
+        let lowest = std::ptr::from_ref(&here).addr() - PAINTED;
+        paint();
+        call();
+        let mut stack = vec![0; PAINTED];
+        let memory = File::open("/proc/self/mem").expect("this process's memory");
+        memory
+            .read_exact_at(&mut stack, lowest as u64)
+            .expect("the painted stack");
+        let written = stack.iter().position(|&byte| byte != PAINT);
+        PAINTED - written.expect("a call that takes stack")
+    }
+
+    /// The call that takes most: its bytes, and what it is.
+    fn most() -> (usize, String) {
+        let (mut out, mut scratch) = (vec![0; 2_000], vec![0; 4_800]);
+        let mut all = Vec::new();
+        for grammar in &grammars() {
+            for (name, templates, value, _) in &cases() {
+                let name = format!("{name}, {} bytes of grammar", grammar.len());
+                let evaluate = taken(|| {
+                    SECOND.evaluate(
+                        [grammar, templates, value],
+                        u32::MAX,
+                        &mut out,
+                        &mut scratch,
+                    );
+                });
+                let check = taken(|| {
+                    SECOND.check(grammar, templates);
+                });
+                all.push((evaluate, format!("evaluate, {name}")));
+                all.push((check, format!("check, {name}")));
+            }
+        }
+        all.into_iter().max().expect("some call")
+    }
+
+    #[test]
+    fn a_call_takes_less_than_256_kib() {
+        let thread = Builder::new().stack_size(2 * PAINTED).spawn(most);
+        let (bytes, name) = thread.expect("a thread").join().expect("a measure");
+        println!("{bytes} bytes: {name}");
+        assert!(bytes < MOST, "{bytes} bytes: {name}");
+    }
 }
