@@ -1,41 +1,88 @@
-//! `bench [--rounds N]`: ratios of times as Markdown tables. No time is asserted.
+//! `bench [--rounds N] [--against FILE.so]`: ratios of times as Markdown tables. No time is asserted.
 //!
-//! With the feature `proved` the proved library is measured against the reference.
+//! With the feature `proved` the proved library is measured against the reference. With `--against`
+//! it is measured against another build of it, a shared object with the same exports, which an
+//! archive becomes by `cc -shared -o FILE.so -Wl,--whole-archive libfeed.a`.
 
+#[allow(unsafe_code)]
+mod loaded;
 mod measure;
 mod podcast;
 mod sets;
 
 use std::hint::black_box;
+use std::path::Path;
 
 use build::fnv1a;
+use loaded::Loaded;
 use measure::{measure, Times};
 use sets::{Family, FAMILIES};
 use trials::generate::Streams;
 use trials::{Fields, Machine, Reference};
 
-fn main() {
-    let rounds = rounds().unwrap_or(41);
-    println!("Medians of {rounds} rounds, everything measured in turns within one run.");
-    println!("In brackets: the quartiles.\n");
-    speed_table(rounds);
-    growth_table(rounds);
-    noise_line(rounds);
+/// The two calls that are measured.
+trait Calls {
+    fn name(&self) -> String;
+    fn check(&self, grammar: &[u8], templates: &[u8]) -> Fields;
+    fn evaluate(
+        &self,
+        streams: [&[u8]; 3],
+        fuel: u32,
+        out: &mut [u8],
+        scratch: &mut [u16],
+    ) -> Fields;
 }
 
-/// The number behind `--rounds`.
-fn rounds() -> Option<usize> {
-    let mut words = std::env::args().skip_while(|word| word != "--rounds");
-    words.nth(1)?.parse().ok().filter(|&rounds| rounds > 0)
+impl<M: Machine> Calls for M {
+    fn name(&self) -> String {
+        Machine::name(self)
+    }
+
+    fn check(&self, grammar: &[u8], templates: &[u8]) -> Fields {
+        Machine::check(self, grammar, templates)
+    }
+
+    fn evaluate(
+        &self,
+        streams: [&[u8]; 3],
+        fuel: u32,
+        out: &mut [u8],
+        scratch: &mut [u16],
+    ) -> Fields {
+        Machine::evaluate(self, streams, fuel, out, scratch)
+    }
+}
+
+fn main() -> Result<(), String> {
+    let rounds = option("--rounds").and_then(|word| word.parse().ok());
+    let rounds = rounds.filter(|&rounds| rounds > 0).unwrap_or(41);
+    let other = option("--against").map(|file| Loaded::open(Path::new(&file)));
+    let other = other.transpose()?;
+    println!("Medians of {rounds} rounds, everything measured in turns within one run.");
+    println!("In brackets: the quartiles.\n");
+    match other {
+        Some(other) => against_table(&other, rounds),
+        None => {
+            speed_table(rounds);
+            growth_table(rounds);
+        }
+    }
+    noise_line(rounds);
+    Ok(())
+}
+
+/// The word behind an option.
+fn option(name: &str) -> Option<String> {
+    std::env::args().skip_while(|word| word != name).nth(1)
 }
 
 #[cfg(feature = "proved")]
-fn machines() -> Vec<Box<dyn Machine>> {
+fn machines() -> Vec<Box<dyn Calls>> {
     vec![Box::new(Reference), Box::new(trials::proved::Proved)]
 }
 
 #[cfg(not(feature = "proved"))]
-fn machines() -> Vec<Box<dyn Machine>> {
+fn machines() -> Vec<Box<dyn Calls>> {
     vec![Box::new(Reference)]
 }
 
@@ -43,7 +90,7 @@ fn machines() -> Vec<Box<dyn Machine>> {
 type Thing<'a> = Box<dyn FnMut() + 'a>;
 
 /// One evaluate call with all the room that it needs.
-fn evaluation<'a>(machine: &'a dyn Machine, streams: &'a Streams) -> Thing<'a> {
+fn evaluation<'a>(machine: &'a dyn Calls, streams: &'a Streams) -> Thing<'a> {
     let mut out = vec![0; 1 << 20];
     let mut scratch = vec![0; 4_800];
     Box::new(move || {
@@ -51,7 +98,7 @@ fn evaluation<'a>(machine: &'a dyn Machine, streams: &'a Streams) -> Thing<'a> {
     })
 }
 
-fn checking<'a>(machine: &'a dyn Machine, streams: &'a Streams) -> Thing<'a> {
+fn checking<'a>(machine: &'a dyn Calls, streams: &'a Streams) -> Thing<'a> {
     Box::new(move || {
         let [grammar, templates, _] = black_box(streams.parts());
         black_box(machine.check(grammar, templates));
@@ -67,9 +114,12 @@ fn hashing(streams: &Streams) -> Thing<'_> {
     })
 }
 
-fn answer(streams: &Streams) -> Fields {
+/// What a machine answers and writes on a set, which must finish.
+fn finished(machine: &dyn Calls, family: &Family, streams: &Streams) -> (Fields, Vec<u8>) {
     let mut out = vec![0; 1 << 20];
-    Reference.evaluate(streams.parts(), u32::MAX, &mut out, &mut [0; 4_800])
+    let fields = machine.evaluate(streams.parts(), u32::MAX, &mut out, &mut [0; 4_800]);
+    assert_eq!(fields[0], 0, "{} must finish", family.name);
+    (fields, out)
 }
 
 fn input(streams: &Streams) -> usize {
@@ -113,10 +163,9 @@ fn speed_table(rounds: usize) {
     println!();
 }
 
-fn speed_row(family: &Family, machines: &[Box<dyn Machine>], rounds: usize) -> Vec<String> {
+fn speed_row(family: &Family, machines: &[Box<dyn Calls>], rounds: usize) -> Vec<String> {
     let streams = (family.set)(4);
-    let [number, .., steps, bytes] = answer(&streams);
-    assert_eq!(number, 0, "{} must finish", family.name);
+    let ([.., steps, bytes], _) = finished(&Reference, family, &streams);
     let mut things = vec![hashing(&streams)];
     for machine in machines {
         things.push(evaluation(&**machine, &streams));
@@ -154,9 +203,9 @@ fn growth_table(rounds: usize) {
     println!();
 }
 
-fn growth_row(family: &Family, machines: &[Box<dyn Machine>], rounds: usize) -> Vec<String> {
+fn growth_row(family: &Family, machines: &[Box<dyn Calls>], rounds: usize) -> Vec<String> {
     let (half, full) = ((family.set)(2), (family.set)(4));
-    let steps = |streams: &Streams| answer(streams)[3] as f64;
+    let steps = |streams: &Streams| finished(&Reference, family, streams).0[3] as f64;
     let mut cells = vec![
         family.name.to_string(),
         format!("{:.2}", input(&full) as f64 / input(&half) as f64),
@@ -174,6 +223,37 @@ fn growth_row(family: &Family, machines: &[Box<dyn Machine>], rounds: usize) -> 
         cells.push(with_quartiles(times[3].ratio(&times[2])));
     }
     cells
+}
+
+/// The last of the machines, new, against another, old, which must answer the same.
+fn against_table(old: &dyn Calls, rounds: usize) {
+    let machines = machines();
+    let new = &**machines.last().expect("a machine");
+    println!("New: {}. Old: {}.\n", new.name(), old.name());
+    header(&["set", "bytes in", "evaluate, new / old", "check, new / old"].map(String::from));
+    for family in &FAMILIES {
+        row(&against_row(family, new, old, rounds));
+    }
+    println!();
+}
+
+fn against_row(family: &Family, new: &dyn Calls, old: &dyn Calls, rounds: usize) -> Vec<String> {
+    let streams = (family.set)(4);
+    let [answers, others] = [new, old].map(|machine| finished(machine, family, &streams));
+    assert!(answers == others, "{}: other answers", family.name);
+    let mut things = vec![
+        evaluation(new, &streams),
+        evaluation(old, &streams),
+        checking(new, &streams),
+        checking(old, &streams),
+    ];
+    let times = measure(&mut things, rounds);
+    vec![
+        family.name.to_string(),
+        input(&streams).to_string(),
+        with_quartiles(times[0].ratio(&times[1])),
+        with_quartiles(times[2].ratio(&times[3])),
+    ]
 }
 
 /// The ratio of a thing to itself says how much a ratio is worth.

@@ -16,10 +16,15 @@ pub struct Family {
 }
 
 /// All families.
-pub const FAMILIES: [Family; 12] = [
+pub const FAMILIES: [Family; 17] = [
     Family {
         name: "the paper's example",
         set: |_| example(),
+        grows: false,
+    },
+    Family {
+        name: "a small feed",
+        set: |_| small_feed(),
         grows: false,
     },
     Family {
@@ -73,6 +78,26 @@ pub const FAMILIES: [Family; 12] = [
         grows: true,
     },
     Family {
+        name: "thousands of places, five steps each",
+        set: deep_paths,
+        grows: true,
+    },
+    Family {
+        name: "1,600 small templates",
+        set: many_templates,
+        grows: true,
+    },
+    Family {
+        name: "hundreds of expands, eight arguments each",
+        set: many_arguments,
+        grows: true,
+    },
+    Family {
+        name: "a thousand ifs and loops",
+        set: many_branches,
+        grows: true,
+    },
+    Family {
         name: "loops in loops, a small input",
         set: |_| nested_loops(),
         grows: false,
@@ -107,6 +132,42 @@ fn example() -> Streams {
     let grammar = entries(1, 4, &[(0x61, 0x7A), (0x370, 0x3FF)]);
     let value = Value::list([Value::text("ab"), Value::text("αβγδ")]);
     Streams::of(&grammar, &entries_templates(0), &value)
+}
+
+/// A feed of three entries: streams of a block or two.
+fn small_feed() -> Streams {
+    let mut grammar = Grammar::new();
+    let plain = [(0x20, 0x25), (0x27, 0x3B), (0x3D, 0x3D), (0x3F, 0x7E)];
+    let line = grammar.class(1, 80, &[&plain[..], &[(0x370, 0x3FF)]].concat());
+    let text = || Element::Class(line);
+    let (title, link) = (keyword("</title>"), keyword("</title><link>"));
+    let feed = [
+        keyword("<rss version=\"2.0\"><channel><title>"),
+        text(),
+        title,
+    ];
+    let entries = [Element::Repetition(1), keyword("</channel></rss>\n")];
+    grammar.production(0, feed.into_iter().chain(entries));
+    let (open, close) = (keyword("<item><title>"), keyword("</link></item>\n"));
+    grammar.production(1, [open, text(), link, text(), close]);
+    let mut templates = Templates::new();
+    let text = templates.text(line);
+    let entry = templates.record([text, text]);
+    let entries = templates.list(entry);
+    let whole = templates.record([text, entries]);
+    let place = |variable, field| Node::place(Path::variable(variable).field(field));
+    let item = Node::build(1, [place(1, 0), place(1, 1)]);
+    let row = Node::sequence([Node::each(Path::variable(0).field(1), item)]);
+    templates.template(0, [whole], Node::build(0, [place(0, 0), row]));
+    let titles = [
+        "An hour with the tide tables",
+        "Μια βραδιά στη Σύρο",
+        "Salt",
+    ];
+    let items =
+        titles.map(|title| Value::record([title, "https://feeds.example/7"].map(Value::text)));
+    let value = Value::record([Value::text("Evenings"), Value::list(items)]);
+    Streams::of(&grammar, &templates, &value)
 }
 
 /// 64 to 256 classes, each of 28 ranges of one character from high to low, and texts of them.
@@ -286,6 +347,82 @@ fn wide_sequence(scale: usize) -> Streams {
     let row = Node::sequence(vec![entry; 640 * scale]);
     templates.template(0, [text], Node::build(0, [row]));
     Streams::of(&grammar, &templates, &Value::text("ψ"))
+}
+
+/// A record in a record, five levels, each with its texts before the next, and a path to the last.
+fn nested_records(templates: &mut Templates) -> (u16, Value, Path) {
+    let text = templates.text(0);
+    let texts = || [Value::text("α"), Value::text("bc")];
+    let (mut kind, mut value) = (templates.record([text, text]), Value::record(texts()));
+    for _ in 0..4 {
+        kind = templates.record([text, text, kind]);
+        value = Value::record(texts().into_iter().chain([value]));
+    }
+    let path = Path {
+        variable: 0,
+        fields: vec![2, 2, 2, 2, 1],
+    };
+    (kind, value, path)
+}
+
+/// Entries in a row, each placed by a path of five steps.
+fn deep_paths(scale: usize) -> Streams {
+    let grammar = entries(1, 4, &[(0x61, 0x7A), (0x370, 0x3FF)]);
+    let mut templates = Templates::new();
+    let (kind, value, path) = nested_records(&mut templates);
+    let entry = Node::build(1, [Node::place(path)]);
+    let row = Node::sequence(vec![entry; 640 * scale]);
+    templates.template(0, [kind], Node::build(0, [row]));
+    Streams::of(&grammar, &templates, &value)
+}
+
+/// Templates of one entry each, of which the last is expanded.
+fn many_templates(scale: usize) -> Streams {
+    let grammar = entries(1, 4, &[(0x61, 0x7A), (0x370, 0x3FF)]);
+    let mut templates = Templates::new();
+    let text = templates.text(0);
+    let count = 400 * scale;
+    let last = Node::expand(count as u16, [Path::variable(0)]);
+    templates.template(0, [text], Node::build(0, [Node::sequence([last])]));
+    for _ in 0..count {
+        let entry = Node::build(1, [Node::place(Path::variable(0))]);
+        templates.template(1, [text], entry);
+    }
+    Streams::of(&grammar, &templates, &Value::text("ψ"))
+}
+
+/// Expands in a row of a template with eight parameters, which places the last of them.
+fn many_arguments(scale: usize) -> Streams {
+    let grammar = entries(1, 4, &[(0x61, 0x7A), (0x370, 0x3FF)]);
+    let mut templates = Templates::new();
+    let (kind, value, path) = nested_records(&mut templates);
+    let expand = Node::expand(1, vec![path; 8]);
+    let row = Node::sequence(vec![expand; 220 * scale]);
+    templates.template(0, [kind], Node::build(0, [row]));
+    let entry = Node::build(1, [Node::place(Path::variable(7))]);
+    templates.template(1, [0; 8], entry);
+    Streams::of(&grammar, &templates, &value)
+}
+
+/// Ifs and loops in turn, in a row: each has an entry below it.
+fn many_branches(scale: usize) -> Streams {
+    let grammar = entries(1, 4, &[(0x61, 0x7A), (0x370, 0x3FF)]);
+    let mut templates = Templates::new();
+    let (yes_no, text) = (templates.yes_no(), templates.text(0));
+    let texts = templates.list(text);
+    let whole = templates.record([yes_no, text, texts]);
+    let field = |field| Path::variable(0).field(field);
+    let entry = |path| Node::build(1, [Node::place(path)]);
+    let either = Node::either(field(0), entry(field(1)), entry(field(1)));
+    let each = Node::each(field(2), entry(Path::variable(1)));
+    let pairs = (0..150 * scale).flat_map(|_| [either.clone(), each.clone()]);
+    templates.template(0, [whole], Node::build(0, [Node::sequence(pairs)]));
+    let value = Value::record([
+        Value::YesNo(false),
+        Value::text("ψ"),
+        Value::list([Value::text("ab")]),
+    ]);
+    Streams::of(&grammar, &templates, &value)
 }
 
 /// Three loops in one another over forty items: 64,000 innermost bodies.
