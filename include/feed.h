@@ -6,7 +6,8 @@
  * Link the static library of crate `feed` (target/staticlib/libfeed.a, which
  * `rt staticlib feed` makes). It has no state of its own, takes no memory but
  * what it is lent and its stack, and may be called from several threads at once.
- * A call takes less than 256 KiB of stack; a thread of 320 KiB is enough.
+ * A call takes less than 256 KiB of stack, as measured on the deepest sets;
+ * the tests run it on a thread of 512 KiB.
  *
  * WHAT IS LENT
  *

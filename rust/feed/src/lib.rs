@@ -4,7 +4,7 @@
 //! A grammar, a template set and a value go in, each as a stream of 512-byte blocks; a text that the
 //! grammar derives comes out, or one numbered refusal. Everything that a call writes to is lent by the
 //! caller: nothing here allocates. Any bytes of any length may be lent. A call takes less than 256 KiB of
-//! stack; a thread of 320 KiB is enough.
+//! stack, as measured on the deepest sets; the tests run it on a thread of 512 KiB.
 //!
 //! | call | what it does |
 //! |---|---|
