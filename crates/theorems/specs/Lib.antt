@@ -5,6 +5,7 @@ pub mod LayoutExactly
 pub mod LimitsExactly
 pub mod Utf8
 pub mod Lexemes
+pub mod Children
 pub mod Judgement
 pub mod TypingExactly
 pub mod ValueExactly
