@@ -1,17 +1,16 @@
 -- Typing as judgements, in the manner of the static rules of source document 001 (its Fig. 10), in the words of section "Typing".
 use mathlib.Core.Path.{_≡_}
 use Prim.Native.Nat.{ℕ}
-use mathlib.Core.Bool.{true}
 use mathlib.Core.List.{List, [], _∷_, _++_}
 use mathlib.Core.Option.{some}
 use Rattle.rules.specs.Records.{kindOf, fieldB, textOf, nth}
-use Rattle.rules.specs.Lexeme.{isLexeme}
 use Rattle.rules.specs.Grammar.{production, Element, keyword, lexeme, nonterminal, repetition, elements}
 use Rattle.rules.specs.Templates.{text, yes-no, list, fields, typeOf, template, parameters, formOf, nodes, paths, path, first, second, variable, fieldNumbers}
 use Rattle.rules.specs.Value.{children}
 use Rattle.rules.specs.declared.Form.the-variants.{Build, Literal, Place, Expand, If, For, Sequence}
 use Rattle.rules.specs.declared.Position.{Position}
 use Rattle.rules.specs.declared.Position.the-variants.{Class, Nonterminal, Repetition, Item}
+use Rattle.theorems.specs.Lexemes.{Lexeme}
 
 -- 001's `T ⊢ texpr : τ`: the variable's type, then field by field
 pub data Along (t : List ℕ) : List ℕ → ℕ → ℕ → Type 0 where
@@ -35,7 +34,7 @@ mutual
     by-build : (vars : List ℕ) (p n q : ℕ) → formOf t p ≡ Build → production g (fieldB t p) ≡ some q → fieldB g q ≡ n
         → Fills g t vars (elements g q) (nodes t p) → Suits g t vars p (Nonterminal n)
     -- a morphem class's: "a literal that is a lexeme"
-    by-literal : (vars : List ℕ) (p c : ℕ) → formOf t p ≡ Literal → isLexeme g c (textOf t p) ≡ true → Suits g t vars p (Class c)
+    by-literal : (vars : List ℕ) (p c : ℕ) → formOf t p ≡ Literal → Lexeme g c (textOf t p) → Suits g t vars p (Class c)
     -- [expr]: "a place whose path has type text of that very class"
     by-place : (vars : List ℕ) (p c ty : ℕ) → formOf t p ≡ Place → PathTyped t vars (path p) ty → typeOf t ty ≡ text c → Suits g t vars p (Class c)
     -- [expand]: "an expand of a template with that nonterminal and argument types equal by number"
@@ -67,7 +66,7 @@ mutual
   -- "A value is of type text if it is a 1 whose text is a lexeme of the class; of yes/no if a 2; of a list if a 3 whose children are all of its item type;
   -- of a record if a 4 with one child for each field, in order, of that field's type."
   pub data OfType (g t v : List ℕ) : ℕ → ℕ → Type 0 where
-    of-text : (ty w c : ℕ) → typeOf t ty ≡ text c → kindOf v w ≡ 1 → isLexeme g c (textOf v w) ≡ true → OfType g t v ty w
+    of-text : (ty w c : ℕ) → typeOf t ty ≡ text c → kindOf v w ≡ 1 → Lexeme g c (textOf v w) → OfType g t v ty w
     of-yes-no : (ty w : ℕ) → typeOf t ty ≡ yes-no → kindOf v w ≡ 2 → OfType g t v ty w
     of-list : (ty w item : ℕ) → typeOf t ty ≡ list item → kindOf v w ≡ 3 → AllOf g t v item (children v w) → OfType g t v ty w
     of-record : (ty w : ℕ) (tys : List ℕ) → typeOf t ty ≡ fields tys → kindOf v w ≡ 4 → EachOf g t v tys (children v w) → OfType g t v ty w

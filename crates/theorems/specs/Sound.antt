@@ -7,7 +7,6 @@ use mathlib.Core.Option.{none, some, Option·none-ne-some, Option·some-injectiv
 use native.Mathlib.Omega.{arith}
 use Rattle.rules.specs.Faults.{onFound}
 use Rattle.rules.specs.Records.{fieldB, nth}
-use Rattle.rules.specs.Lexeme.{isLexeme}
 use Rattle.rules.specs.Grammar.{Element}
 use Rattle.rules.specs.Templates.{TypeForm, text, yes-no, list, fields, no-type, typeOf, template, parameters, body, formOf}
 use Rattle.rules.specs.Value.{asText, asYesNo, asList, asRecord}
@@ -20,6 +19,7 @@ use Rattle.rules.specs.declared.Position.{Position}
 use Rattle.rules.specs.declared.Position.the-variants.{Class, Nonterminal, Repetition, Item}
 use Rattle.laws.specs.Faults.{both-none, nth-in, every-in, onFound-none, at-none}
 use Rattle.theorems.specs.Ends.{Ends, finished, limited, ends-map, then-ends, found-ends, reached-ends, write-ends, ends-done}
+use Rattle.theorems.specs.Lexemes.{Lexeme, lexeme-exactly}
 use Rattle.theorems.specs.Judgement.{Along, arrived, a-field, PathTyped, Arguments, no-argument, an-argument}
 use Rattle.theorems.specs.Judgement.{Suits, by-build, by-literal, by-place, by-expand, by-if, by-for, by-sequence, as-item}
 use Rattle.theorems.specs.Judgement.{Fills, all-filled, no-child, a-lexeme, a-text, a-row, Items, no-item, an-item}
@@ -29,7 +29,7 @@ use Rattle.theorems.specs.ValueExactly.{kind-of, mistyped-of}
 
 -- What the walk finds at a value of a type, by the type's form
 abbrev Shaped : List ℕ → List ℕ → List ℕ → ℕ → TypeForm → Type 0
-Shaped g t v w (text c) = (x : List ℕ) × (asText v w ≡ some x) × (isLexeme g c x ≡ true)
+Shaped g t v w (text c) = (x : List ℕ) × (asText v w ≡ some x) × Lexeme g c x
 Shaped g t v w yes-no = (yes? : Bool) × (asYesNo v w ≡ some yes?)
 Shaped g t v w (list ty) = (ws : List ℕ) × (asList v w ≡ some ws) × AllOf g t v ty ws
 Shaped g t v w (fields tys) = (ws : List ℕ) × (asRecord v w ≡ some ws) × EachOf g t v tys ws
@@ -119,7 +119,7 @@ either-suits false h k = k
 
 -- the text that a position asks for
 abbrev Asked : List ℕ → Position → List ℕ → Type 0
-Asked g (Class c) x = isLexeme g c x ≡ true
+Asked g (Class c) x = Lexeme g c x
 Asked g (Nonterminal n) x = Derives g n x
 Asked g (Repetition n) x = Row g n x
 Asked g (Item n) x = Row g n x
@@ -142,7 +142,8 @@ module _ (i : Input) (below : ℕ → List ℕ → State → End) (sound : Sound
   unfolding pieces withChild
   fills-sound p (all-filled vars) h s = writes-none s no-element
   fills-sound p (no-child vars x es cs fs) h s = writes-then _ (one-piece _ es) (writes-whole _ p x s (own-bytes x)) (fills-sound p fs h)
-  fills-sound p (a-lexeme vars c q es cs su fs) h s = writes-then _ (λ x y e. one-piece _ es x y (lexeme-of c x e)) (sound .writes su h s) (fills-sound p fs h)
+  fills-sound p (a-lexeme vars c q es cs su fs) h s =
+      writes-then _ (λ x y l. one-piece _ es x y (lexeme-of c x (lexeme-exactly g c x .1 l))) (sound .writes su h s) (fills-sound p fs h)
   fills-sound p (a-text vars n q es cs su fs) h s = writes-then _ (λ x y d. one-piece _ es x y (derived n x d)) (sound .writes su h s) (fills-sound p fs h)
   fills-sound p (a-row vars n q es cs su fs) h s = writes-then _ (λ x y r. one-piece _ es x y (repeated n x r)) (sound .writes su h s) (fills-sound p fs h)
 

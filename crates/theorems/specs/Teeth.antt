@@ -6,19 +6,19 @@ use mathlib.Core.List.{List, [], _∷_, _++_, append-assoc, append-nil, flatten}
 use mathlib.Core.Bool.{true, false, true≢false}
 use mathlib.Core.Option.{some}
 use Rattle.rules.specs.Records.{fieldB}
-use Rattle.rules.specs.Lexeme.{isLexeme}
 use Rattle.rules.specs.Grammar.{productions, production, Element, keyword, lexeme, nonterminal, repetition, elements, nonterminalExists}
 use Rattle.rules.specs.Derivation.{Derives, produced, Pieces, no-element, one-piece, Piece, own-bytes, a-lexeme, derived, repeated, Row, no-text, one-text}
 use Rattle.laws.specs.Faults.{In, here, later, nth-in}
 use Rattle.theorems.specs.LimitsExactly.{has-in}
+use Rattle.theorems.specs.Lexemes.{Lexeme, lexeme-exactly}
 
 -- "for a keyword its own bytes", and nothing else
 keyword-piece : {g w x : List ℕ} → Piece g (keyword w) x → x ≡ w
 keyword-piece (own-bytes x) = refl
 
 -- "for a class a lexeme of it", and nothing else
-lexeme-piece : {g x : List ℕ} {c : ℕ} → Piece g (lexeme c) x → isLexeme g c x ≡ true
-lexeme-piece (a-lexeme c x e) = e
+lexeme-piece : {g x : List ℕ} {c : ℕ} → Piece g (lexeme c) x → Lexeme g c x
+lexeme-piece {g} (a-lexeme c x e) = lexeme-exactly g c x .0 e
 
 -- "for a nonterminal a text that it derives", "for a repetition any number of texts in a row", and nothing else
 nonterminal-piece : {g x : List ℕ} {n : ℕ} → Piece g (nonterminal n) x → Derives g n x
@@ -100,7 +100,7 @@ pub record Teeth (g : List ℕ) : Type 0 where
   pub elements-only : (e : Element) (es : List Element) (x : List ℕ) → Pieces g (e ∷ es) x ↔ PieceThenRest g e es x
   -- a piece is what its element says, and nothing else
   pub keyword-only : (w x : List ℕ) → Piece g (keyword w) x ↔ (x ≡ w)
-  pub lexeme-only : (c : ℕ) (x : List ℕ) → Piece g (lexeme c) x ↔ (isLexeme g c x ≡ true)
+  pub lexeme-only : (c : ℕ) (x : List ℕ) → Piece g (lexeme c) x ↔ Lexeme g c x
   pub nonterminal-only : (n : ℕ) (x : List ℕ) → Piece g (nonterminal n) x ↔ Derives g n x
   pub repetition-only : (n : ℕ) (x : List ℕ) → Piece g (repetition n) x ↔ Row g n x
   -- a row of texts is the texts, and nothing else
@@ -114,7 +114,7 @@ derivation-has-teeth g = record {
   no-element-only = λ x. (no-pieces, λ e. subst (Pieces g []) (sym e) no-element);
   elements-only = λ e es x. (first-piece, λ (y, rest, p, ps, q). subst (Pieces g (e ∷ es)) (sym q) (one-piece e es y rest p ps));
   keyword-only = λ w x. (keyword-piece, λ e. subst (Piece g (keyword w)) (sym e) (own-bytes w));
-  lexeme-only = λ c x. (lexeme-piece, a-lexeme c x);
+  lexeme-only = λ c x. (lexeme-piece, λ l. a-lexeme c x (lexeme-exactly g c x .1 l));
   nonterminal-only = λ n x. (nonterminal-piece, derived n x);
   repetition-only = λ n x. (repetition-piece, repeated n x);
   row-only = λ n x. (row-texts, λ s. subst (Row g n) (sym (s .1)) (texts-row (s .0) (s .2)));

@@ -10,7 +10,6 @@ use lib.ListN.{length}
 use lib.Dec.{eqb}
 use Rattle.rules.specs.Faults.{need, both, every, tree, onFound, at, exists}
 use Rattle.rules.specs.Records.{fieldB, fieldC, fieldD, textOf, nth, heads}
-use Rattle.rules.specs.Lexeme.{isLexeme}
 use Rattle.rules.specs.Grammar.{production, Element, keyword, lexeme, nonterminal, repetition, elements}
 use Rattle.rules.specs.Templates.{TypeForm, text, yes-no, list, fields, no-type, typeOf, template, templates, parameters, body, formOf, nodes, nodesOf, nodesBelow, paths, path, first, second, variable, fieldNumbers}
 use Rattle.rules.specs.Typing.{asksClass, asksNonterminal, asksRepetition, asksItem, positions, textClass, isYesNo, itemType, fieldTypes, typeAlong, pathType, argumentsFit, Site, site, suitsForm, suits, sites, sitesOf, sitesBelow, misfit, bodySite, only, declaredType, templatesTyping}
@@ -21,6 +20,7 @@ use Rattle.rules.specs.declared.Position.the-variants.{Class, Nonterminal, Repe
 use Rattle.laws.specs.Faults.{need-none, need-iff, both-none, both-iff, In, here, later, every-in, in-every, every-nil, every-cons, exists-iff, onFound-true, onFound-some, on-some, and-iff, eqb-iff, at-none, Below, itself, under}
 use Rattle.rules.specs.Limits.{deepest}
 use Rattle.theorems.specs.LimitsExactly.{TemplateWithin, not-deep}
+use Rattle.theorems.specs.Lexemes.{Lexeme, lexeme-exactly}
 use Rattle.theorems.specs.Judgement.{Along, arrived, a-field, PathTyped, Arguments, no-argument, an-argument, Suits, by-build, by-literal, by-place, by-expand, by-if, by-for, by-sequence, as-item, Fills, all-filled, no-child, a-lexeme, a-text, a-row, Items, no-item, an-item}
 
 -- what a type is, from what it gives
@@ -165,7 +165,7 @@ module _ (g t : List ℕ) (check : Site → Option Site) (below : (x : Site) →
       (fills (x .vars) (elements g (b .0)) (nodes t (x .node)) (eqb-iff _ _ .0 (c .1) ∙ sym (length-nodes t (x .node))) (subst (λ (l : List Site). every check l ≡ none) (on-some [] _ (b .1)) s)))
   suits-form Literal x f e s =
       let a = onFound-true (asksClass (x .position)) _ .0 e in
-      rw (asked-class (x .position) (a .0) (a .1)) (by-literal (x .vars) (x .node) (a .0) f (a .2))
+      rw (asked-class (x .position) (a .0) (a .1)) (by-literal (x .vars) (x .node) (a .0) f (lexeme-exactly g _ _ .0 (a .2)))
   suits-form Place x f e s =
       let a = onFound-true (asksClass (x .position)) _ .0 e in
       let b = onFound-true (pathType t (x .vars) (path (x .node))) _ .0 (a .2) in
@@ -268,9 +268,9 @@ module _ (g t vars : List ℕ) (p : ℕ) where
   unfolding suits sitesBelow suitsForm sitesOf site asksNonterminal onFound
   own-build n q f e b l = (rw (f, e, eqb-iff _ _ .1 b) (eqb-iff _ _ .1 l), rw (f, e))
 
-  own-literal : (c : ℕ) → formOf t p ≡ Literal → isLexeme g c (textOf t p) ≡ true → Own (Class c) []
+  own-literal : (c : ℕ) → formOf t p ≡ Literal → Lexeme g c (textOf t p) → Own (Class c) []
   unfolding suits sitesBelow suitsForm sitesOf site asksClass onFound
-  own-literal c f e = (rw f e, rw f)
+  own-literal c f e = (rw f (lexeme-exactly g c _ .1 e), rw f)
 
   own-place : (c ty : ℕ) → formOf t p ≡ Place → PathTyped t vars (path p) ty → typeOf t ty ≡ text c → Own (Class c) []
   unfolding suits sitesBelow suitsForm sitesOf site asksClass textClass onFound

@@ -1,5 +1,5 @@
 -- Refusal 8 exactly, of a value at most 200 deep: the check finds no fault where the value is of its declared type, and nowhere else.
-use mathlib.Core.Path.{_≡_, refl, sym, ap, subst}
+use mathlib.Core.Path.{_≡_, refl, ap, subst}
 use mathlib.Core.Logic.{_↔_}
 use Prim.Native.Nat.{ℕ, zero, suc, _<_, _≤_}
 use mathlib.Core.List.{List, [], _∷_, map}
@@ -10,12 +10,12 @@ use lib.ListN.{length}
 use lib.Dec.{eqb}
 use Rattle.rules.specs.Faults.{need, both, every, tree, onFound, onlyIf, exists}
 use Rattle.rules.specs.Records.{kindOf, textOf}
-use Rattle.rules.specs.Lexeme.{isLexeme}
 use Rattle.rules.specs.Templates.{TypeForm, text, yes-no, list, fields, no-type, typeOf}
 use Rattle.rules.specs.Value.{children, asText, asYesNo, asList, asRecord, valuesBelow}
 use Rattle.rules.specs.Limits.{deepest, valueLimits}
 use Rattle.rules.specs.Typing.{Typed, typed, hasForm, hasType, paired, typedOf, typedBelow, mistyped, declaredType, valueTyping}
 use Rattle.laws.specs.Faults.{need-none, both-none, In, here, later, every-nil, every-cons, exists-iff, onFound-true, onFound-none, only-if-iff, on-some, eqb-iff, leb-iff, at-none, Below, itself, under, tree-in}
+use Rattle.theorems.specs.Lexemes.{Lexeme, lexeme-exactly}
 use Rattle.theorems.specs.TypingExactly.{Declared, declared-exactly}
 use Rattle.theorems.specs.Judgement.{OfType, of-text, of-yes-no, of-list, of-record, AllOf, none-left, one-of, EachOf, no-field, a-field}
 
@@ -46,7 +46,7 @@ module _ (g t v : List ℕ) (check : Typed → Option Typed) (below : (x : Typed
   of-form (text c) ty w f e s =
       let a = onFound-true (asText v w) _ .0 e in
       let k = of-kind v w 1 (textOf v w) (a .0) (a .1) in
-      of-text ty w c f (k .0) (subst (λ (x : List ℕ). isLexeme g c x ≡ true) (sym (k .1)) (a .2))
+      of-text ty w c f (k .0) (rw (k .1) (lexeme-exactly g c (a .0) .0 (a .2)))
   of-form yes-no ty w f e s =
       let a = exists-iff (asYesNo v w) .0 e in
       of-yes-no ty w f (of-kind v w 2 _ (a .0) (a .1) .0)
@@ -81,9 +81,9 @@ module _ (g t v : List ℕ) (ty w : ℕ) where
   abbrev Own : List Typed → Type 0
   Own xs = (hasType g t v (typed ty w) ≡ true) × (typedBelow t v (typed ty w) ≡ xs)
 
-  own-text : (c : ℕ) → typeOf t ty ≡ text c → kindOf v w ≡ 1 → isLexeme g c (textOf v w) ≡ true → Own []
+  own-text : (c : ℕ) → typeOf t ty ≡ text c → kindOf v w ≡ 1 → Lexeme g c (textOf v w) → Own []
   unfolding hasType hasForm typedBelow typedOf typed asText onFound
-  own-text c f k e = (rw (f, kind-of v w 1 (textOf v w) k) e, rw f)
+  own-text c f k e = (rw (f, kind-of v w 1 (textOf v w) k) (lexeme-exactly g c _ .1 e), rw f)
 
   own-yes-no : typeOf t ty ≡ yes-no → kindOf v w ≡ 2 → Own []
   unfolding hasType hasForm typedBelow typedOf typed asYesNo exists
