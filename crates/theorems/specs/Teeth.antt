@@ -12,6 +12,13 @@ use Rattle.laws.specs.Faults.{In, here, later, nth-in}
 use Rattle.theorems.specs.LimitsExactly.{has-in}
 use Rattle.theorems.specs.Lexemes.{Lexeme, lexeme-exactly}
 
+-- "A nonterminal derives a text if one of its productions does", and nothing else
+abbrev pub OneProduction : List ℕ → ℕ → List ℕ → Type 0
+OneProduction g n x = (k p : ℕ) × (production g k ≡ some p) × (fieldB g p ≡ n) × Pieces g (elements g p) x
+
+production-of : {g x : List ℕ} {n : ℕ} → Derives g n x → OneProduction g n x
+production-of (produced n k p x e f ps) = (k, p, e, f, ps)
+
 -- "for a keyword its own bytes", and nothing else
 keyword-piece : {g w x : List ℕ} → Piece g (keyword w) x → x ≡ w
 keyword-piece (own-bytes x) = refl
@@ -90,6 +97,8 @@ texts-row {n} [] h = no-text n
 texts-row {n} (y ∷ ys) h = one-text n y (flatten ys) (h y (here ys)) (texts-row ys (λ z i. h z (later y ys i)))
 
 pub record Teeth (g : List ℕ) : Type 0 where
+  -- a nonterminal derives what one of its productions does, and nothing else
+  pub derives-only : (n : ℕ) (x : List ℕ) → Derives g n x ↔ OneProduction g n x
   -- where each production of a nonterminal begins with one keyword, every text that it derives begins with its bytes; so for the end
   pub begins : (n : ℕ) (w x : List ℕ) → EachProduction g n (BeginsWith w) → Derives g n x → (r : List ℕ) × (x ≡ w ++ r)
   pub ends : (n : ℕ) (w x : List ℕ) → EachProduction g n (EndsWith w) → Derives g n x → (r : List ℕ) × (x ≡ r ++ w)
@@ -108,6 +117,7 @@ pub record Teeth (g : List ℕ) : Type 0 where
 
 pub derivation-has-teeth : (g : List ℕ) → Teeth g
 derivation-has-teeth g = record {
+  derives-only = λ n x. (production-of, λ (k, p, e, f, ps). produced n k p x e f ps);
   begins = λ n w x h d. derived-begins w h d;
   ends = λ n w x h d. derived-ends w h d;
   none-without = λ n x e d. true≢false (sym (derived-exists d) ∙ e);
