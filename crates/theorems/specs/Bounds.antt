@@ -1,132 +1,114 @@
--- Whatever grammar, templates and value say: the walk writes no more bytes than it has room for, and counts no more steps than it has fuel.
-use mathlib.Core.Path.{_≡_, refl}
-use Prim.Native.Nat.{ℕ, zero, suc, _+_, _≤_, _<_}
-use mathlib.Core.List.{List, [], _∷_, _++_}
+-- Whatever grammar, templates and value say: the walk writes no more bytes than it has room for, and counts no more steps than it has fuel;
+-- and where one of the limits 10 to 12 ends it, that limit was met.
+use mathlib.Core.Path.{_≡_, refl, subst}
+use Prim.Native.Nat.{ℕ, _+_, _≤_, _<_}
+use mathlib.Core.List.{List, _++_}
 use mathlib.Core.Bool.{Bool, true, false, cond}
-use mathlib.Core.Option.{Option, none, some}
 use native.Mathlib.Omega.{arith}
 use lib.ListN.{length, length-append}
 use lib.Dec.{leb, ltb}
-use borrow.Author.Tests.{leb-true, ltb-true}
-use Rattle.rules.specs.Faults.{onFound}
-use Rattle.rules.specs.Grammar.{Element, keyword, lexeme, nonterminal, repetition}
-use Rattle.rules.specs.Walk.{Input, State, start, Limit, fuel-spent, too-deep, output-full, End, done, ended, stuck, andThen, write, inOrder, withChild, pieces}
-use Rattle.rules.specs.Walk.{visitForm, counted, reached, visit, walk}
-use Rattle.rules.specs.declared.Form.{Form}
-use Rattle.rules.specs.declared.Form.the-variants.{Build, Literal, Place, Expand, If, For, Sequence, Unknown}
+use borrow.Author.Tests.{leb-true, leb-false, ltb-true, ltb-false}
+use Rattle.rules.specs.Walk.{Input, State, start, Limit, fuel-spent, too-deep, output-full, End, done, ended, stuck, andThen, write, counted, reached, walk}
+use Rattle.theorems.specs.Visits.{LevelsOf, WritesOf, InStep, walk-both}
 
 -- the state that an end has, done or ended by one of 10 to 12
 pub data EndsWith (s : State) : End → Type 0 where
   when-done : EndsWith s (done s)
   when-ended : (l : Limit) (p : ℕ) → EndsWith s (ended l p s)
 
--- an end whose state, if it has one, is of Q
-pub data Leaves (Q : State → Type 0) : End → Type 0 where
-  at-done : (s : State) → Q s → Leaves Q (done s)
-  at-limit : (l : Limit) (p : ℕ) (s : State) → Q s → Leaves Q (ended l p s)
-  at-stuck : Leaves Q stuck
+-- an end that is done in a state of Q, or ended at a node in a state of L, or stuck
+pub data Leaves (Q : State → Type 0) (L : Limit → ℕ → State → Type 0) : End → Type 0 where
+  at-done : (s : State) → Q s → Leaves Q L (done s)
+  at-limit : (l : Limit) (p : ℕ) (s : State) → L l p s → Leaves Q L (ended l p s)
+  at-stuck : Leaves Q L stuck
 
-pub left-with : {Q : State → Type 0} {s : State} {e : End} → Leaves Q e → EndsWith s e → Q s
-left-with (at-done s q) when-done = q
-left-with (at-limit l p s q) (when-ended l′ p′) = q
+pub then-leaves : {Q : State → Type 0} {L : Limit → ℕ → State → Type 0} {e : End} (next : State → End) → Leaves Q L e
+    → ((s : State) → Q s → Leaves Q L (next s)) → Leaves Q L (andThen e next)
+unfolding andThen
+then-leaves next (at-done s q) k = k s q
+then-leaves next (at-limit l p s h) k = at-limit l p s h
+then-leaves next at-stuck k = at-stuck
 
--- The states change in two ways only: "A visit counts one step", and a text that does not pass the end of the output is written.
-pub record Invariant (i : Input) (Q : State → Type 0) : Type 0 where
-  pub counting : (s : State) → s .steps < i .fuel → Q s → Q (counted s)
-  pub writing : (x : List ℕ) (s : State) → length (s .text) + length x ≤ i .room → Q s → Q (record { steps = s .steps; text = s .text ++ x })
+-- the state after a piece of text
+abbrev pub written : State → List ℕ → State
+written s x = record { steps = s .steps; text = s .text ++ x }
 
--- What both of these keep, every visit keeps.
-module _ (i : Input) (Q : State → Type 0) (kept : Invariant i Q) where
-  abbrev Keeps : (State → End) → Type 0
-  Keeps next = (s : State) → Q s → Leaves Q (next s)
+-- a piece fits, or it passes the end of the output
+pub write-leaves : {Q : State → Type 0} {L : Limit → ℕ → State → Type 0} (room p : ℕ) (x : List ℕ) (s : State)
+    → (length (s .text) + length x ≤ room → Q (written s x))
+    → (room < length (s .text) + length x → L output-full p s) → Leaves Q L (write room p x s)
+unfolding write
+write-leaves {Q} {L} room p x s fits passes = go (leb (length (s .text) + length x) room) refl
+  where
+    go : (b : Bool) → leb (length (s .text) + length x) room ≡ b
+        → Leaves Q L (cond b (done (written s x)) (ended output-full p s))
+    go true e = at-done _ (fits (leb-true _ _ e))
+    go false e = at-limit output-full p s (passes (leb-false _ _ e))
 
-  then-keeps : {e : End} (next : State → End) → Leaves Q e → Keeps next → Leaves Q (andThen e next)
-  unfolding andThen
-  then-keeps next (at-done s q) k = k s q
-  then-keeps next (at-limit l p s q) k = at-limit l p s q
-  then-keeps next at-stuck k = at-stuck
-
-  found-keeps : {A : Type 0} (o : Option A) (next : A → End) → ((a : A) → Leaves Q (next a)) → Leaves Q (onFound o stuck next)
-  unfolding onFound
-  found-keeps none next k = at-stuck
-  found-keeps (some a) next k = k a
-
-  write-keeps : (p : ℕ) (x : List ℕ) → Keeps (write (i .room) p x)
-  unfolding write
-  write-keeps p x s q = go (leb (length (s .text) + length x) (i .room)) refl
-    where
-      go : (b : Bool) → leb (length (s .text) + length x) (i .room) ≡ b
-          → Leaves Q (cond b (done (record { steps = s .steps; text = s .text ++ x })) (ended output-full p s))
-      go true e = at-done _ (kept .writing x s (leb-true _ _ e) q)
-      go false e = at-limit output-full p s q
-
-  inOrder-keeps : (f : ℕ → State → End) → ((x : ℕ) → Keeps (f x)) → (xs : List ℕ) → Keeps (inOrder f xs)
-  unfolding inOrder
-  inOrder-keeps f k [] s q = at-done s q
-  inOrder-keeps f k (x ∷ xs) s q = then-keeps _ (k x s q) (inOrder-keeps f k xs)
-
-  withChild-keeps : (f : ℕ → State → End) → ((c : ℕ) → Keeps (f c)) → (cs : List ℕ) (next : List ℕ → State → End)
-      → ((cs′ : List ℕ) → Keeps (next cs′)) → Keeps (withChild f cs next)
-  unfolding withChild
-  withChild-keeps f k [] next h s q = at-stuck
-  withChild-keeps f k (c ∷ cs) next h s q = then-keeps _ (k c s q) (h cs)
-
-  pieces-keeps : (p : ℕ) (f : ℕ → State → End) → ((c : ℕ) → Keeps (f c)) → (es : List Element) (cs : List ℕ)
-      → Keeps (pieces (write (i .room) p) f es cs)
-  unfolding pieces
-  pieces-keeps p f k [] cs s q = at-done s q
-  pieces-keeps p f k (keyword x ∷ es) cs s q = then-keeps _ (write-keeps p x s q) (pieces-keeps p f k es cs)
-  pieces-keeps p f k (lexeme c ∷ es) cs s q = withChild-keeps f k cs _ (pieces-keeps p f k es) s q
-  pieces-keeps p f k (nonterminal n ∷ es) cs s q = withChild-keeps f k cs _ (pieces-keeps p f k es) s q
-  pieces-keeps p f k (repetition n ∷ es) cs s q = withChild-keeps f k cs _ (pieces-keeps p f k es) s q
-
-  form-keeps : (f : Form) (below : ℕ → List ℕ → State → End) → ((p : ℕ) (env : List ℕ) → Keeps (below p env))
-      → (p : ℕ) (env : List ℕ) → Keeps (visitForm i f below p env)
-  unfolding visitForm
-  form-keeps Build below k p env s q = found-keeps _ _ λ production. pieces-keeps p _ (λ c. k c env) _ _ s q
-  form-keeps Literal below k p env s q = write-keeps p _ s q
-  form-keeps Place below k p env s q = found-keeps _ _ λ w. found-keeps _ _ λ x. write-keeps p x s q
-  form-keeps Expand below k p env s q = found-keeps _ _ λ template. found-keeps _ _ λ ws. k _ ws s q
-  form-keeps If below k p env s q = found-keeps _ _ λ w. found-keeps _ _ λ yes?. k _ env s q
-  form-keeps For below k p env s q = found-keeps _ _ λ w. found-keeps _ _ λ ws. inOrder-keeps _ (λ item. k _ _) ws s q
-  form-keeps Sequence below k p env s q = inOrder-keeps _ (λ c. k c env) _ s q
-  form-keeps Unknown below k p env s q = at-stuck
-
-  reached-keeps : (b : Bool) (p : ℕ) (next : State → End) → Keeps next
-      → (s : State) → ltb (s .steps) (i .fuel) ≡ b → Q s → Leaves Q (reached b p next s)
-  unfolding reached
-  reached-keeps true p next k s e q = k _ (kept .counting s (ltb-true _ _ e) q)
-  reached-keeps false p next k s e q = at-limit fuel-spent p s q
-
-  pub visit-keeps : (k p : ℕ) (env : List ℕ) → Keeps (visit i k p env)
-  unfolding visit
-  visit-keeps zero p env s q = reached-keeps _ p _ (at-limit too-deep p) s refl q
-  visit-keeps (suc k) p env s q = reached-keeps _ p _ (form-keeps _ (visit i k) (visit-keeps k) p env) s refl q
-
-  pub walk-keeps : Q start → Leaves Q (walk i)
-  unfolding walk
-  walk-keeps q = found-keeps _ _ λ template. visit-keeps _ _ _ _ q
+-- a node is reached with fuel left, or with all of it used
+pub reached-leaves : {Q : State → Type 0} {L : Limit → ℕ → State → Type 0} (fuel p : ℕ) (next : State → End) (s : State)
+    → (s .steps < fuel → Leaves Q L (next (counted s))) → (fuel ≤ s .steps → L fuel-spent p s)
+    → Leaves Q L (reached (ltb (s .steps) fuel) p next s)
+unfolding reached
+reached-leaves {Q} {L} fuel p next s left used = go (ltb (s .steps) fuel) refl
+  where
+    go : (b : Bool) → ltb (s .steps) fuel ≡ b → Leaves Q L (reached b p next s)
+    go true e = left (ltb-true _ _ e)
+    go false e = at-limit fuel-spent p s (used (ltb-false _ _ e))
 
 -- a state that keeps to the limits of its walk
 pub record Within (i : Input) (s : State) : Type 0 where
   pub few-steps : s .steps ≤ i .fuel
   pub few-bytes : length (s .text) ≤ i .room
 
-within-kept : (i : Input) → Invariant i (Within i)
+-- that a limit was met, at a node and with the steps and the text so far
+pub data Met (i : Input) (p : ℕ) (s : State) : Limit → Type 0 where
+  -- 10: "A node is reached with all fuel (32 bits) used; it isn't counted as a step."
+  all-used : (d : ℕ) (env : List ℕ) → LevelsOf i d p env → d ≤ 201 → s .steps ≡ i .fuel → Met i p s fuel-spent
+  -- 11: "A node is reached at depth 201"
+  at-201 : (env : List ℕ) → LevelsOf i 201 p env → Met i p s too-deep
+  -- 12: "A keyword or lexeme passes the end of the output."
+  passes : (d : ℕ) (env x : List ℕ) → LevelsOf i d p env → d ≤ 200 → WritesOf i p env x → i .room < length (s .text) + length x → Met i p s output-full
+
+-- how a walk ends: within its limits, and by none that it did not meet
+abbrev Bounded : Input → End → Type 0
+Bounded i = Leaves (Within i) (λ l p s. Within i s × Met i p s l)
+
+bounded-kept : (i : Input) → InStep i (i .fuel) (i .room) (λ s e e′. Within i s → Bounded i e)
 unfolding counted
-within-kept i = record {
-  counting = λ s l w. record { few-steps = l; few-bytes = w .few-bytes };
-  writing = λ x s l w. record { few-steps = w .few-steps; few-bytes = rw length-append l };
+bounded-kept i = record {
+  nothing = λ s w. at-done s w;
+  no-way = λ s w. at-stuck;
+  one-then = λ next next′ h k w. then-leaves next (h w) k;
+  writing = λ {d} {p} {env} x at shallow piece s w.
+      write-leaves (i .room) p x s
+      (λ fits. record { few-steps = w .few-steps; few-bytes = rw length-append fits })
+      (λ past. (w, passes d env x at shallow piece past));
+  reaching = λ {d} {p} {env} next next′ at shallow k s w.
+      reached-leaves (i .fuel) p next s
+      (λ left. k _ (record { few-steps = left; few-bytes = w .few-bytes }))
+      (λ used. (w, all-used d env at shallow (let few = w .few-steps in omega arith)));
+  deep = λ {p} {env} at s w. at-limit too-deep p s (w, at-201 env at);
 }
 
-pub walk-within : (i : Input) (s : State) → EndsWith s (walk i) → Within i s
+walk-bounded : (i : Input) → Bounded i (walk i)
 unfolding start
-walk-within i s h = left-with (walk-keeps i (Within i) (within-kept i) (record { few-steps = omega arith; few-bytes = omega arith })) h
+walk-bounded i = walk-both i (i .fuel) (i .room) _ (bounded-kept i) (record { few-steps = omega arith; few-bytes = omega arith })
+
+left-within : {i : Input} {s : State} {e : End} → Bounded i e → EndsWith s e → Within i s
+left-within (at-done s w) when-done = w
+left-within (at-limit l p s h) (when-ended l′ p′) = h .0
 
 -- "One that passes the end of the output is 12."
 pub written-fits : (i : Input) (s : State) → EndsWith s (walk i) → length (s .text) ≤ i .room
-written-fits i s h = walk-within i s h .few-bytes
+written-fits i s h = left-within (walk-bounded i) h .few-bytes
 
--- "A node is reached with all fuel (32 bits) used; it isn't counted as a step."
 pub steps-fit : (i : Input) (s : State) → EndsWith s (walk i) → s .steps ≤ i .fuel
-steps-fit i s h = walk-within i s h .few-steps
+steps-fit i s h = left-within (walk-bounded i) h .few-steps
+
+left-met : {i : Input} {l : Limit} {p : ℕ} {s : State} → Bounded i (ended l p s) → Met i p s l
+left-met (at-limit l p s h) = h .1
+
+-- A limit ends a walk only where it is met: no walk stops early.
+pub limits-bind : (i : Input) (l : Limit) (p : ℕ) (s : State) → walk i ≡ ended l p s → Met i p s l
+limits-bind i l p s e = left-met (subst (Bounded i) e (walk-bounded i))

@@ -16,7 +16,10 @@ pub mod Ranges
 pub mod Offences
 pub mod FirstOffending
 pub mod FirstRefused
+pub mod Levels
+pub mod Visits
 pub mod Bounds
+pub mod OneLine
 pub mod Ends
 pub mod Evaluation
 pub mod EvaluatesExactly
