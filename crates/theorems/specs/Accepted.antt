@@ -160,7 +160,7 @@ accepted-rules g t = (to, from)
         }
 
 -- no refusal has number 0, so five zeros are no refusal
-zeros-none : (o : Option Answer) → Refuses o → (onFound o (answer 0 0 0 0 0) (λ a. a) ≡ answer 0 0 0 0 0) ↔ (o ≡ none)
+pub zeros-none : (o : Option Answer) → Refuses o → (onFound o (answer 0 0 0 0 0) (λ a. a) ≡ answer 0 0 0 0 0) ↔ (o ≡ none)
 unfolding onFound answer
 zeros-none none r = (λ e. refl, λ e. refl)
 zeros-none (some a) r =

@@ -1,17 +1,27 @@
 -- Of an accepted set and a value of its type: the evaluate call answers as its walk ends, and a finished text is derived by the grammar.
-use mathlib.Core.Path.{_≡_, sym, _∙_}
-use Prim.Native.Nat.{ℕ}
-use mathlib.Core.List.{List}
-use mathlib.Core.Option.{none, some, Option·some-ne-none}
-use lib.ListN.{length}
+-- And of any call that is not refused: its text is what the evaluation rules give.
+use mathlib.Core.Path.{_≡_, refl, sym, _∙_, ap, subst}
+use mathlib.Core.Logic.{_↔_, _⊎_, inl, inr}
+use Prim.Native.Nat.{ℕ, _≤_}
+use native.Mathlib.Omega.{arith}
+use mathlib.Core.List.{List, _++_}
+use mathlib.Core.Option.{some}
 use Rattle.rules.specs.Records.{fieldB}
 use Rattle.rules.specs.Templates.{template}
 use Rattle.rules.specs.Derivation.{Derives}
-use Rattle.rules.specs.Walk.{State, Limit, done, ended, walk}
-use Rattle.rules.specs.Answers.{answer, evaluateRefusal, limitNumber, Outcome, input, evaluate}
+use Rattle.rules.specs.Walk.{State, Limit, fuel-spent, too-deep, output-full, End, done, ended, walk}
+use Rattle.rules.specs.Answers.{answer, limitNumber, Outcome, input, evaluate}
+use Rattle.rules.specs.declared.Answer.{Answer}
+use Rattle.theorems.specs.Refusals.{Refusal}
 use Rattle.theorems.specs.Accepted.{Admitted, admitted-exactly}
 use Rattle.theorems.specs.Sound.{finished-derived}
-use Rattle.theorems.specs.Kept.{Kept, Produced, admitted-typed, refusals-keep}
+use Rattle.theorems.specs.Evaluation.{EvaluatesSet}
+use Rattle.theorems.specs.EvaluatesExactly.{Gives, begun, evaluates-exactly}
+use Rattle.theorems.specs.Kept.{AsWalked, finished, limited, Kept, refused, as-walked, textLeft, text-produced, admitted-typed, unrefused-as-walked, refusals-keep}
+
+-- a limit that the walk meets
+abbrev pub Meets : End → Limit → Type 0
+Meets e l = (p : ℕ) × (s : State) × (e ≡ ended l p s)
 
 -- "derived by the target grammar from the root template's nonterminal"
 pub record FromRoot (g t x : List ℕ) : Type 0 where
@@ -19,22 +29,117 @@ pub record FromRoot (g t x : List ℕ) : Type 0 where
   pub root-there : template t 0 ≡ some root
   pub derivation : Derives g (fieldB t root) x
 
--- the call ended as its walk did: finished, with a text that is derived from the root template's nonterminal, or by the limit that the walk met first
-pub data AsWalked (g t v : List ℕ) (fuel : ℕ) (out scratch : List ℕ) (o : Outcome) : Type 0 where
-  finished : (s : State) → walk (input g t v fuel out) ≡ done s → o .result ≡ answer 0 0 0 (s .steps) (length (s .text)) → Produced s out scratch o
-      → FromRoot g t (s .text) → AsWalked g t v fuel out scratch o
-  limited : (l : Limit) (p : ℕ) (s : State) → walk (input g t v fuel out) ≡ ended l p s → o .result ≡ answer (limitNumber l) 2 p (s .steps) (length (s .text))
-      → Produced s out scratch o → AsWalked g t v fuel out scratch o
+-- What demand 3 says of an outcome: "the result is a finished text exactly when the rules' own walk meets no limit, and fuel spent, nesting too deep or
+-- output full exactly when that is the limit the walk meets first. The evaluate call's whole answer and every byte it writes into the output are then
+-- the walk's, and every finished text is derived by the target grammar from the root template's nonterminal".
+pub record AnswersAsWalk (g t v : List ℕ) (fuel : ℕ) (out scratch : List ℕ) (o : Outcome) : Type 0 where
+  pub finished-exactly : (o .result .number ≡ 0) ↔ ((l : Limit) → Meets (walk (input g t v fuel out)) l → ⊥)
+  pub fuel-spent-exactly : (o .result .number ≡ 10) ↔ Meets (walk (input g t v fuel out)) fuel-spent
+  pub too-deep-exactly : (o .result .number ≡ 11) ↔ Meets (walk (input g t v fuel out)) too-deep
+  pub output-full-exactly : (o .result .number ≡ 12) ↔ Meets (walk (input g t v fuel out)) output-full
+  pub answer-and-bytes : AsWalked (walk (input g t v fuel out)) out scratch o
+  pub finished-derived : o .result .number ≡ 0 → FromRoot g t (textLeft o)
 
-as-walked : (g t v : List ℕ) (fuel : ℕ) (out scratch : List ℕ) (o : Outcome) → evaluateRefusal g t v scratch ≡ none → Kept g t v fuel out scratch o
-    → AsWalked g t v fuel out scratch o
-unfolding input
-as-walked g t v fuel out scratch o e (Kept.refused a r q f u) = absurd (Option·some-ne-none a (sym r ∙ e))
-as-walked g t v fuel out scratch o e (Kept.finished s r w q p) =
-    let d = finished-derived (input g t v fuel out) (admitted-typed g t v fuel out scratch e) s w in
-    finished s w q p (record { root = d .0; root-there = d .1; derivation = d .2 })
-as-walked g t v fuel out scratch o e (Kept.limited l n s r w q p) = limited l n s w q p
+same-limit : (l m : Limit) → limitNumber l ≡ limitNumber m → l ≡ m
+unfolding limitNumber
+same-limit fuel-spent fuel-spent e = refl
+same-limit fuel-spent too-deep e = absurd (omega arith)
+same-limit fuel-spent output-full e = absurd (omega arith)
+same-limit too-deep fuel-spent e = absurd (omega arith)
+same-limit too-deep too-deep e = refl
+same-limit too-deep output-full e = absurd (omega arith)
+same-limit output-full fuel-spent e = absurd (omega arith)
+same-limit output-full too-deep e = absurd (omega arith)
+same-limit output-full output-full e = refl
 
-pub answers-of-accepted : (g t v : List ℕ) (fuel : ℕ) (out scratch : List ℕ) → Admitted g t v scratch → AsWalked g t v fuel out scratch (evaluate g t v fuel out scratch)
-answers-of-accepted g t v fuel out scratch h =
-    as-walked g t v fuel out scratch _ (admitted-exactly g t v scratch .1 h) (refusals-keep g t v fuel out scratch)
+from-10 : (l : Limit) → 10 ≤ limitNumber l
+unfolding limitNumber
+from-10 fuel-spent = omega arith
+from-10 too-deep = omega arith
+from-10 output-full = omega arith
+
+done-ended : {l : Limit} {p : ℕ} {s s′ : State} → done s ≡ ended l p s′ → ⊥
+done-ended e = let z : _≡_ {A = ℕ} 0 1 = cc in omega arith
+
+ended-limit : {l m : Limit} {p q : ℕ} {s s′ : State} → ended l p s ≡ ended m q s′ → l ≡ m
+ended-limit e = cc
+
+given-ended : {x : List ℕ} {l : Limit} {p : ℕ} {s : State} → Gives x (ended l p s) → (rest : List ℕ) × (x ≡ s .text ++ rest)
+given-ended (begun l p s rest e) = (rest, e)
+
+numbered : {a b : Answer} → a ≡ b → a .number ≡ b .number
+numbered r = ap (λ (x : Answer). x .number) r
+
+-- an outcome's number says how the walk ended
+module _ {e : End} {out scratch : List ℕ} {o : Outcome} where
+  pub walked-number : AsWalked e out scratch o → (o .result .number ≡ 0) ⊎ (10 ≤ o .result .number)
+  unfolding answer
+  walked-number (finished s h r p) = inl (numbered r)
+  walked-number (limited l p s h r q) = inr (let a : o .result .number ≡ limitNumber l = numbered r in let b = from-10 l in omega arith)
+
+  unlimited-exactly : AsWalked e out scratch o → (o .result .number ≡ 0) ↔ ((l : Limit) → Meets e l → ⊥)
+  unfolding answer
+  unlimited-exactly (finished s h r p) = (λ z l m. done-ended (sym h ∙ m .2), λ n. numbered r)
+  unlimited-exactly (limited l p s h r q) =
+      (λ z. absurd (let a : o .result .number ≡ limitNumber l = numbered r in let b = from-10 l in omega arith), λ n. absurd (n l (p, s, h)))
+
+  limit-exactly : AsWalked e out scratch o → (l : Limit) → (o .result .number ≡ limitNumber l) ↔ Meets e l
+  unfolding answer
+  limit-exactly (finished s h r p) l =
+      (λ z. absurd (let a : o .result .number ≡ 0 = numbered r in let b = from-10 l in omega arith), λ m. absurd (done-ended (sym h ∙ m .2)))
+  limit-exactly (limited m p s h r q) l = (
+    λ z. subst (Meets e) (same-limit m l (sym (numbered r) ∙ z)) (p, s, h),
+    λ k. numbered r ∙ ap limitNumber (ended-limit (sym h ∙ k .2)),
+  )
+
+  -- a finished text is the walk's; of a text that a limit ended, the walk's so far
+  finished-text : AsWalked e out scratch o → o .result .number ≡ 0 → (s : State) × (e ≡ done s) × (textLeft o ≡ s .text)
+  unfolding answer
+  finished-text (finished s h r p) z = (s, h, text-produced (ap (λ (x : Answer). x .bytes) r) p)
+  finished-text (limited l p s h r q) z = absurd (let a : o .result .number ≡ limitNumber l = numbered r in let b = from-10 l in omega arith)
+
+  limited-text : AsWalked e out scratch o → 10 ≤ o .result .number → (l : Limit) × (p : ℕ) × (s : State) × (e ≡ ended l p s) × (textLeft o ≡ s .text)
+  unfolding answer
+  limited-text (finished s h r p) z = absurd (let a : o .result .number ≡ 0 = numbered r in omega arith)
+  limited-text (limited l p s h r q) z = (l, p, s, h, text-produced (ap (λ (x : Answer). x .bytes) r) q)
+
+-- a call that is not refused by 1 to 9 goes as its walk goes
+kept-walked : {g t v : List ℕ} {fuel : ℕ} {out scratch : List ℕ} {o : Outcome} → (Refusal (o .result) → ⊥) → Kept g t v fuel out scratch o
+    → AsWalked (walk (input g t v fuel out)) out scratch o
+kept-walked n (refused r u) = absurd (n r)
+kept-walked n (as-walked w) = w
+
+module _ (g t v : List ℕ) (fuel : ℕ) (out scratch : List ℕ) where
+  pub answers-of-accepted : Admitted g t v scratch → AnswersAsWalk g t v fuel out scratch (evaluate g t v fuel out scratch)
+  unfolding limitNumber input
+  answers-of-accepted h =
+      let e = admitted-exactly g t v scratch .1 h in
+      let w = unrefused-as-walked g t v fuel out scratch e in
+      record {
+        finished-exactly = unlimited-exactly w;
+        fuel-spent-exactly = limit-exactly w fuel-spent;
+        too-deep-exactly = limit-exactly w too-deep;
+        output-full-exactly = limit-exactly w output-full;
+        answer-and-bytes = w;
+        finished-derived = λ z.
+            let (s, h, x) = finished-text w z in
+            let (q, r, d) = finished-derived (input g t v fuel out) (admitted-typed g t v fuel out scratch e) s h in
+            record { root = q; root-there = r; derivation = rw x d };
+      }
+
+  -- The text of a call that answers 0 is what the evaluation rules give, and nothing else is.
+  pub text-exactly : evaluate g t v fuel out scratch .result .number ≡ 0 → (x : List ℕ) → EvaluatesSet g t v x ↔ (x ≡ textLeft (evaluate g t v fuel out scratch))
+  unfolding input
+  text-exactly z x =
+      let n : Refusal (evaluate g t v fuel out scratch .result) → ⊥ = λ r. let l = r .from-1 in omega arith in
+      let (s, h, e) = finished-text (kept-walked n (refusals-keep g t v fuel out scratch)) z in
+      rw e (evaluates-exactly (input g t v fuel out) .0 s h x)
+
+  -- Where a limit ended the call, its text begins what the evaluation rules give.
+  pub text-begun : 10 ≤ evaluate g t v fuel out scratch .result .number → (x : List ℕ) → EvaluatesSet g t v x
+      → (rest : List ℕ) × (x ≡ textLeft (evaluate g t v fuel out scratch) ++ rest)
+  unfolding input
+  text-begun z x h =
+      let n : Refusal (evaluate g t v fuel out scratch .result) → ⊥ = λ r. let l = r .to-9 in omega arith in
+      let (l, p, s, k, e) = limited-text (kept-walked n (refusals-keep g t v fuel out scratch)) z in
+      rw e (given-ended (subst (Gives x) k (evaluates-exactly (input g t v fuel out) .1 x h)))

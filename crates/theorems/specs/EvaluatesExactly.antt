@@ -1,20 +1,23 @@
 -- The walk gives exactly the texts that the evaluation rules give. No typing is assumed: any bytes of any streams.
-use mathlib.Core.Path.{_≡_, refl, sym, _∙_, ap}
+use mathlib.Core.Path.{_≡_, refl, sym, _∙_, ap, subst}
 use mathlib.Core.Logic.{_↔_}
-use Prim.Native.Nat.{ℕ, zero, suc}
+use Prim.Native.Nat.{ℕ, zero, suc, _+_}
 use native.Mathlib.Omega.{arith}
 use mathlib.Core.List.{List, [], _∷_, _++_, append-assoc, append-nil}
 use mathlib.Core.Bool.{Bool, true, false, cond}
-use mathlib.Core.Option.{some}
+use mathlib.Core.Option.{Option, some}
+use lib.ListN.{length}
+use lib.Dec.{leb}
+use Rattle.rules.specs.Faults.{onFound}
 use Rattle.rules.specs.Grammar.{Element, keyword, lexeme, nonterminal, repetition}
 use Rattle.rules.specs.Templates.{template, formOf, path, first, second}
 use Rattle.rules.specs.Value.{asYesNo}
 use Rattle.rules.specs.Limits.{deepest}
-use Rattle.rules.specs.Walk.{Input, State, start, End, done, too-deep, andThen, pathValue, write, inOrder, withChild, pieces, visitForm, counted, visit, walk}
+use Rattle.rules.specs.Walk.{Input, State, start, Limit, fuel-spent, too-deep, output-full, End, done, ended, stuck, andThen, pathValue, write}
+use Rattle.rules.specs.Walk.{inOrder, withChild, pieces, visitForm, counted, reached, visit, walk}
 use Rattle.rules.specs.declared.Form.{Form}
 use Rattle.rules.specs.declared.Form.the-variants.{Build, Literal, Place, Expand, If, For, Sequence, Unknown}
-use Rattle.theorems.specs.Ends.{Ends, finished, limited, ends-map, then-ends, found-ends, reached-ends, write-ends, ends-done, then-done, found-done}
-use Rattle.theorems.specs.Ends.{reached-done, write-done}
+use Rattle.theorems.specs.Ends.{then-done, found-done, reached-done, write-done}
 use Rattle.theorems.specs.Evaluation.{Evaluates, build, literal, place, expand, then, else, for, sequence, Builds, no-element, own-bytes, of-class}
 use Rattle.theorems.specs.Evaluation.{of-nonterminal, of-repetition, Items, no-item, one-item, Loops, no-turn, one-turn, EvaluatesSet}
 
@@ -128,62 +131,84 @@ finished-evaluated i s e =
     let q = found-done (template (i .templates) 0) _ s e in
     record { head = q .0; template-0 = q .1; evaluates = wrote-whole _ s (visit-evaluated i deepest _ (0 ∷ []) start s (q .2)) }
 
--- Second half: a visit of what the rules evaluate gives their text, unless a limit ends it.
-visit-ends : (i : Input) {Q : State → Type 0} (k p : ℕ) (env : List ℕ) (s : State) {f : Form} → formOf (i .templates) p ≡ f
-    → ((k : ℕ) → Ends Q (visitForm i f (visit i k) p env (counted s))) → Ends Q (visit i k p env s)
-unfolding visit
-visit-ends i zero p env s e h = reached-ends _ p _ s (limited too-deep p (counted s))
-visit-ends i (suc k) p env s e h = reached-ends _ p _ s (rw e (h k))
+-- Second half: a visit of what the rules evaluate gives their text, or a limit ends it and it gives a beginning of that text.
+pub data Gives (x : List ℕ) : End → Type 0 where
+  whole : (s : State) → s .text ≡ x → Gives x (done s)
+  begun : (l : Limit) (p : ℕ) (s : State) (rest : List ℕ) → x ≡ s .text ++ rest → Gives x (ended l p s)
 
--- the state s′ has x after the text of s
-abbrev Adds : State → List ℕ → State → Type 0
-Adds s x s′ = s′ .text ≡ s .text ++ x
+nothing-gives : (s : State) → Gives (s .text ++ []) (done s)
+nothing-gives s = whole s (sym (append-nil (s .text)))
 
-nothing-ends : (s : State) → Ends (Adds s []) (done s)
-nothing-ends s = finished s (sym (append-nil (s .text)))
+then-gives : {e : End} (next : State → End) (s : State) (x y : List ℕ) → Gives (s .text ++ x) e → ((s₁ : State) → Gives (s₁ .text ++ y) (next s₁))
+    → Gives (s .text ++ (x ++ y)) (andThen e next)
+unfolding andThen
+then-gives next s x y (whole s₁ h) k = subst (λ (z : List ℕ). Gives z (next s₁)) (cc (append-assoc (s .text) x y, h)) (k s₁)
+then-gives next s x y (begun l p s₁ rest h) k = begun l p s₁ (rest ++ y) (cc (append-assoc (s .text) x y, append-assoc (s₁ .text) rest y, h))
 
-then-adds : {e : End} (next : State → End) (s : State) (x y : List ℕ) → Ends (Adds s x) e → ((s₁ : State) → Ends (Adds s₁ y) (next s₁))
-    → Ends (Adds s (x ++ y)) (andThen e next)
-then-adds next s x y h k = then-ends next h λ s₁ a. ends-map (k s₁) λ s₂ b. cc (append-assoc (s .text) x y)
+found-gives : {A : Type 0} {x : List ℕ} {o : Option A} (f : A → End) {a : A} → o ≡ some a → Gives x (f a) → Gives x (onFound o stuck f)
+unfolding onFound
+found-gives f e h = rw e h
+
+write-gives : (room p : ℕ) (x : List ℕ) (s : State) → Gives (s .text ++ x) (write room p x s)
+unfolding write
+write-gives room p x s = go (leb (length (s .text) + length x) room)
+  where
+    go : (b : Bool) → Gives (s .text ++ x) (cond b (done (record { steps = s .steps; text = s .text ++ x })) (ended output-full p s))
+    go true = whole _ refl
+    go false = begun output-full p s x refl
+
+reached-gives : (x : List ℕ) (b : Bool) (p : ℕ) (next : State → End) (s : State) → Gives (s .text ++ x) (next (counted s)) → Gives (s .text ++ x) (reached b p next s)
+unfolding reached
+reached-gives x true p next s h = h
+reached-gives x false p next s h = begun fuel-spent p s x refl
+
+visit-gives : (i : Input) (x : List ℕ) (k p : ℕ) (env : List ℕ) (s : State) {f : Form} → formOf (i .templates) p ≡ f
+    → ((k : ℕ) → Gives (s .text ++ x) (visitForm i f (visit i k) p env (counted s))) → Gives (s .text ++ x) (visit i k p env s)
+unfolding visit counted
+visit-gives i x zero p env s e h = reached-gives x _ p _ s (begun too-deep p (counted s) x refl)
+visit-gives i x (suc k) p env s e h = reached-gives x _ p _ s (rw e (h k))
 
 module _ (i : Input) where
-  evaluated-ends : {env : List ℕ} {p : ℕ} {x : List ℕ} → Evaluates (i .grammar) (i .templates) (i .value) env p x
-      → (k : ℕ) (s : State) → Ends (Adds s x) (visit i k p env s)
+  evaluated-gives : {env : List ℕ} {p : ℕ} {x : List ℕ} → Evaluates (i .grammar) (i .templates) (i .value) env p x
+      → (k : ℕ) (s : State) → Gives (s .text ++ x) (visit i k p env s)
   unfolding counted visitForm pieces withChild inOrder
-  evaluated-ends d = elim d as
-      (λ env p x d. (k : ℕ) (s : State) → Ends (Adds s x) (visit i k p env s))
-      (λ env es cs x d. (k p : ℕ) (s : State) → Ends (Adds s x) (pieces (write (i .room) p) (λ c. visit i k c env) es cs s))
-      (λ env cs x d. (k : ℕ) (s : State) → Ends (Adds s x) (inOrder (λ c. visit i k c env) cs s))
-      (λ env p ws x d. (k : ℕ) (s : State) → Ends (Adds s x) (inOrder (λ item. visit i k p (env ++ item ∷ [])) ws s)) [
-        | build f q (b → h) ↦ λ k s. visit-ends i k _ _ s f λ k. found-ends _ q (h k _ (counted s))
-        | literal f ↦ λ k s. visit-ends i k _ _ s f λ k. write-ends _ _ _ (counted s)
-        | place f w x ↦ λ k s. visit-ends i k _ _ s f λ k. found-ends _ w (found-ends _ x (write-ends _ _ _ (counted s)))
-        | expand f q ws (b → h) ↦ λ k s. visit-ends i k _ _ s f λ k. found-ends _ q (found-ends _ ws (h k (counted s)))
-        | then f w y (b → h) ↦ λ k s. visit-ends i k _ _ s f λ k. found-ends _ w (found-ends _ y (h k (counted s)))
-        | else f w y (b → h) ↦ λ k s. visit-ends i k _ _ s f λ k. found-ends _ w (found-ends _ y (h k (counted s)))
-        | for f w ws (b → h) ↦ λ k s. visit-ends i k _ _ s f λ k. found-ends _ w (found-ends _ ws (h k (counted s)))
-        | sequence f (b → h) ↦ λ k s. visit-ends i k _ _ s f λ k. h k (counted s)
-        | no-element ↦ λ k p s. nothing-ends s
-        | own-bytes (b → h) ↦ λ k p s. then-adds _ s _ _ (write-ends _ p _ s) (h k p)
-        | of-class (a → e) (b → h) ↦ λ k p s. then-adds _ s _ _ (e k s) (h k p)
-        | of-nonterminal (a → e) (b → h) ↦ λ k p s. then-adds _ s _ _ (e k s) (h k p)
-        | of-repetition (a → e) (b → h) ↦ λ k p s. then-adds _ s _ _ (e k s) (h k p)
-        | no-item ↦ λ k s. nothing-ends s
-        | one-item (a → e) (b → h) ↦ λ k s. then-adds _ s _ _ (e k s) (h k)
-        | no-turn ↦ λ k s. nothing-ends s
-        | one-turn (a → e) (b → h) ↦ λ k s. then-adds _ s _ _ (e k s) (h k)
+  evaluated-gives d = elim d as
+      (λ env p x d. (k : ℕ) (s : State) → Gives (s .text ++ x) (visit i k p env s))
+      (λ env es cs x d. (k p : ℕ) (s : State) → Gives (s .text ++ x) (pieces (write (i .room) p) (λ c. visit i k c env) es cs s))
+      (λ env cs x d. (k : ℕ) (s : State) → Gives (s .text ++ x) (inOrder (λ c. visit i k c env) cs s))
+      (λ env p ws x d. (k : ℕ) (s : State) → Gives (s .text ++ x) (inOrder (λ item. visit i k p (env ++ item ∷ [])) ws s)) [
+        | build f q (b → h) ↦ λ k s. visit-gives i _ k _ _ s f λ k. found-gives _ q (h k _ (counted s))
+        | literal f ↦ λ k s. visit-gives i _ k _ _ s f λ k. write-gives _ _ _ (counted s)
+        | place f w x ↦ λ k s. visit-gives i _ k _ _ s f λ k. found-gives _ w (found-gives _ x (write-gives _ _ _ (counted s)))
+        | expand f q ws (b → h) ↦ λ k s. visit-gives i _ k _ _ s f λ k. found-gives _ q (found-gives _ ws (h k (counted s)))
+        | then f w y (b → h) ↦ λ k s. visit-gives i _ k _ _ s f λ k. found-gives _ w (found-gives _ y (h k (counted s)))
+        | else f w y (b → h) ↦ λ k s. visit-gives i _ k _ _ s f λ k. found-gives _ w (found-gives _ y (h k (counted s)))
+        | for f w ws (b → h) ↦ λ k s. visit-gives i _ k _ _ s f λ k. found-gives _ w (found-gives _ ws (h k (counted s)))
+        | sequence f (b → h) ↦ λ k s. visit-gives i _ k _ _ s f λ k. h k (counted s)
+        | no-element ↦ λ k p s. nothing-gives s
+        | own-bytes (b → h) ↦ λ k p s. then-gives _ s _ _ (write-gives _ p _ s) (h k p)
+        | of-class (a → e) (b → h) ↦ λ k p s. then-gives _ s _ _ (e k s) (h k p)
+        | of-nonterminal (a → e) (b → h) ↦ λ k p s. then-gives _ s _ _ (e k s) (h k p)
+        | of-repetition (a → e) (b → h) ↦ λ k p s. then-gives _ s _ _ (e k s) (h k p)
+        | no-item ↦ λ k s. nothing-gives s
+        | one-item (a → e) (b → h) ↦ λ k s. then-gives _ s _ _ (e k s) (h k)
+        | no-turn ↦ λ k s. nothing-gives s
+        | one-turn (a → e) (b → h) ↦ λ k s. then-gives _ s _ _ (e k s) (h k)
       ]
 
-pub evaluated-finishes : (i : Input) (x : List ℕ) → EvaluatesSet (i .grammar) (i .templates) (i .value) x → Ends (λ s. s .text ≡ x) (walk i)
+pub evaluated-given : (i : Input) (x : List ℕ) → EvaluatesSet (i .grammar) (i .templates) (i .value) x → Gives x (walk i)
 unfolding walk start
-evaluated-finishes i x h = found-ends _ (h .template-0) (evaluated-ends i (h .evaluates) deepest start)
+evaluated-given i x h = found-gives _ (h .template-0) (evaluated-gives i (h .evaluates) deepest start)
+
+given-done : {x : List ℕ} {s : State} → Gives x (done s) → x ≡ s .text
+given-done (whole s e) = sym e
 
 -- Both, gathered. Where a walk is done, the rules evaluate its text and no other.
--- And where the rules evaluate a text, every walk is done with that text, or one of its three limits ends it.
+-- And where the rules evaluate a text, every walk is done with that text, or one of its three limits ends it with a beginning of that text.
 pub evaluates-exactly : (i : Input)
     → ((s : State) → walk i ≡ done s → (x : List ℕ) → EvaluatesSet (i .grammar) (i .templates) (i .value) x ↔ (x ≡ s .text))
-    × ((x : List ℕ) → EvaluatesSet (i .grammar) (i .templates) (i .value) x → Ends (λ s. s .text ≡ x) (walk i))
+    × ((x : List ℕ) → EvaluatesSet (i .grammar) (i .templates) (i .value) x → Gives x (walk i))
 evaluates-exactly i = (
-  λ s e x. (λ h. sym (ends-done s (evaluated-finishes i x h) e), λ q. rw q (finished-evaluated i s e)),
-  evaluated-finishes i,
+  λ s e x. (λ h. given-done (subst (Gives x) e (evaluated-given i x h)), λ q. rw q (finished-evaluated i s e)),
+  evaluated-given i,
 )

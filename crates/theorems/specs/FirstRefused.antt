@@ -236,7 +236,7 @@ unfolding accept
 accept-first h = first-none h
 
 -- "The check call tries 1 to 7 on grammar and templates": without a value and a scratch there is no offence past these
-to-7 : (g t : List ℕ) {n k p : ℕ} → Offence g t [] none n k p → n ≤ 7
+pub to-7 : (g t : List ℕ) {n k p : ℕ} → Offence g t [] none n k p → n ≤ 7
 to-7 g t (wrong-length s i n) = omega arith
 to-7 g t (wrong-block s n i w) = omega arith
 to-7 g t (wrong-layout s i n) = omega arith

@@ -13,7 +13,7 @@ use Rattle.laws.specs.Faults.{placed-iff, try-iff}
 use Rattle.theorems.specs.Refusals.{Refusal, evaluate-refuses}
 use Rattle.theorems.specs.Accepted.{set-none}
 use Rattle.theorems.specs.Sound.{WellTyped, never-stuck}
-use Rattle.theorems.specs.Bounds.{when-done, when-ended, written-fits}
+use Rattle.theorems.specs.Bounds.{EndsWith, when-done, when-ended, written-fits}
 
 -- "output and scratch keep their bytes"
 pub record Untouched (out scratch : List ℕ) (o : Outcome) : Type 0 where
@@ -28,13 +28,23 @@ pub record Produced (s : State) (out scratch : List ℕ) (o : Outcome) : Type 0 
   pub output-length : length (o .output) ≡ length out
   pub scratch-zero : o .scratch ≡ replicate (length scratch) 0
 
--- the three ways in which an evaluate call can go; its answer's five fields are number, stream kind, place, steps, bytes
+-- the call answers as its walk ends, and leaves what that has produced; the five fields are number, stream kind, place, steps, bytes
+pub data AsWalked (e : End) (out scratch : List ℕ) (o : Outcome) : Type 0 where
+  finished : (s : State) → e ≡ done s → o .result ≡ answer 0 0 0 (s .steps) (length (s .text)) → Produced s out scratch o → AsWalked e out scratch o
+  limited : (l : Limit) (p : ℕ) (s : State) → e ≡ ended l p s → o .result ≡ answer (limitNumber l) 2 p (s .steps) (length (s .text))
+      → Produced s out scratch o → AsWalked e out scratch o
+
+-- the two ways in which an evaluate call can go: refused by a number from 1 to 9, or as its walk goes
 pub data Kept (g t v : List ℕ) (fuel : ℕ) (out scratch : List ℕ) (o : Outcome) : Type 0 where
-  refused : (a : Answer) → evaluateRefusal g t v scratch ≡ some a → o .result ≡ a → Refusal a → Untouched out scratch o → Kept g t v fuel out scratch o
-  finished : (s : State) → evaluateRefusal g t v scratch ≡ none → walk (input g t v fuel out) ≡ done s
-      → o .result ≡ answer 0 0 0 (s .steps) (length (s .text)) → Produced s out scratch o → Kept g t v fuel out scratch o
-  limited : (l : Limit) (p : ℕ) (s : State) → evaluateRefusal g t v scratch ≡ none → walk (input g t v fuel out) ≡ ended l p s
-      → o .result ≡ answer (limitNumber l) 2 p (s .steps) (length (s .text)) → Produced s out scratch o → Kept g t v fuel out scratch o
+  refused : Refusal (o .result) → Untouched out scratch o → Kept g t v fuel out scratch o
+  as-walked : AsWalked (walk (input g t v fuel out)) out scratch o → Kept g t v fuel out scratch o
+
+-- the text that a call wrote: as many bytes of the output as it counted
+abbrev pub textLeft : Outcome → List ℕ
+textLeft o = take (o .result .bytes) (o .output)
+
+pub text-produced : {s : State} {out scratch : List ℕ} {o : Outcome} → o .result .bytes ≡ length (s .text) → Produced s out scratch o → textLeft o ≡ s .text
+text-produced e p = rw e (p .first-bytes)
 
 left-produced : (a : Answer) (s : State) (out scratch : List ℕ) → length (s .text) ≤ length out → Produced s out scratch (left a (s .text) out scratch)
 unfolding left
@@ -46,19 +56,12 @@ left-produced a s out scratch h = record {
   scratch-zero = refl;
 }
 
-module _ (g t v : List ℕ) (fuel : ℕ) (out scratch : List ℕ) where
-  walked-keeps : (e : End) → evaluateRefusal g t v scratch ≡ none → walk (input g t v fuel out) ≡ e → (e ≡ stuck → ⊥)
-      → Kept g t v fuel out scratch (walked e out scratch)
-  unfolding walked left input
-  walked-keeps (done s) r e n = finished s r e refl (left-produced _ s out scratch (written-fits (input g t v fuel out) s (rw e when-done)))
-  walked-keeps (ended l p s) r e n = limited l p s r e refl (left-produced _ s out scratch (written-fits (input g t v fuel out) s (rw e (when-ended l p))))
-  walked-keeps stuck r e n = absurd (n refl)
-
-  unless-keeps : (r : Option Answer) → evaluateRefusal g t v scratch ≡ r → (r ≡ none → walk (input g t v fuel out) ≡ stuck → ⊥)
-      → Kept g t v fuel out scratch (unlessRefused r (λ _. walk (input g t v fuel out)) out scratch)
-  unfolding unlessRefused kept
-  unless-keeps none r n = walked-keeps (walk (input g t v fuel out)) r refl (n refl)
-  unless-keeps (some a) r n = refused a r refl (evaluate-refuses g t v scratch a r) (record { output-kept = refl; scratch-kept = refl })
+walked-as : (e : End) (out scratch : List ℕ) → (e ≡ stuck → ⊥) → ((s : State) → EndsWith s e → length (s .text) ≤ length out)
+    → AsWalked e out scratch (walked e out scratch)
+unfolding walked left
+walked-as (done s) out scratch n fits = finished s refl refl (left-produced _ s out scratch (fits s when-done))
+walked-as (ended l p s) out scratch n fits = limited l p s refl refl (left-produced _ s out scratch (fits s (when-ended l p)))
+walked-as stuck out scratch n fits = absurd (n refl)
 
 -- what no refusal of 1 to 9 meets is typed, so its walk is not stuck
 pub admitted-typed : (g t v : List ℕ) (fuel : ℕ) (out scratch : List ℕ) → evaluateRefusal g t v scratch ≡ none → WellTyped (input g t v fuel out)
@@ -67,9 +70,21 @@ admitted-typed g t v fuel out scratch e =
     let a = set-none g t _ _ .0 e in
     record { set-typed = a .0 .typing; value-typed = placed-iff _ _ .0 (try-iff 8 _ _ .0 (a .1) .0) }
 
--- An evaluate call on any bytes leaves what the paper says it leaves.
-pub refusals-keep : (g t v : List ℕ) (fuel : ℕ) (out scratch : List ℕ) → Kept g t v fuel out scratch (evaluate g t v fuel out scratch)
-unfolding evaluate
-refusals-keep g t v fuel out scratch =
-    unless-keeps g t v fuel out scratch (evaluateRefusal g t v scratch) refl
-    (λ e s. never-stuck (input g t v fuel out) (admitted-typed g t v fuel out scratch e) s)
+module _ (g t v : List ℕ) (fuel : ℕ) (out scratch : List ℕ) where
+  pub unrefused-as-walked : evaluateRefusal g t v scratch ≡ none → AsWalked (walk (input g t v fuel out)) out scratch (evaluate g t v fuel out scratch)
+  unfolding evaluate unlessRefused input
+  unrefused-as-walked e =
+      rw e (walked-as (walk (input g t v fuel out)) out scratch (never-stuck (input g t v fuel out) (admitted-typed g t v fuel out scratch e))
+      (written-fits (input g t v fuel out)))
+
+  refused-untouched : (a : Answer) → evaluateRefusal g t v scratch ≡ some a → Kept g t v fuel out scratch (evaluate g t v fuel out scratch)
+  unfolding evaluate unlessRefused kept
+  refused-untouched a e = rw e (refused (evaluate-refuses g t v scratch a e) (record { output-kept = refl; scratch-kept = refl }))
+
+  -- An evaluate call on any bytes leaves what the paper says it leaves.
+  pub refusals-keep : Kept g t v fuel out scratch (evaluate g t v fuel out scratch)
+  refusals-keep = go (evaluateRefusal g t v scratch) refl
+    where
+      go : (r : Option Answer) → evaluateRefusal g t v scratch ≡ r → Kept g t v fuel out scratch (evaluate g t v fuel out scratch)
+      go none e = as-walked (unrefused-as-walked e)
+      go (some a) e = refused-untouched a e

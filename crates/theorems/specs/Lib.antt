@@ -27,6 +27,7 @@ pub mod EvaluatesOne
 pub mod Sound
 pub mod Kept
 pub mod AsWalked
+pub mod InOrder
 pub mod Demands
 pub mod Packing
 pub mod Published

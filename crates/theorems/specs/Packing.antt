@@ -4,7 +4,7 @@ use mathlib.Core.Path.{_≡_, refl, ap, ap₂, sym, _∙_}
 use Prim.Native.Nat.{ℕ, zero, suc, _+_, _-_, _*_, _/_, _%_, _≤_, _<_}
 use mathlib.Core.List.{List, [], _∷_, _++_, append-assoc, append-nil}
 use mathlib.Core.Bool.{Bool, true, false}
-use mathlib.Core.Option.{none}
+use mathlib.Core.Option.{Option, none, some, Option·none-ne-some, Option·some-injective}
 use native.Mathlib.Omega.{arith}
 use native.Mathlib.Nat.{mod-eq-of-lt, sub-zero, add-zero, zero-add}
 use borrow.Author.Tests.{le-leb, leb-true, leb-false}
@@ -15,7 +15,8 @@ use lib.Bits.{bitXor}
 use lib.Seq.{length-take-le, take-at, drop-at, getD-append-add, take-all, drop-drop, take-append-seam}
 use Rattle.rules.specs.Records.{word}
 use Rattle.rules.specs.Blocks.{fnvStart, multiplied, fnv1a, word32, isKind, streamLength, block, streamBlocks, bytes32, checked, filled, packedBlock, packedBlocks, packed, payloadLength, payloads, unpacked}
-use Rattle.rules.specs.Answers.{answer, accept, packRefusal, unpackRefusal, Written, written, pack, unpack}
+use Rattle.rules.specs.Answers.{answer, try, accept, packRefusal, unpackRefusal, Written, written, pack, unpack}
+use Rattle.rules.specs.declared.Answer.{Answer}
 use Rattle.laws.specs.Faults.{need-iff, both-iff, and-iff, leb-iff, placed-iff, try-iff}
 use Rattle.theorems.specs.Streams.{length-exactly, RightBlock, blocks-exactly}
 
@@ -198,18 +199,39 @@ unpack-tries kind s out a b c l =
       ),
     )
 
+-- a pack call that answers 0 is not refused: its refusals are 1, 2 and 12
+try-number : (n : ℕ) (found : Option (ℕ × ℕ)) (next : Unit {0} → Option Answer) → 1 ≤ n → ((a : Answer) → next tt ≡ some a → 1 ≤ a .number)
+    → (a : Answer) → try n found next ≡ some a → 1 ≤ a .number
+unfolding try answer
+try-number n none next l h a e = h a e
+try-number n (some x) next l h a e = rw (sym (Option·some-injective _ a e)) l
+
+pack-number : (kind : ℕ) (payload out : List ℕ) (a : Answer) → packRefusal kind payload out ≡ some a → 1 ≤ a .number
+unfolding packRefusal accept
+pack-number kind payload out =
+    try-number 1 _ _ (omega arith) (try-number 2 _ _ (omega arith) (try-number 12 _ _ (omega arith) (λ a e. absurd (Option·none-ne-some a e))))
+
+pack-unrefused : (kind : ℕ) (payload out : List ℕ) → pack kind payload out .result .number ≡ 0 → packRefusal kind payload out ≡ none
+unfolding pack written
+pack-unrefused kind payload out = go (packRefusal kind payload out) (pack-number kind payload out)
+  where
+    go : (o : Option Answer) → ((a : Answer) → o ≡ some a → 1 ≤ a .number) → written o (λ _. packed kind payload) out .result .number ≡ 0 → o ≡ none
+    go none h e = refl
+    go (some a) h e = absurd (let l : 1 ≤ a .number = h a refl in let z : a .number ≡ 0 = e in omega arith)
+
 -- Of the calls: the stream that a pack call wrote, unpacked into a buffer with room for it
 pub record RoundTrip (kind : ℕ) (payload out out′ : List ℕ) : Type 0 where
   -- "turns a payload .. into blocks"
   pub pack-answer : pack kind payload out .result ≡ answer 0 0 0 0 (512 * blockCount payload)
-  pub unpack-unrefused : unpackRefusal kind (bytesWritten (pack kind payload out)) out′ ≡ none
   pub unpack-answer : unpack kind (bytesWritten (pack kind payload out)) out′ .result ≡ answer 0 0 0 0 (504 * blockCount payload)
   -- the payload, the fill, and then what the buffer held
   pub unpack-output : unpack kind (bytesWritten (pack kind payload out)) out′ .output ≡ payload ++ replicate (fillCount payload) 0 ++ drop (504 * blockCount payload) out′
 
-pub unpack-of-pack : (kind : ℕ) (payload out out′ : List ℕ) → packRefusal kind payload out ≡ none → 504 * blockCount payload ≤ length out′ → RoundTrip kind payload out out′
+pub unpack-of-pack : (kind : ℕ) (payload out out′ : List ℕ) → pack kind payload out .result .number ≡ 0 → 504 * blockCount payload ≤ length out′
+    → RoundTrip kind payload out out′
 unfolding unpack written pack
-unpack-of-pack kind payload out out′ e l =
+unpack-of-pack kind payload out out′ z l =
+    let e = pack-unrefused kind payload out z in
     let s : List ℕ = packed kind payload in
     let w : bytesWritten (pack kind payload out) ≡ s = pack-writes kind payload out e in
     let u : unpacked s ≡ payload ++ replicate (fillCount payload) 0 = unpacked-packed kind payload in
@@ -219,7 +241,6 @@ unpack-of-pack kind payload out out′ e l =
     let r : unpackRefusal kind s out′ ≡ none = unpack-tries kind s out′ (m .0) (t .1) (m .1) (omega arith) in
     record {
       pack-answer = rw (e, written, packed-length);
-      unpack-unrefused = rw w r;
       unpack-answer = rw (w, r, written, n);
       unpack-output = rw (w, r, written, n, u, append-assoc);
     }
