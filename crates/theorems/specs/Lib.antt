@@ -30,6 +30,7 @@ pub mod AsWalked
 pub mod InOrder
 pub mod Demands
 pub mod Packing
+pub mod Unpacked
 pub mod Published
 pub mod Teeth
 pub mod Few
