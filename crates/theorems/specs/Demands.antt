@@ -6,10 +6,12 @@ use Prim.Native.Nat.{ℕ, _*_, _≤_, _<_}
 use mathlib.Core.List.{List, _++_}
 use lib.ListN.{length}
 use Rattle.rules.specs.Answers.{answer, check, evaluate, pack}
+use Rattle.theorems.specs.Streams.{WellSized}
 use Rattle.theorems.specs.Accepted.{Accepted, accepted-exactly, WellFormed, AtMost200Deep}
 use Rattle.theorems.specs.ValueExactly.{ValueTyped}
 use Rattle.theorems.specs.Evaluation.{EvaluatesSet}
 use Rattle.theorems.specs.Packing.{blockCount, fillCount, fill-small, RoundTrip, unpack-of-pack}
+use Rattle.theorems.specs.Unpacked.{RecordsUnpacked, records-unpacked}
 use Rattle.theorems.specs.Kept.{Kept, textLeft, refusals-keep}
 use Rattle.theorems.specs.AsWalked.{AnswersAsWalk, answers-of-accepted, text-exactly, text-begun}
 use Rattle.theorems.specs.InOrder.{CheckInOrder, check-in-order, EvaluateInOrder, evaluate-in-order}
@@ -36,6 +38,8 @@ pub record Demand2 : Type 0 where
   pub same-records : (kind : ℕ) (payload out out′ : List ℕ) → pack kind payload out .result .number ≡ 0 → 504 * blockCount payload ≤ length out′
       → RoundTrip kind payload out out′
   pub little-fill : (payload : List ℕ) → fillCount payload < 504
+  -- and what unpacking gives are the records as the rules read them
+  pub records-read : (s : List ℕ) → WellSized s → RecordsUnpacked s
 
 pub demand-2 : Demand2
 demand-2 = record {
@@ -44,6 +48,7 @@ demand-2 = record {
   text-begun = text-begun;
   same-records = unpack-of-pack;
   little-fill = fill-small;
+  records-read = records-unpacked;
 }
 
 -- 3. "Whatever grammar and template set the check accepts, whatever well-formed record of the declared type, at most 200 deep, comes with them, whatever the fuel, and

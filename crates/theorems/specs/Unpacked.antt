@@ -4,16 +4,15 @@
 use mathlib.Core.Path.{_≡_, refl, sym, ap, ap₂, _∙_}
 use Prim.Native.Nat.{ℕ, zero, suc, _+_, _*_, _/_, _%_, _≤_, _<_}
 use mathlib.Core.List.{List, [], _∷_, _++_}
-use mathlib.Core.Option.{none}
 use native.Mathlib.Omega.{arith}
 use native.Mathlib.Nat.{add-assoc, add-zero, zero-add, suc-add}
 use lib.ListN.{length, getD, take, drop, length-append, length-take, length-drop, take-append-drop, List·getD-append}
 use lib.Seq.{length-take-le, take-all, take-nil, take-add, take-take, drop-drop, getD-take, getD-drop, getD-append-add, ext-getD}
 use Rattle.rules.specs.Records.{base, byteOf, word, kindOf, fieldA, fieldB, fieldC, fieldD, recordCount, recordsFrom, units, textOf, paddingOf}
-use Rattle.rules.specs.Blocks.{streamLength, payloads, unpacked}
+use Rattle.rules.specs.Blocks.{payloads, unpacked}
 use Rattle.rules.specs.Lexeme.{lowest, highest}
 use Rattle.rules.specs.Templates.{variable, fieldNumbers}
-use Rattle.theorems.specs.Streams.{length-exactly}
+use Rattle.theorems.specs.Streams.{WellSized}
 
 -- record i of the stream s is the 8 bytes of u from `at` on, by whichever reader; a byte past the end is 0
 pub record ReadAt (s : List ℕ) (i : ℕ) (u : List ℕ) (at : ℕ) : Type 0 where
@@ -150,7 +149,8 @@ module _ (s : List ℕ) (w : length s % 512 ≡ 0) where
     text-padded = take-append-drop (fieldB s i) _ ∙ units-of (units (fieldB s i)) i;
   }
 
-pub records-unpacked : (s : List ℕ) → streamLength s ≡ none → RecordsUnpacked s
-records-unpacked s e =
-    let w : length s % 512 ≡ 0 = length-exactly s .0 e .whole-blocks in
+-- Of a stream of right length:
+pub records-unpacked : (s : List ℕ) → WellSized s → RecordsUnpacked s
+records-unpacked s h =
+    let w = h .whole-blocks in
     record { end-to-end = records-end-to-end s w; eight-each = unpacked-length s w; in-a-row = records-in-a-row s w; each = read-at s w }
