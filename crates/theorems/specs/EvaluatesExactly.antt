@@ -17,6 +17,7 @@ use Rattle.rules.specs.Walk.{Input, State, start, Limit, fuel-spent, too-deep, 
 use Rattle.rules.specs.Walk.{inOrder, withChild, pieces, visitForm, counted, reached, visit, walk}
 use Rattle.rules.specs.declared.Form.{Form}
 use Rattle.rules.specs.declared.Form.the-variants.{Build, Literal, Place, Expand, If, For, Sequence, Unknown}
+use Rattle.theorems.specs.Finds.{Finds, text-is, yes-is, no-is, list-is, finds-exactly, path-found, finds-all-exactly, paths-found}
 use Rattle.theorems.specs.Ends.{then-done, found-done, reached-done, write-done}
 use Rattle.theorems.specs.Evaluation.{Evaluates, build, literal, place, expand, then, else, for, sequence, Builds, no-element, own-bytes, of-class}
 use Rattle.theorems.specs.Evaluation.{of-nonterminal, of-repetition, Items, no-item, one-item, Loops, no-turn, one-turn, EvaluatesSet}
@@ -50,14 +51,16 @@ module _ (i : Input) where
   ByRules go = (p : ℕ) (env : List ℕ) (s s′ : State) → go p env s ≡ done s′ → Wrote (Evaluates (i .grammar) (i .templates) (i .value) env p) s s′
 
 module _ (i : Input) (go : ℕ → List ℕ → State → End) (below : ByRules i go) where
+  open Input i using (grammar as g, templates as t, value as v)
+
   child-built : (env : List ℕ) (c : ℕ) (P R : List ℕ → Type 0) (next : State → End) (s s′ : State) → andThen (go c env s) next ≡ done s′
       → ((s₁ : State) → next s₁ ≡ done s′ → Wrote P s₁ s′)
-      → ((x y : List ℕ) → Evaluates (i .grammar) (i .templates) (i .value) env c x → P y → R (x ++ y)) → Wrote R s s′
+      → ((x y : List ℕ) → Evaluates g t v env c x → P y → R (x ++ y)) → Wrote R s s′
   child-built env c P R next s s′ e k join = then-wrote _ P R (go c env s) next s s′ e (λ s₁. below c env s s₁) k join
 
   pieces-built : (p : ℕ) (env : List ℕ) (es : List Element) (cs : List ℕ) (s s′ : State)
       → pieces (write (i .room) p) (λ c. go c env) es cs s ≡ done s′
-      → Wrote (Builds (i .grammar) (i .templates) (i .value) env es cs) s s′
+      → Wrote (Builds g t v env es cs) s s′
   unfolding pieces withChild
   pieces-built p env [] cs s s′ e = wrote-nothing _ s s′ e no-element
   pieces-built p env (keyword w ∷ es) cs s s′ e =
@@ -73,19 +76,19 @@ module _ (i : Input) (go : ℕ → List ℕ → State → End) (below : ByRules 
       child-built env c _ _ _ s s′ e (λ s₁. pieces-built p env es cs s₁ s′) λ x y. of-repetition
 
   items-evaluated : (env cs : List ℕ) (s s′ : State) → inOrder (λ c. go c env) cs s ≡ done s′
-      → Wrote (Items (i .grammar) (i .templates) (i .value) env cs) s s′
+      → Wrote (Items g t v env cs) s s′
   unfolding inOrder
   items-evaluated env [] s s′ e = wrote-nothing _ s s′ e no-item
   items-evaluated env (c ∷ cs) s s′ e = child-built env c _ _ _ s s′ e (λ s₁. items-evaluated env cs s₁ s′) λ x y. one-item
 
   turns-evaluated : (env : List ℕ) (p : ℕ) (ws : List ℕ) (s s′ : State) → inOrder (λ item. go p (env ++ item ∷ [])) ws s ≡ done s′
-      → Wrote (Loops (i .grammar) (i .templates) (i .value) env p ws) s s′
+      → Wrote (Loops g t v env p ws) s s′
   unfolding inOrder
   turns-evaluated env p [] s s′ e = wrote-nothing _ s s′ e no-turn
   turns-evaluated env p (w ∷ ws) s s′ e = child-built (env ++ w ∷ []) p _ _ _ s s′ e (λ s₁. turns-evaluated env p ws s₁ s′) λ x y. one-turn
 
-  form-evaluated : (f : Form) (p : ℕ) (env : List ℕ) (s s′ : State) → formOf (i .templates) p ≡ f → visitForm i f go p env s ≡ done s′
-      → Wrote (Evaluates (i .grammar) (i .templates) (i .value) env p) s s′
+  form-evaluated : (f : Form) (p : ℕ) (env : List ℕ) (s s′ : State) → formOf t p ≡ f → visitForm i f go p env s ≡ done s′
+      → Wrote (Evaluates g t v env p) s s′
   unfolding visitForm
   form-evaluated Build p env s s′ f e =
       let q = found-done _ _ s′ e in
@@ -94,24 +97,27 @@ module _ (i : Input) (go : ℕ → List ℕ → State → End) (below : ByRules 
   form-evaluated Place p env s s′ f e =
       let w = found-done _ _ s′ e in
       let x = found-done _ _ s′ (w .2) in
-      wrote-map _ _ s s′ (write-wrote (i .room) p (x .0) s s′ (x .2)) λ y q. rw (← q) (place f (w .1) (x .1))
+      let k = text-is v (w .0) (x .0) .0 (x .1) in
+      wrote-map _ _ s s′ (write-wrote (i .room) p (x .0) s s′ (x .2)) λ y q. rw (← q, ← k .1) (place f (finds-exactly t v env _ (w .0) .0 (w .1)) (k .0))
   form-evaluated Expand p env s s′ f e =
       let q = found-done _ _ s′ e in
       let ws = found-done _ _ s′ (q .2) in
-      wrote-map _ _ s s′ (below _ (ws .0) s s′ (ws .2)) λ x. expand f (q .1) (ws .1)
+      wrote-map _ _ s s′ (below _ (ws .0) s s′ (ws .2)) λ x. expand f (q .1) (finds-all-exactly t v env _ (ws .0) .0 (ws .1))
   form-evaluated If p env s s′ f e =
       let w = found-done _ _ s′ e in
       let y = found-done _ _ s′ (w .2) in
-      taken (w .0) (y .0) (w .1) (y .1) (y .2)
+      taken (w .0) (y .0) (finds-exactly t v env _ (w .0) .0 (w .1)) (y .1) (y .2)
     where
-      taken : (w : ℕ) (y : Bool) → pathValue (i .templates) (i .value) env (path p) ≡ some w → asYesNo (i .value) w ≡ some y
-          → go (cond y (first p) (second (i .templates) p)) env s ≡ done s′ → Wrote (Evaluates (i .grammar) (i .templates) (i .value) env p) s s′
-      taken w true a b e = wrote-map _ _ s s′ (below _ env s s′ e) λ x. then f a b
-      taken w false a b e = wrote-map _ _ s s′ (below _ env s s′ e) λ x. else f a b
+      taken : (w : ℕ) (y : Bool) → Finds t v env (path p) w → asYesNo v w ≡ some y → go (cond y (first p) (second t p)) env s ≡ done s′
+          → Wrote (Evaluates g t v env p) s s′
+      taken w true a b e = let k = yes-is v w .0 b in wrote-map _ _ s s′ (below _ env s s′ e) λ x. then f a (k .0) (k .1)
+      taken w false a b e = let k = no-is v w .0 b in wrote-map _ _ s s′ (below _ env s s′ e) λ x. else f a (k .0) (k .1)
   form-evaluated For p env s s′ f e =
       let w = found-done _ _ s′ e in
       let ws = found-done _ _ s′ (w .2) in
-      wrote-map _ _ s s′ (turns-evaluated env (first p) (ws .0) s s′ (ws .2)) λ x. for f (w .1) (ws .1)
+      let k = list-is v (w .0) (ws .0) .0 (ws .1) in
+      wrote-map _ _ s s′ (turns-evaluated env (first p) (ws .0) s s′ (ws .2)) λ x h.
+      for f (finds-exactly t v env _ (w .0) .0 (w .1)) (k .0) (rw (k .1) h)
   form-evaluated Sequence p env s s′ f e = wrote-map _ _ s s′ (items-evaluated env _ s s′ e) λ x. sequence f
   form-evaluated Unknown p env s s′ f e = absurd (let z : _≡_ {A = ℕ} 0 1 = cc in omega arith)
 
@@ -169,8 +175,9 @@ visit-gives i x zero p env s e h = reached-gives x _ p _ s (begun too-deep p (co
 visit-gives i x (suc k) p env s e h = reached-gives x _ p _ s (rw e (h k))
 
 module _ (i : Input) where
-  evaluated-gives : {env : List ℕ} {p : ℕ} {x : List ℕ} → Evaluates (i .grammar) (i .templates) (i .value) env p x
-      → (k : ℕ) (s : State) → Gives (s .text ++ x) (visit i k p env s)
+  open Input i using (grammar as g, templates as t, value as v)
+
+  evaluated-gives : {env : List ℕ} {p : ℕ} {x : List ℕ} → Evaluates g t v env p x → (k : ℕ) (s : State) → Gives (s .text ++ x) (visit i k p env s)
   unfolding counted visitForm pieces withChild inOrder
   evaluated-gives d = elim d as
       (λ env p x d. (k : ℕ) (s : State) → Gives (s .text ++ x) (visit i k p env s))
@@ -179,11 +186,11 @@ module _ (i : Input) where
       (λ env p ws x d. (k : ℕ) (s : State) → Gives (s .text ++ x) (inOrder (λ item. visit i k p (env ++ item ∷ [])) ws s)) [
         | build f q (b → h) ↦ λ k s. visit-gives i _ k _ _ s f λ k. found-gives _ q (h k _ (counted s))
         | literal f ↦ λ k s. visit-gives i _ k _ _ s f λ k. write-gives _ _ _ (counted s)
-        | place f w x ↦ λ k s. visit-gives i _ k _ _ s f λ k. found-gives _ w (found-gives _ x (write-gives _ _ _ (counted s)))
-        | expand f q ws (b → h) ↦ λ k s. visit-gives i _ k _ _ s f λ k. found-gives _ q (found-gives _ ws (h k (counted s)))
-        | then f w y (b → h) ↦ λ k s. visit-gives i _ k _ _ s f λ k. found-gives _ w (found-gives _ y (h k (counted s)))
-        | else f w y (b → h) ↦ λ k s. visit-gives i _ k _ _ s f λ k. found-gives _ w (found-gives _ y (h k (counted s)))
-        | for f w ws (b → h) ↦ λ k s. visit-gives i _ k _ _ s f λ k. found-gives _ w (found-gives _ ws (h k (counted s)))
+        | place f w x ↦ λ k s. visit-gives i _ k _ _ s f λ k. found-gives _ (path-found w) (found-gives _ (text-is v _ _ .1 (x, refl)) (write-gives _ _ _ (counted s)))
+        | expand f q ws (b → h) ↦ λ k s. visit-gives i _ k _ _ s f λ k. found-gives _ q (found-gives _ (paths-found ws) (h k (counted s)))
+        | then f w x y (b → h) ↦ λ k s. visit-gives i _ k _ _ s f λ k. found-gives _ (path-found w) (found-gives _ (yes-is v _ .1 (x, y)) (h k (counted s)))
+        | else f w x y (b → h) ↦ λ k s. visit-gives i _ k _ _ s f λ k. found-gives _ (path-found w) (found-gives _ (no-is v _ .1 (x, y)) (h k (counted s)))
+        | for f w x (b → h) ↦ λ k s. visit-gives i _ k _ _ s f λ k. found-gives _ (path-found w) (found-gives _ (list-is v _ _ .1 (x, refl)) (h k (counted s)))
         | sequence f (b → h) ↦ λ k s. visit-gives i _ k _ _ s f λ k. h k (counted s)
         | no-element ↦ λ k p s. nothing-gives s
         | own-bytes (b → h) ↦ λ k p s. then-gives _ s _ _ (write-gives _ p _ s) (h k p)

@@ -11,6 +11,7 @@ use Rattle.rules.specs.Value.{asText, asYesNo, asList}
 use Rattle.rules.specs.Walk.{pathValue, pathValues}
 use Rattle.rules.specs.declared.Form.{Form}
 use Rattle.rules.specs.declared.Form.the-variants.{Build, Literal, Place, Expand, If, For, Sequence, Unknown}
+use Rattle.theorems.specs.Finds.{text-is, yes-is, no-is, list-is, path-found, paths-found}
 use Rattle.theorems.specs.Evaluation.{Evaluates, build, literal, place, expand, then, else, for, sequence, Builds, no-element, own-bytes, of-class}
 use Rattle.theorems.specs.Evaluation.{of-nonterminal, of-repetition, Items, no-item, one-item, Loops, no-turn, one-turn, EvaluatesSet}
 
@@ -43,11 +44,11 @@ module _ (g t v : List ℕ) where
   ruled : {env : List ℕ} {p : ℕ} {x : List ℕ} → Evaluates g t v env p x → Rule (formOf t p) env p x
   ruled (build f q b) = rw f (_, q, b)
   ruled (literal f) = rw f refl
-  ruled (place f w x) = rw f (_, w, x)
-  ruled (expand f q ws b) = rw f (_, q, (_, ws, b))
-  ruled (then f w y b) = rw f (_, w, (true, y, b))
-  ruled (else f w y b) = rw f (_, w, (false, y, b))
-  ruled (for f w ws b) = rw f (_, w, (_, ws, b))
+  ruled (place f w k) = rw f (_, path-found w, text-is v _ _ .1 (k, refl))
+  ruled (expand f q ws b) = rw f (_, q, (_, paths-found ws, b))
+  ruled (then f w k y b) = rw f (_, path-found w, (true, yes-is v _ .1 (k, y), b))
+  ruled (else f w k y b) = rw f (_, path-found w, (false, no-is v _ .1 (k, y), b))
+  ruled (for f w k b) = rw f (_, path-found w, (_, list-is v _ _ .1 (k, refl), b))
   ruled (sequence f b) = rw f b
 
   -- what the rules for elements, items and turns ask
@@ -89,11 +90,11 @@ module _ (g t v : List ℕ) where
       (λ env p ws x d. (y : List ℕ) → Loops g t v env p ws y → x ≡ y) [
         | build f q (b → h) ↦ λ y e. h y (found-one _ q (rw f at (ruled e)))
         | literal f ↦ λ y e. rw f at (ruled e)
-        | place f w x ↦ λ y e. Option·some-injective _ y (sym x ∙ found-one _ w (rw f at (ruled e)))
-        | expand f q ws (b → h) ↦ λ y e. h y (found-one _ ws (found-one _ q (rw f at (ruled e))))
-        | then f w z (b → h) ↦ λ y e. h y (found-one _ z (found-one _ w (rw f at (ruled e))))
-        | else f w z (b → h) ↦ λ y e. h y (found-one _ z (found-one _ w (rw f at (ruled e))))
-        | for f w ws (b → h) ↦ λ y e. h y (found-one _ ws (found-one _ w (rw f at (ruled e))))
+        | place f w k ↦ λ y e. Option·some-injective _ y (sym (text-is v _ _ .1 (k, refl)) ∙ found-one _ (path-found w) (rw f at (ruled e)))
+        | expand f q ws (b → h) ↦ λ y e. h y (found-one _ (paths-found ws) (found-one _ q (rw f at (ruled e))))
+        | then f w k z (b → h) ↦ λ y e. h y (found-one _ (yes-is v _ .1 (k, z)) (found-one _ (path-found w) (rw f at (ruled e))))
+        | else f w k z (b → h) ↦ λ y e. h y (found-one _ (no-is v _ .1 (k, z)) (found-one _ (path-found w) (rw f at (ruled e))))
+        | for f w k (b → h) ↦ λ y e. h y (found-one _ (list-is v _ _ .1 (k, refl)) (found-one _ (path-found w) (rw f at (ruled e))))
         | sequence f (b → h) ↦ λ y e. h y (rw f at (ruled e))
         | no-element ↦ λ y e. no-element-text e
         | own-bytes (b → h) ↦ λ y e. joined-one (λ a r. r) h (keyword-text e)

@@ -1,21 +1,20 @@
 -- The evaluation rules a second time, as a relation in the manner of source document 001: its dynamic rules of Fig. 11, and of Fig. 6 where that leaves them.
 -- 001's judgement `T, Θ ⊢ tstmt ⇒ ψ` is `Evaluates g t v env p x`. T is env, the places of the variables' values in the value v; Θ is the template code t;
--- tstmt is the node at p, and ψ the text x. g is the target language's grammar. No steps, depth or room stand here, and of the walk only what paths find.
+-- tstmt is the node at p, and ψ the text x. g is the target language's grammar. No steps, depth or room stand here, and nothing of the walk.
 use Prim.Native.Nat.{ℕ}
 use mathlib.Core.Path.{_≡_}
-use mathlib.Core.Bool.{true, false}
 use mathlib.Core.List.{List, [], _∷_, _++_}
 use mathlib.Core.Option.{some}
-use Rattle.rules.specs.Records.{fieldB, textOf}
+use Rattle.rules.specs.Records.{kindOf, fieldA, fieldB, textOf}
 use Rattle.rules.specs.Grammar.{production, elements, Element, keyword, lexeme, nonterminal, repetition}
 use Rattle.rules.specs.Templates.{template, body, formOf, nodes, paths, path, first, second}
-use Rattle.rules.specs.Value.{asText, asYesNo, asList}
-use Rattle.rules.specs.Walk.{pathValue, pathValues}
+use Rattle.rules.specs.Value.{children}
 use Rattle.rules.specs.declared.Form.the-variants.{Build, Literal, Place, Expand, If, For, Sequence}
+use Rattle.theorems.specs.Finds.{Finds, FindsAll}
 
 mutual
-  -- `T, Θ ⊢ tstmt ⇒ ψ`. Of a path, `T ⊢ texpr ⇒ ν` is that `pathValue` finds the value ν;
-  -- `⊢ ν ⇒ φ` that ν is a text, `⊢_L ν ⇒ ν*` a list of these items, `⊢_B ν ⇒ β` a yes or a no.
+  -- `T, Θ ⊢ tstmt ⇒ ψ`. Of a path, `T ⊢ texpr ⇒ ν` is that it `Finds` the value ν;
+  -- `⊢ ν ⇒ φ` that ν is a text (a 1), `⊢_L ν ⇒ ν*` a list of these items (a 3), `⊢_B ν ⇒ β` a yes or a no (a 2).
   pub data Evaluates (g t v : List ℕ) : List ℕ → ℕ → List ℕ → Type 0 where
     -- the rule of each grammar rule, [pprog], [pstmt₁] ..: its elements in order, their texts in a row
     build : {env : List ℕ} {p q : ℕ} {x : List ℕ} → formOf t p ≡ Build
@@ -23,20 +22,19 @@ mutual
     -- the rule of each morphem class: "a morphem generates itself"
     literal : {env : List ℕ} {p : ℕ} → formOf t p ≡ Literal → Evaluates g t v env p (textOf t p)
     -- [expr]
-    place : {env : List ℕ} {p w : ℕ} {x : List ℕ} → formOf t p ≡ Place
-        → pathValue t v env (path p) ≡ some w → asText v w ≡ some x → Evaluates g t v env p x
+    place : {env : List ℕ} {p w : ℕ} → formOf t p ≡ Place → Finds t v env (path p) w → kindOf v w ≡ 1 → Evaluates g t v env p (textOf v w)
     -- [expand]: the body, with "a fresh set of variables, those that its paths find"
     expand : {env ws : List ℕ} {p q : ℕ} {x : List ℕ} → formOf t p ≡ Expand
-        → template t (fieldB t p) ≡ some q → pathValues t v env (paths t p) ≡ some ws → Evaluates g t v ws (body t q) x → Evaluates g t v env p x
-    -- [then]
+        → template t (fieldB t p) ≡ some q → FindsAll t v env (paths t p) ws → Evaluates g t v ws (body t q) x → Evaluates g t v env p x
+    -- [then]: "the first on yes (1)"
     then : {env : List ℕ} {p w : ℕ} {x : List ℕ} → formOf t p ≡ If
-        → pathValue t v env (path p) ≡ some w → asYesNo v w ≡ some true → Evaluates g t v env (first p) x → Evaluates g t v env p x
+        → Finds t v env (path p) w → kindOf v w ≡ 2 → fieldA v w ≡ 1 → Evaluates g t v env (first p) x → Evaluates g t v env p x
     -- [else]
     else : {env : List ℕ} {p w : ℕ} {x : List ℕ} → formOf t p ≡ If
-        → pathValue t v env (path p) ≡ some w → asYesNo v w ≡ some false → Evaluates g t v env (second t p) x → Evaluates g t v env p x
+        → Finds t v env (path p) w → kindOf v w ≡ 2 → (fieldA v w ≡ 1 → ⊥) → Evaluates g t v env (second t p) x → Evaluates g t v env p x
     -- [for]
-    for : {env ws : List ℕ} {p w : ℕ} {x : List ℕ} → formOf t p ≡ For
-        → pathValue t v env (path p) ≡ some w → asList v w ≡ some ws → Loops g t v env (first p) ws x → Evaluates g t v env p x
+    for : {env : List ℕ} {p w : ℕ} {x : List ℕ} → formOf t p ≡ For
+        → Finds t v env (path p) w → kindOf v w ≡ 3 → Loops g t v env (first p) (children v w) x → Evaluates g t v env p x
     -- the list that stands for a Kleene closure
     sequence : {env : List ℕ} {p : ℕ} {x : List ℕ} → formOf t p ≡ Sequence → Items g t v env (nodes t p) x → Evaluates g t v env p x
 

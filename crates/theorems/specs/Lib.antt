@@ -16,6 +16,7 @@ pub mod Ranges
 pub mod Offences
 pub mod FirstOffending
 pub mod FirstRefused
+pub mod Finds
 pub mod Levels
 pub mod Visits
 pub mod Bounds

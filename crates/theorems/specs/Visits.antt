@@ -1,6 +1,6 @@
 -- One law for all that holds of every visit: two walks of one set and value, with other fuel and room, visit the same nodes in step, until one
 -- of them ends. What holds of the ways in which a visit is put together holds of both walks.
-use mathlib.Core.Path.{_≡_, refl, subst}
+use mathlib.Core.Path.{_≡_, refl, sym, subst}
 use Prim.Native.Nat.{ℕ, zero, suc, _+_, _≤_}
 use mathlib.Core.List.{List, [], _∷_}
 use mathlib.Core.Bool.{Bool, true, false, cond}
@@ -18,6 +18,7 @@ use Rattle.rules.specs.declared.Form.the-variants.{Build, Literal, Place, Expan
 use Rattle.rules.specs.declared.Position.{Position}
 use Rattle.laws.specs.Faults.{In, here, later}
 use Rattle.theorems.specs.Children.{Asks, asks-class, asks-nonterminal, asks-repetition, ChildFor, this-child, past-keyword, past-child}
+use Rattle.theorems.specs.Finds.{Finds, text-is, yes-is, no-is, list-is, finds-exactly, finds-all-exactly}
 use Rattle.theorems.specs.Levels.{Under, a-child, a-body, on-yes, on-no, a-turn, an-item, Levels, root-body, one-deeper, Writes, a-keyword, its-text, text-found}
 
 -- the same set and value, with other fuel and room
@@ -87,21 +88,26 @@ module _ (i : Input) (fuel room : ℕ) (R : State → End → End → Type 0) (k
   -- what a form does with the visits one deeper
   module _ (below below′ : ℕ → List ℕ → State → End) (d p : ℕ) (env : List ℕ) (at : LevelsOf i d p env) (shallow : d ≤ 200)
       (deeper : (q : ℕ) (env′ : List ℕ) → Under g t v p env q env′ → Both (below q env′) (below′ q env′)) where
-    branch-both : (w : ℕ) (yes? : Bool) → formOf t p ≡ If → pathValue t v env (path p) ≡ some w → asYesNo v w ≡ some yes?
+    branch-both : (w : ℕ) (yes? : Bool) → formOf t p ≡ If → Finds t v env (path p) w → asYesNo v w ≡ some yes?
         → Both (below (cond yes? (first p) (second t p)) env) (below′ (cond yes? (first p) (second t p)) env)
-    branch-both w true f a b = deeper _ env (on-yes w f a b)
-    branch-both w false f a b = deeper _ env (on-no w f a b)
+    branch-both w true f a b = let k = yes-is v w .0 b in deeper _ env (on-yes w f a (k .0) (k .1))
+    branch-both w false f a b = let k = no-is v w .0 b in deeper _ env (on-no w f a (k .0) (k .1))
+
+    path-both : {next next′ : ℕ → End} (s : State) → ((w : ℕ) → Finds t v env (path p) w → R s (next w) (next′ w))
+        → R s (onFound (pathValue t v env (path p)) stuck next) (onFound (pathValue t v env (path p)) stuck next′)
+    path-both s h = found-both _ _ _ s λ w a. h w (finds-exactly t v env _ w .0 a)
 
     form-both : (f : Form) → formOf t p ≡ f → Both (visitForm i f below p env) (visitForm (limitedBy i fuel room) f below′ p env)
     unfolding visitForm
     form-both Build f s = found-both _ _ _ s λ q e.
         pieces-both _ _ _ _ _ _ (λ x j. kept .writing x at shallow (a-keyword q x f e j)) (λ at′ c j. deeper c env (a-child q c at′ f e j)) s
     form-both Literal f s = kept .writing _ at shallow (its-text f) s
-    form-both Place f s = found-both _ _ _ s λ w a. found-both _ _ _ s λ x b. kept .writing x at shallow (text-found w x f a b) s
-    form-both Expand f s = found-both _ _ _ s λ q a. found-both _ _ _ s λ ws b. deeper _ ws (a-body q ws f a b) s
-    form-both If f s = found-both _ _ _ s λ w a. found-both _ _ _ s λ yes? b. branch-both w yes? f a b s
-    form-both For f s = found-both _ _ _ s λ w a. found-both _ _ _ s λ ws b.
-        inOrder-both _ _ ws (λ item j. deeper _ _ (a-turn w item ws f a b j)) s
+    form-both Place f s = path-both s λ w a. found-both _ _ _ s λ x b. let k = text-is v w x .0 b in
+        kept .writing x at shallow (subst (WritesOf i p env) (k .1) (text-found w f a (k .0))) s
+    form-both Expand f s = found-both _ _ _ s λ q a. found-both _ _ _ s λ ws b. deeper _ ws (a-body q ws f a (finds-all-exactly t v env _ ws .0 b)) s
+    form-both If f s = path-both s λ w a. found-both _ _ _ s λ yes? b. branch-both w yes? f a b s
+    form-both For f s = path-both s λ w a. found-both _ _ _ s λ ws b. let k = list-is v w ws .0 b in
+        inOrder-both _ _ ws (λ item j. deeper _ _ (a-turn w item f a (k .0) (subst (In item) (sym (k .1)) j))) s
     form-both Sequence f s = inOrder-both _ _ _ (λ c j. deeper c env (an-item c f j)) s
     form-both Unknown f s = kept .no-way s
 
