@@ -29,7 +29,8 @@ use Rattle.theorems.specs.LaidOut.{InRow, no-thing, one-thing, GrammarLa
 use Rattle.theorems.specs.Heads.{element-size, element-grows}
 use Rattle.theorems.specs.LayoutExactly.{grammar-laid-exactly, templates-laid-exactly, value-laid-exactly}
 use Rattle.theorems.specs.LimitsExactly.{limits-exactly, value-limits-exactly, not-deep, nonterminal-iff, element-names, type-names, node-names, numbered-in}
-use Rattle.theorems.specs.TypingExactly.{Declared, declared-exactly}
+use Rattle.theorems.specs.Judgement.{Declared}
+use Rattle.theorems.specs.TypingExactly.{declared-exactly}
 use Rattle.theorems.specs.Least.{First, Least, first-same, first-need, first-none, first-both, least-same, least-wide, least-need, least-both, rows-heads, Some, least-every, least-heads, least-tests, Offends, too-deep, fails, least-tree, Fails, failing, least-shallow}
 use Rattle.theorems.specs.Ranges.{AnyClass, AnyProduction, class-rows, production-rows, type-rows, template-rows, Leading, stops, goes-on, rows-leading, below-leading, standing-leading, nodes-standing, values-standing, looped-leading, sites-leading, typed-leading}
 use Rattle.theorems.specs.Offences.{WrongBlock, Laid, TemplateOver, over-8-parameters, over-200-deep, over-16-loops, OverLimits, a-template, a-value, GrammarUnnamed, by-element, TypeUnnamed, by-type, by-field, TemplateUnnamed, by-template, by-parameter, by-node, TemplatesUnnamed, in-type, in-template, WrongClass, least-above-most, lowest-above-highest, past-unicode, Misfit, undeclared, unsuited, Mistyped, not-of-type}

@@ -4,13 +4,14 @@ use Prim.Native.Nat.{ℕ}
 use mathlib.Core.List.{List, [], _∷_, _++_}
 use mathlib.Core.Option.{some}
 use Rattle.rules.specs.Records.{kindOf, fieldB, textOf, nth}
-use Rattle.rules.specs.Grammar.{production, Element, keyword, lexeme, nonterminal, repetition, elements}
+use Rattle.rules.specs.Grammar.{production, Element, keyword, elements}
 use Rattle.rules.specs.Templates.{text, yes-no, list, fields, typeOf, template, parameters, formOf, nodes, paths, path, first, second, variable, fieldNumbers}
 use Rattle.rules.specs.Value.{children}
 use Rattle.rules.specs.declared.Form.the-variants.{Build, Literal, Place, Expand, If, For, Sequence}
 use Rattle.rules.specs.declared.Position.{Position}
 use Rattle.rules.specs.declared.Position.the-variants.{Class, Nonterminal, Repetition, Item}
 use Rattle.theorems.specs.Lexemes.{Lexeme}
+use Rattle.theorems.specs.Children.{Asks}
 
 -- 001's `T ⊢ texpr : τ`: the variable's type, then field by field
 pub data Along (t : List ℕ) : List ℕ → ℕ → ℕ → Type 0 where
@@ -54,13 +55,18 @@ mutual
   pub data Fills (g t : List ℕ) : List ℕ → List Element → List ℕ → Type 0 where
     all-filled : (vars : List ℕ) → Fills g t vars [] []
     no-child : (vars x : List ℕ) (es : List Element) (cs : List ℕ) → Fills g t vars es cs → Fills g t vars (keyword x ∷ es) cs
-    a-lexeme : (vars : List ℕ) (c p : ℕ) (es : List Element) (cs : List ℕ) → Suits g t vars p (Class c) → Fills g t vars es cs → Fills g t vars (lexeme c ∷ es) (p ∷ cs)
-    a-text : (vars : List ℕ) (n p : ℕ) (es : List Element) (cs : List ℕ) → Suits g t vars p (Nonterminal n) → Fills g t vars es cs → Fills g t vars (nonterminal n ∷ es) (p ∷ cs)
-    a-row : (vars : List ℕ) (n p : ℕ) (es : List Element) (cs : List ℕ) → Suits g t vars p (Repetition n) → Fills g t vars es cs → Fills g t vars (repetition n ∷ es) (p ∷ cs)
+    a-child : (vars : List ℕ) (e : Element) (at : Position) (p : ℕ) (es : List Element) (cs : List ℕ) → Asks e at → Suits g t vars p at
+        → Fills g t vars es cs → Fills g t vars (e ∷ es) (p ∷ cs)
 
   pub data Items (g t : List ℕ) : List ℕ → ℕ → List ℕ → Type 0 where
     no-item : (vars : List ℕ) (n : ℕ) → Items g t vars n []
     an-item : (vars : List ℕ) (n p : ℕ) (ps : List ℕ) → Suits g t vars p (Item n) → Items g t vars n ps → Items g t vars n (p ∷ ps)
+
+-- "Template 0 exists with one parameter, the value's type. That is the declared type."
+pub record Declared (t : List ℕ) (ty : ℕ) : Type 0 where
+  pub root : ℕ
+  pub root-there : template t 0 ≡ some root
+  pub one-parameter : parameters t root ≡ ty ∷ []
 
 mutual
   -- "A value is of type text if it is a 1 whose text is a lexeme of the class; of yes/no if a 2; of a list if a 3 whose children are all of its item type;

@@ -7,6 +7,9 @@ pub mod Utf8
 pub mod Lexemes
 pub mod Children
 pub mod Judgement
+pub mod OwnRule
+pub mod HeadByHead
+pub mod OwnRuleExactly
 pub mod TypingExactly
 pub mod ValueExactly
 pub mod Refusals

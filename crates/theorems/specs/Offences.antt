@@ -18,7 +18,7 @@ use Rattle.laws.specs.Faults.{In, Below}
 use Rattle.theorems.specs.Streams.{WellSized, RightBlock}
 use Rattle.theorems.specs.LaidOut.{GrammarLaid, TemplatesLaid, ValueLaid}
 use Rattle.theorems.specs.LimitsExactly.{Exists, HasProduction, ElementNames, TypeNames, NodeNames}
-use Rattle.theorems.specs.TypingExactly.{Declared}
+use Rattle.theorems.specs.Judgement.{Declared}
 
 -- 2: "A block has a wrong number, kind, byte 3 or check (place: block)."
 pub record WrongBlock (kind : ℕ) (s : List ℕ) (n : ℕ) : Type 0 where

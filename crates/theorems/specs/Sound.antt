@@ -20,9 +20,10 @@ use Rattle.rules.specs.declared.Position.the-variants.{Class, Nonterminal, Repe
 use Rattle.laws.specs.Faults.{both-none, nth-in, every-in, onFound-none, at-none}
 use Rattle.theorems.specs.Ends.{Ends, finished, limited, ends-map, then-ends, found-ends, reached-ends, write-ends, ends-done}
 use Rattle.theorems.specs.Lexemes.{Lexeme, lexeme-exactly}
+use Rattle.theorems.specs.Children.{asks-class, asks-nonterminal, asks-repetition}
 use Rattle.theorems.specs.Judgement.{Along, arrived, a-field, PathTyped, Arguments, no-argument, an-argument}
 use Rattle.theorems.specs.Judgement.{Suits, by-build, by-literal, by-place, by-expand, by-if, by-for, by-sequence, as-item}
-use Rattle.theorems.specs.Judgement.{Fills, all-filled, no-child, a-lexeme, a-text, a-row, Items, no-item, an-item}
+use Rattle.theorems.specs.Judgement.{Fills, all-filled, no-child, a-child, Items, no-item, an-item}
 use Rattle.theorems.specs.Judgement.{OfType, of-text, of-yes-no, of-list, of-record, AllOf, none-left, one-of, EachOf, no-field}
 use Rattle.theorems.specs.TypingExactly.{misfit-suits, declared-exactly}
 use Rattle.theorems.specs.ValueExactly.{kind-of, mistyped-of}
@@ -142,10 +143,12 @@ module _ (i : Input) (below : ℕ → List ℕ → State → End) (sound : Sound
   unfolding pieces withChild
   fills-sound p (all-filled vars) h s = writes-none s no-element
   fills-sound p (no-child vars x es cs fs) h s = writes-then _ (one-piece _ es) (writes-whole _ p x s (own-bytes x)) (fills-sound p fs h)
-  fills-sound p (a-lexeme vars c q es cs su fs) h s =
+  fills-sound p (a-child vars e at q es cs (asks-class c) su fs) h s =
       writes-then _ (λ x y l. one-piece _ es x y (lexeme-of c x (lexeme-exactly g c x .1 l))) (sound .writes su h s) (fills-sound p fs h)
-  fills-sound p (a-text vars n q es cs su fs) h s = writes-then _ (λ x y d. one-piece _ es x y (derived n x d)) (sound .writes su h s) (fills-sound p fs h)
-  fills-sound p (a-row vars n q es cs su fs) h s = writes-then _ (λ x y r. one-piece _ es x y (repeated n x r)) (sound .writes su h s) (fills-sound p fs h)
+  fills-sound p (a-child vars e at q es cs (asks-nonterminal n) su fs) h s =
+      writes-then _ (λ x y d. one-piece _ es x y (derived n x d)) (sound .writes su h s) (fills-sound p fs h)
+  fills-sound p (a-child vars e at q es cs (asks-repetition n) su fs) h s =
+      writes-then _ (λ x y r. one-piece _ es x y (repeated n x r)) (sound .writes su h s) (fills-sound p fs h)
 
   items-sound : {vars env : List ℕ} {n : ℕ} {cs : List ℕ} → Items g t vars n cs → EachOf g t v vars env
       → (s : State) → Ends (Wrote (Row g n) (s .text)) (inOrder (λ c. below c env) cs s)

@@ -11,6 +11,7 @@ use Rattle.rules.specs.Derivation.{Derives, produced, Pieces, no-element, one-p
 use Rattle.laws.specs.Faults.{In, here, later, nth-in}
 use Rattle.theorems.specs.LimitsExactly.{has-in}
 use Rattle.theorems.specs.Lexemes.{Lexeme, lexeme-exactly}
+use Rattle.theorems.specs.HeadByHead.{in-cons}
 
 -- "A nonterminal derives a text if one of its productions does", and nothing else
 abbrev pub OneProduction : List ℕ → ℕ → List ℕ → Type 0
@@ -81,10 +82,6 @@ derived-exists {g} (produced n k p x e f ps) = has-in g n (nth-in (productions g
 -- "any number of texts in a row, none too, each derived by its nonterminal"
 abbrev pub InARow : List ℕ → ℕ → List ℕ → Type 0
 InARow g n x = (texts : List (List ℕ)) × (x ≡ flatten texts) × ((y : List ℕ) → In y texts → Derives g n y)
-
-in-cons : {A : Type 0} (P : A → Type 0) {x y : A} {xs : List A} → P x → ((z : A) → In z xs → P z) → In y (x ∷ xs) → P y
-in-cons P p h (here xs) = p
-in-cons P p h (later x xs i) = h _ i
 
 row-texts : {g x : List ℕ} {n : ℕ} → Row g n x → InARow g n x
 unfolding flatten

@@ -1,0 +1,306 @@
+-- A node's own rule and its children, exactly: the test of `rules` passes where the node fits its position, and what it looks at below are the node's children.
+use mathlib.Core.Path.{_≡_, refl, sym, _∙_, ap, subst}
+use mathlib.Core.Logic.{_↔_}
+use Prim.Native.Nat.{ℕ, suc, _+_}
+use mathlib.Core.List.{List, [], _∷_, _++_}
+use mathlib.Core.Bool.{Bool, true, false, false≢true}
+use mathlib.Core.Option.{Option, some, Option·none-ne-some, Option·some-injective}
+use native.Mathlib.Omega.{arith}
+use lib.ListN.{length}
+use lib.Dec.{eqb}
+use Rattle.rules.specs.Faults.{onFound, exists}
+use Rattle.rules.specs.Records.{fieldB, fieldC, fieldD, nth}
+use Rattle.rules.specs.Grammar.{production, Element, keyword, lexeme, nonterminal, repetition}
+use Rattle.rules.specs.Templates.{TypeForm, text, yes-no, list, fields, no-type, typeOf, template, parameters, formOf, nodes, paths, path, first, variable, fieldNumbers}
+use Rattle.rules.specs.Typing.{asksClass, asksNonterminal, asksRepetition, asksItem, positions, textClass, isYesNo, itemType, fieldTypes, typeAlong, pathType, argumentsFit, Site, site, suitsForm, suits, sites, sitesOf, sitesBelow, bodySite}
+use Rattle.rules.specs.declared.Form.{Form}
+use Rattle.rules.specs.declared.Form.the-variants.{Build, Literal, Place, Expand, If, For, Sequence, Unknown}
+use Rattle.rules.specs.declared.Position.{Position}
+use Rattle.rules.specs.declared.Position.the-variants.{Class, Nonterminal, Repetition, Item}
+use Rattle.laws.specs.Faults.{In, here, later, in-map, exists-iff, onFound-true, onFound-some, and-iff, eqb-iff, Below, itself, under}
+use Rattle.laws.specs.Rows.{length-heads}
+use Rattle.theorems.specs.Lexemes.{lexeme-exactly}
+use Rattle.theorems.specs.Children.{Asks, asks-class, asks-nonterminal, asks-repetition, OneEach, nothing-left, no-child-for, one-child-for, ChildFor, this-child, past-keyword, past-child}
+use Rattle.theorems.specs.Judgement.{Along, arrived, a-field, PathTyped, Arguments, no-argument, an-argument}
+use Rattle.theorems.specs.OwnRule.{AsksText, in-its-position, in-a-sequence, Fits, a-build, a-literal, a-place, an-expand, an-if, a-for, a-sequence, ChildNode, build-child, first-branch, second-branch, loop-body, sequence-item, Stands, the-body, below}
+use Rattle.theorems.specs.HeadByHead.{in-cons, map-in, found-in, below-more}
+
+-- what a type is, from what it gives
+text-class : (f : TypeForm) (c : ℕ) → textClass f ≡ some c → f ≡ text c
+unfolding textClass
+text-class (text d) c e = ap text (Option·some-injective d c e)
+text-class yes-no c e = absurd (Option·none-ne-some c e)
+text-class (list n) c e = absurd (Option·none-ne-some c e)
+text-class (fields ns) c e = absurd (Option·none-ne-some c e)
+text-class no-type c e = absurd (Option·none-ne-some c e)
+
+yes-no-is : (f : TypeForm) → isYesNo f ≡ true → f ≡ yes-no
+unfolding isYesNo
+yes-no-is (text d) e = absurd (false≢true e)
+yes-no-is yes-no e = refl
+yes-no-is (list n) e = absurd (false≢true e)
+yes-no-is (fields ns) e = absurd (false≢true e)
+yes-no-is no-type e = absurd (false≢true e)
+
+item-type : (f : TypeForm) (n : ℕ) → itemType f ≡ some n → f ≡ list n
+unfolding itemType
+item-type (text d) n e = absurd (Option·none-ne-some n e)
+item-type yes-no n e = absurd (Option·none-ne-some n e)
+item-type (list m) n e = ap list (Option·some-injective m n e)
+item-type (fields ns) n e = absurd (Option·none-ne-some n e)
+item-type no-type n e = absurd (Option·none-ne-some n e)
+
+field-types : (f : TypeForm) (ns : List ℕ) → fieldTypes f ≡ some ns → f ≡ fields ns
+unfolding fieldTypes
+field-types (text d) ns e = absurd (Option·none-ne-some ns e)
+field-types yes-no ns e = absurd (Option·none-ne-some ns e)
+field-types (list n) ns e = absurd (Option·none-ne-some ns e)
+field-types (fields ms) ns e = ap fields (Option·some-injective ms ns e)
+field-types no-type ns e = absurd (Option·none-ne-some ns e)
+
+-- paths
+along-found : (t js : List ℕ) (ty to : ℕ) → typeAlong t js ty ≡ some to → Along t js ty to
+unfolding typeAlong
+along-found t [] ty to e = subst (λ (x : ℕ). Along t [] ty x) (Option·some-injective ty to e) (arrived ty)
+along-found t (j ∷ js) ty to e =
+    let a = onFound-some (fieldTypes (typeOf t ty)) _ to e in
+    let b = onFound-some (nth (a .0) j) _ to (a .2) in
+    a-field j ty (b .0) to js (a .0) (field-types _ (a .0) (a .1)) (b .1) (along-found t js (b .0) to (b .2))
+
+found-along : {t js : List ℕ} {ty to : ℕ} → Along t js ty to → typeAlong t js ty ≡ some to
+unfolding typeAlong fieldTypes onFound
+found-along (arrived ty) = refl
+found-along (a-field j ty next to js tys e f h) = rw (e, f) (found-along h)
+
+pub path-exactly : (t vars : List ℕ) (p ty : ℕ) → (pathType t vars p ≡ some ty) ↔ PathTyped t vars p ty
+unfolding pathType onFound
+path-exactly t vars p ty = (
+  λ e. let a = onFound-some (nth vars (variable t p)) (typeAlong t (fieldNumbers t p)) ty e in
+      record { from = a .0; variable-there = a .1; along = along-found t _ (a .0) ty (a .2) },
+  λ h. rw (h .variable-there) (found-along (h .along)),
+)
+
+arguments-found : (t vars ps tys : List ℕ) → argumentsFit t vars ps tys ≡ true → Arguments t vars ps tys
+unfolding argumentsFit
+arguments-found t vars [] [] e = no-argument
+arguments-found t vars [] (ty ∷ tys) e = absurd (false≢true e)
+arguments-found t vars (p ∷ ps) [] e = absurd (false≢true e)
+arguments-found t vars (p ∷ ps) (ty ∷ tys) e =
+    let a = and-iff _ _ .0 e in
+    let b = onFound-true (pathType t vars p) (eqb ty) .0 (a .0) in
+    an-argument p ty ps tys (path-exactly t vars p ty .0 (b .1 ∙ ap {B = Option ℕ} some (sym (eqb-iff ty (b .0) .0 (b .2))))) (arguments-found t vars ps tys (a .1))
+
+found-arguments : {t vars ps tys : List ℕ} → Arguments t vars ps tys → argumentsFit t vars ps tys ≡ true
+unfolding argumentsFit
+found-arguments no-argument = refl
+found-arguments {t} {vars} (an-argument p ty ps tys h r) =
+    and-iff _ _ .1 (onFound-true (pathType t vars p) (eqb ty) .1 (ty, path-exactly t vars p ty .1 h, eqb-iff ty ty .1 refl), found-arguments r)
+
+-- what a position asks for
+asked-text : (at : Position) (n : ℕ) → asksNonterminal at ≡ some n → AsksText at n
+unfolding asksNonterminal
+asked-text (Class c) n e = absurd (Option·none-ne-some n e)
+asked-text (Nonterminal m) n e = rw (Option·some-injective m n e) (in-its-position n)
+asked-text (Repetition m) n e = absurd (Option·none-ne-some n e)
+asked-text (Item m) n e = rw (Option·some-injective m n e) (in-a-sequence n)
+
+-- the very nonterminal
+asked-same : (at : Position) (m n : ℕ) → asksNonterminal at ≡ some n → eqb m n ≡ true → AsksText at m
+asked-same at m n e h = asked-text at m (e ∙ ap {B = Option ℕ} some (sym (eqb-iff m n .0 h)))
+
+text-asked : {at : Position} {n : ℕ} → AsksText at n → asksNonterminal at ≡ some n
+unfolding asksNonterminal
+text-asked (in-its-position n) = refl
+text-asked (in-a-sequence n) = refl
+
+asked-class : (at : Position) (c : ℕ) → asksClass at ≡ some c → at ≡ Class c
+unfolding asksClass
+asked-class (Class d) c e = ap Class (Option·some-injective d c e)
+asked-class (Nonterminal n) c e = absurd (Option·none-ne-some c e)
+asked-class (Repetition n) c e = absurd (Option·none-ne-some c e)
+asked-class (Item n) c e = absurd (Option·none-ne-some c e)
+
+asked-repetition : (at : Position) (n : ℕ) → asksRepetition at ≡ some n → at ≡ Repetition n
+unfolding asksRepetition
+asked-repetition (Class d) n e = absurd (Option·none-ne-some n e)
+asked-repetition (Nonterminal m) n e = absurd (Option·none-ne-some n e)
+asked-repetition (Repetition m) n e = ap Repetition (Option·some-injective m n e)
+asked-repetition (Item m) n e = absurd (Option·none-ne-some n e)
+
+asked-item : (at : Position) (n : ℕ) → asksItem at ≡ some n → at ≡ Item n
+unfolding asksItem
+asked-item (Class d) n e = absurd (Option·none-ne-some n e)
+asked-item (Nonterminal m) n e = absurd (Option·none-ne-some n e)
+asked-item (Repetition m) n e = absurd (Option·none-ne-some n e)
+asked-item (Item m) n e = ap Item (Option·some-injective m n e)
+
+-- The positions of a production's elements, one for each element that is no keyword
+data Positions : List Element → List Position → Type 0 where
+  no-position : Positions [] []
+  no-position-for : (x : List ℕ) (es : List Element) (as′ : List Position) → Positions es as′ → Positions (keyword x ∷ es) as′
+  one-position-for : (e : Element) (at : Position) (es : List Element) (as′ : List Position) → Asks e at → Positions es as′ → Positions (e ∷ es) (at ∷ as′)
+
+positions-of : (es : List Element) → Positions es (positions es)
+unfolding positions
+positions-of [] = no-position
+positions-of (keyword x ∷ es) = no-position-for x es _ (positions-of es)
+positions-of (lexeme c ∷ es) = one-position-for _ _ es _ (asks-class c) (positions-of es)
+positions-of (nonterminal n ∷ es) = one-position-for _ _ es _ (asks-nonterminal n) (positions-of es)
+positions-of (repetition n ∷ es) = one-position-for _ _ es _ (asks-repetition n) (positions-of es)
+
+pub position-of : {e : Element} {at : Position} (es : List Element) → Asks e at → positions (e ∷ es) ≡ at ∷ positions es
+unfolding positions
+position-of es (asks-class c) = refl
+position-of es (asks-nonterminal n) = refl
+position-of es (asks-repetition n) = refl
+
+each-one : {es : List Element} {as′ : List Position} (cs : List ℕ) → Positions es as′ → length as′ ≡ length cs → OneEach es cs
+each-one [] no-position l = nothing-left
+each-one (c ∷ cs) no-position l = absurd (omega arith)
+each-one cs (no-position-for x es as′ h) l = no-child-for x es cs (each-one cs h l)
+each-one [] (one-position-for e at es as′ a h) l = absurd (omega arith)
+each-one (c ∷ cs) (one-position-for e at es as′ a h) l = one-child-for e at c es cs a (each-one cs h (omega arith))
+
+one-each : {es : List Element} {cs : List ℕ} → OneEach es cs → length (positions es) ≡ length cs
+unfolding positions
+one-each nothing-left = refl
+one-each (no-child-for x es cs h) = one-each h
+one-each (one-child-for e at c es cs a h) = rw (position-of es a) (ap suc (one-each h))
+
+length-nodes : (t : List ℕ) (p : ℕ) → length (nodes t p) ≡ fieldD t p
+unfolding nodes
+length-nodes t p = length-heads (fieldC t) (fieldD t p) (p + 1)
+
+-- The own rule, by the node's form
+abbrev pub FitsAt : List ℕ → List ℕ → Site → Type 0
+FitsAt g t x = Fits g t (x .vars) (x .node) (x .position)
+
+path-right : (t vars : List ℕ) (p : ℕ) (f : ℕ → Bool) → onFound (pathType t vars p) false f ≡ true → (ty : ℕ) × PathTyped t vars p ty × (f ty ≡ true)
+path-right t vars p f e = let (ty, h, r) = onFound-true (pathType t vars p) f .0 e in (ty, path-exactly t vars p ty .0 h, r)
+
+pub expand-right : (g t : List ℕ) (x : Site) → suitsForm g t Expand x ≡ true
+    → (q : ℕ) × (template t (fieldB t (x .node)) ≡ some q) × AsksText (x .position) (fieldB t q) × Arguments t (x .vars) (paths t (x .node)) (parameters t q)
+unfolding suitsForm
+expand-right g t x e =
+    let (n, asked, h) = onFound-true (asksNonterminal (x .position)) _ .0 e in
+    let (q, there, r) = onFound-true (template t (fieldB t (x .node))) _ .0 h in
+    let (same, as′) = and-iff _ _ .0 r in
+    (q, there, asked-same (x .position) (fieldB t q) n asked same, arguments-found t (x .vars) _ _ as′)
+
+form-fits : (g t : List ℕ) (f : Form) (x : Site) → formOf t (x .node) ≡ f → suitsForm g t f x ≡ true → FitsAt g t x
+unfolding suitsForm
+form-fits g t Build x f e =
+    let (n, asked, h) = onFound-true (asksNonterminal (x .position)) _ .0 e in
+    let (q, there, r) = onFound-true (production g (fieldB t (x .node))) _ .0 h in
+    let (same, l) = and-iff _ _ .0 r in
+    a-build (x .position) q f there (asked-same (x .position) (fieldB g q) n asked same)
+    (each-one _ (positions-of _) (eqb-iff _ _ .0 l ∙ sym (length-nodes t (x .node))))
+form-fits g t Literal x f e =
+    let (c, asked, l) = onFound-true (asksClass (x .position)) _ .0 e in
+    rw (asked-class (x .position) c asked) (a-literal c f (lexeme-exactly g c _ .0 l))
+form-fits g t Place x f e =
+    let (c, asked, h) = onFound-true (asksClass (x .position)) _ .0 e in
+    let (ty, k, r) = path-right t (x .vars) (path (x .node)) _ h in
+    let (d, is, same) = onFound-true (textClass (typeOf t ty)) _ .0 r in
+    rw (asked-class (x .position) c asked) (a-place c ty f k (text-class _ d is ∙ ap text (sym (eqb-iff c d .0 same))))
+form-fits g t Expand x f e = let (q, there, a, as′) = expand-right g t x e in an-expand (x .position) q f there a as′
+form-fits g t If x f e =
+    let (n, asked, h) = onFound-true (asksNonterminal (x .position)) _ .0 e in
+    let (ty, k, r) = path-right t (x .vars) (path (x .node)) _ h in
+    an-if (x .position) n ty f (asked-text (x .position) n asked) k (yes-no-is _ r)
+form-fits g t For x f e =
+    let (n, asked, h) = onFound-true (asksItem (x .position)) _ .0 e in
+    let (ty, k, r) = path-right t (x .vars) (path (x .node)) _ h in
+    let (item, is) = exists-iff (itemType (typeOf t ty)) .0 r in
+    rw (asked-item (x .position) n asked) (a-for n ty item f k (item-type _ item is))
+form-fits g t Sequence x f e = let (n, asked) = exists-iff (asksRepetition (x .position)) .0 e in rw (asked-repetition (x .position) n asked) (a-sequence n f)
+form-fits g t Unknown x f e = absurd (false≢true e)
+
+fits-form : {g t vars : List ℕ} {p : ℕ} {at : Position} → Fits g t vars p at → suits g t (site vars at p) ≡ true
+unfolding suits suitsForm site asksClass asksItem asksRepetition textClass isYesNo itemType onFound exists
+fits-form {t = t} {p = p} (a-build at q f e a o) = rw (f, text-asked a, e, eqb-iff _ _ .1 refl) (eqb-iff _ _ .1 (one-each o ∙ length-nodes t p))
+fits-form {g = g} (a-literal c f l) = rw f (lexeme-exactly g c _ .1 l)
+fits-form {t = t} {vars} {p} (a-place c ty f h e) = rw (f, path-exactly t vars (path p) ty .1 h, e) (eqb-iff c c .1 refl)
+fits-form (an-expand at q f e a as′) = rw (f, text-asked a, e, eqb-iff _ _ .1 refl) (found-arguments as′)
+fits-form {t = t} {vars} {p} (an-if at n ty f a h e) = rw (f, text-asked a, path-exactly t vars (path p) ty .1 h, e)
+fits-form {t = t} {vars} {p} (a-for n ty item f h e) = rw (f, path-exactly t vars (path p) ty .1 h, e)
+fits-form (a-sequence n f) = rw f
+
+pub fits-exactly : (g t : List ℕ) (x : Site) → (suits g t x ≡ true) ↔ FitsAt g t x
+unfolding suits site
+fits-exactly g t x = (form-fits g t (formOf t (x .node)) x refl, fits-form)
+
+-- The children, by the node's form
+abbrev pub ChildAt : List ℕ → List ℕ → Site → Site → Type 0
+ChildAt g t x y = ChildNode g t (x .vars) (x .node) (x .position) (y .vars) (y .node) (y .position)
+
+in-sites : (P : Site → Type 0) (vars : List ℕ) {es : List Element} {as′ : List Position} (cs : List ℕ) {y : Site} → Positions es as′
+    → ((at : Position) (c : ℕ) → ChildFor es cs at c → P (site vars at c)) → In y (sites vars as′ cs) → P y
+unfolding sites
+in-sites P vars cs no-position h i = elim i [ ]
+in-sites P vars cs (no-position-for x es as′ ps) h i = in-sites P vars cs ps (λ at c k. h at c (past-keyword x at c es cs k)) i
+in-sites P vars [] (one-position-for e at es as′ a ps) h i = elim i [ ]
+in-sites P vars (c ∷ cs) (one-position-for e at es as′ a ps) h i =
+    in-cons P (h at c (this-child e at c es cs a)) (λ z j. in-sites P vars cs ps (λ at′ d k. h at′ d (past-child e at′ at d c es cs a k)) j) i
+
+sites-in : (vars : List ℕ) {es : List Element} {cs : List ℕ} {at : Position} {c : ℕ} → ChildFor es cs at c → In (site vars at c) (sites vars (positions es) cs)
+unfolding sites positions
+sites-in vars (this-child e at c es cs a) = rw (position-of es a) (here _)
+sites-in vars (past-keyword x at c es cs k) = sites-in vars k
+sites-in vars (past-child e at at′ c c′ es cs a k) = rw (position-of es a) (later _ _ (sites-in vars k))
+
+form-child : (g t : List ℕ) (f : Form) (x : Site) {y : Site} → formOf t (x .node) ≡ f → In y (sitesOf g t f x) → ChildAt g t x y
+unfolding sitesOf site
+form-child g t Build x f i =
+    let (q, there, j) = found-in (production g (fieldB t (x .node))) _ i in
+    in-sites (ChildAt g t x) (x .vars) _ (positions-of _) (λ at c k. build-child (x .position) at q c f there k) j
+form-child g t Literal x f i = elim i [ ]
+form-child g t Place x f i = elim i [ ]
+form-child g t Expand x f i = elim i [ ]
+form-child g t If x f i =
+    let (n, asked, j) = found-in (asksNonterminal (x .position)) _ i in
+    let a = asked-text (x .position) n asked in
+    in-cons (ChildAt g t x) (first-branch (x .position) n f a)
+    (λ z. in-cons (ChildAt g t x) (second-branch (x .position) n f a) (λ w k. elim k [ ])) j
+form-child g t For x f i =
+    let (n, asked, j) = found-in (asksItem (x .position)) _ i in
+    let (ty, h, k) = found-in (pathType t (x .vars) (path (x .node))) _ j in
+    let (item, is, l) = found-in (itemType (typeOf t ty)) _ k in
+    in-cons (ChildAt g t x)
+    (subst (λ (at : Position). ChildNode g t (x .vars) (x .node) at (x .vars ++ item ∷ []) (first (x .node)) (Nonterminal n))
+    (sym (asked-item (x .position) n asked)) (loop-body n ty item f (path-exactly t _ _ ty .0 h) (item-type _ item is)))
+    (λ z m. elim m [ ]) l
+form-child g t Sequence x f i =
+    let (n, asked, j) = found-in (asksRepetition (x .position)) _ i in
+    map-in (ChildAt g t x) (site (x .vars) (Item n)) (nodes t (x .node))
+    (λ c k. subst (λ (at : Position). ChildNode g t (x .vars) (x .node) at (x .vars) c (Item n)) (sym (asked-repetition (x .position) n asked))
+    (sequence-item n c f k)) j
+form-child g t Unknown x f i = elim i [ ]
+
+child-form : {g t vars vars′ : List ℕ} {p c : ℕ} {at at′ : Position} → ChildNode g t vars p at vars′ c at′
+    → In (site vars′ at′ c) (sitesBelow g t (site vars at p))
+unfolding sitesBelow sitesOf site asksItem asksRepetition itemType onFound
+child-form {vars = vars} (build-child at at′ q c f e k) = rw (f, e) (sites-in vars k)
+child-form (first-branch at n f a) = rw (f, text-asked a) (here _)
+child-form (second-branch at n f a) = rw (f, text-asked a) (later _ _ (here _))
+child-form {t = t} {vars} {p = p} (loop-body n ty item f h e) = rw (f, path-exactly t vars (path p) ty .1 h, e) (here _)
+child-form {vars = vars} (sequence-item n c f i) = rw f (in-map (site vars (Item n)) i)
+
+pub child-exactly : (g t : List ℕ) (x y : Site) → In y (sitesBelow g t x) ↔ ChildAt g t x y
+unfolding sitesBelow site
+child-exactly g t x y = (form-child g t (formOf t (x .node)) x refl, child-form)
+
+-- where the nodes of a template stand
+below-stands : {g t : List ℕ} {p d : ℕ} {x y : Site} → Stands g t p (x .vars) (x .node) (x .position) → Below (sitesBelow g t) x d y
+    → Stands g t p (y .vars) (y .node) (y .position)
+below-stands s (itself x) = s
+below-stands {g} {t} s (under x c y d i b) = below-stands (below _ _ _ _ _ _ s (child-exactly g t x c .0 i)) b
+
+stands-below : {g t vars : List ℕ} {p q : ℕ} {at : Position} → Stands g t p vars q at → (d : ℕ) × Below (sitesBelow g t) (bodySite t p) d (site vars at q)
+unfolding bodySite
+stands-below the-body = (0, itself _)
+stands-below (below vars vars′ q c at at′ s k) = let (d, b) = stands-below s in (suc d, below-more b (child-form k))
+
+pub stands-exactly : (g t : List ℕ) (p : ℕ) (x : Site) → ((d : ℕ) × Below (sitesBelow g t) (bodySite t p) d x) ↔ Stands g t p (x .vars) (x .node) (x .position)
+unfolding bodySite site
+stands-exactly g t p x = (λ b. below-stands the-body (b .1), stands-below)
