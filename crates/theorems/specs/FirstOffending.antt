@@ -28,11 +28,13 @@ use Rattle.theorems.specs.Streams.{WellSized, length-exactly, block-exac
 use Rattle.theorems.specs.LaidOut.{InRow, no-thing, one-thing, GrammarLaid, NamingAt, TypeAt, TemplateAt, TemplatesLaid, ValueLaid}
 use Rattle.theorems.specs.Heads.{element-size, element-grows}
 use Rattle.theorems.specs.LayoutExactly.{grammar-laid-exactly, templates-laid-exactly, value-laid-exactly}
-use Rattle.theorems.specs.LimitsExactly.{limits-exactly, value-limits-exactly, not-deep, nonterminal-iff, element-names, type-names, node-names, numbered-in}
+use Rattle.theorems.specs.LimitsExactly.{limits-exactly, not-deep, nonterminal-iff, element-names, type-names, node-names, numbered-in}
 use Rattle.theorems.specs.Judgement.{Declared}
-use Rattle.theorems.specs.TypingExactly.{declared-exactly}
+use Rattle.theorems.specs.OwnRuleExactly.{fits-exactly, stands-exactly}
+use Rattle.theorems.specs.TypingExactly.{sites-shallow, declared-exactly}
+use Rattle.theorems.specs.ValueExactly.{form-exactly, should-exactly, values-shallow}
 use Rattle.theorems.specs.Least.{First, Least, first-same, first-need, first-none, first-both, least-same, least-wide, least-need, least-both, rows-heads, Some, least-every, least-heads, least-tests, Offends, too-deep, fails, least-tree, Fails, failing, least-shallow}
-use Rattle.theorems.specs.Ranges.{AnyClass, AnyProduction, class-rows, production-rows, type-rows, template-rows, Leading, stops, goes-on, rows-leading, below-leading, standing-leading, nodes-standing, values-standing, looped-leading, sites-leading, typed-leading}
+use Rattle.theorems.specs.Ranges.{AnyClass, AnyProduction, class-rows, production-rows, type-rows, template-rows, Leading, stops, goes-on, rows-leading, standing-leading, nodes-standing, values-standing, looped-leading, sites-leading, typed-leading}
 use Rattle.theorems.specs.Offences.{WrongBlock, Laid, TemplateOver, over-8-parameters, over-200-deep, over-16-loops, OverLimits, a-template, a-value, GrammarUnnamed, by-element, TypeUnnamed, by-type, by-field, TemplateUnnamed, by-template, by-parameter, by-node, TemplatesUnnamed, in-type, in-template, WrongClass, least-above-most, lowest-above-highest, past-unicode, Misfit, undeclared, unsuited, Mistyped, not-of-type}
 
 -- a test fails where what it decides does not hold
@@ -151,13 +153,9 @@ first-over (Answers.value v) w h =
     rw (← at-itself (tree (λ w. true) (valuesBelow v) deepest 0))
     (first-same (λ q. (value-over v q, over-value v q)) (least-tree (values-standing v) (λ w. true) deepest 0 0 (h .end) (refl, h .value) .first))
 
--- after it no node and no value is over 200 deep
+-- after it no node is over 200 deep
 node-shallow : (t : List ℕ) → templatesLimits t ≡ none → (p : ℕ) → In p (templates t) → (d q : ℕ) → Below (nodesBelow t) (body t p) d q → d < deepest
 node-shallow t l p i = not-deep t p (limits-exactly t .0 l p i)
-
-value-shallow : (v : List ℕ) → valueLimits v ≡ none → (d w : ℕ) → Below (valuesBelow v) 0 d w → d < deepest
-unfolding deepest
-value-shallow v l d w b = let z = value-limits-exactly v .0 l d w b in omega arith
 
 -- 5. Of a production: its elements' tests
 abbrev ElementIn : List ℕ → ℕ → ℕ → Type 0
@@ -317,11 +315,16 @@ declared-iff t = (
 
 misfit-to : (g t : List ℕ) (q : ℕ) → MisfitIn g t q → Misfit g t q
 misfit-to g t q (inl (e, b)) = subst (Misfit g t) (sym e) (undeclared (λ ty d. fails-iff _ (declared-iff t) .0 b (ty, d)))
-misfit-to g t q (inr (p, i, failing d x b e)) = unsuited p d x i b e
+misfit-to g t q (inr (p, i, failing d x b e)) =
+    unsuited p (x .node) (x .vars) (x .position) i (stands-exactly g t p x .0 (d, b)) (fails-iff _ (fits-exactly g t x) .0 e)
 
 misfit-from : (g t : List ℕ) (q : ℕ) → Misfit g t q → MisfitIn g t q
+unfolding site
 misfit-from g t q (undeclared n) = inl (refl, fails-iff _ (declared-iff t) .1 (λ d. n (d .0) (d .1)))
-misfit-from g t q (unsuited p d x i b e) = inr (p, i, failing d x b e)
+misfit-from g t q (unsuited p r vars at i s n) =
+    let x = site vars at r in
+    let (d, b) = stands-exactly g t p x .1 s in
+    inr (p, i, failing d x b (fails-iff _ (fits-exactly g t x) .1 n))
 
 least-unsuited : (g t : List ℕ) → templatesLimits t ≡ none → (p q : ℕ) → In p (templates t) → TemplateAt t p q
     → Least (Fails (suits g t) (sitesBelow g t) (λ x. x .node) (bodySite t p)) p q (at (λ x. x .node) (misfit g t deepest (bodySite t p)))
@@ -329,8 +332,7 @@ unfolding misfit bodySite site body
 least-unsuited g t l p q i a =
     least-wide (omega arith) (omega arith)
     (least-shallow (standing-leading (λ x. x .node) (sitesBelow g t) (nodesBelow t) (sites-leading g t) (nodes-standing t))
-    (suits g t) deepest (bodySite t p) (p + 1 + fieldA t p) q (refl, a .body)
-    (λ d x b. node-shallow t l p i d (x .node) (below-leading (λ x. x .node) (sitesBelow g t) (nodesBelow t) (sites-leading g t) b)))
+    (suits g t) deepest (bodySite t p) (p + 1 + fieldA t p) q (refl, a .body) (sites-shallow g t p (limits-exactly t .0 l p i)))
 
 pub first-misfit : (g t : List ℕ) → WellSized t → TemplatesLaid t → templatesLimits t ≡ none → First (Misfit g t) (templatesTyping g t)
 unfolding templatesTyping
@@ -340,12 +342,14 @@ first-misfit g t w h l =
 
 -- 8
 mistyped-to : (g t v : List ℕ) (ty : ℕ) → Declared t ty → (q : ℕ) → Fails (hasType g t v) (typedBelow t v) (λ x. x .value) (typed ty 0) q → Mistyped g t v q
-mistyped-to g t v ty e q (failing d x b f) = not-of-type ty d x e b f
+mistyped-to g t v ty e q (failing d x b f) =
+    not-of-type (x .type) (x .value) (should-exactly t v ty x e .0 (d, b)) (fails-iff _ (form-exactly g t v x) .0 f)
 
 mistyped-from : (g t v : List ℕ) (ty : ℕ) → Declared t ty → (q : ℕ) → Mistyped g t v q → Fails (hasType g t v) (typedBelow t v) (λ x. x .value) (typed ty 0) q
-mistyped-from g t v ty e q (not-of-type u d x f b n) =
-    let same : u ≡ ty = Option·some-injective u ty (sym (declared-exactly t u .1 f) ∙ declared-exactly t ty .1 e) in
-    failing d x (subst (λ (z : ℕ). Below (typedBelow t v) (typed z 0) d x) same b) n
+unfolding typed
+mistyped-from g t v ty e q (not-of-type to w s n) =
+    let (d, b) = should-exactly t v ty (typed to w) e .1 s in
+    failing d (typed to w) b (fails-iff _ (form-exactly g t v (typed to w)) .1 n)
 
 pub first-mistyped : (g t v : List ℕ) (ty : ℕ) → Declared t ty → ValueLaid v → valueLimits v ≡ none → First (Mistyped g t v) (valueTyping g t v)
 unfolding valueTyping mistyped onFound typed
@@ -353,5 +357,4 @@ first-mistyped g t v ty e h l =
     rw (declared-exactly t ty .1 e)
     (first-same (λ q. (mistyped-to g t v ty e q, mistyped-from g t v ty e q))
     (least-shallow (standing-leading (λ x. x .value) (typedBelow t v) (valuesBelow v) (typed-leading t v) (values-standing v))
-    (hasType g t v) deepest (typed ty 0) 0 (h .end) (refl, h .value)
-    (λ d x b. value-shallow v l d (x .value) (below-leading (λ x. x .value) (typedBelow t v) (valuesBelow v) (typed-leading t v) b)) .first))
+    (hasType g t v) deepest (typed ty 0) 0 (h .end) (refl, h .value) (values-shallow t v ty l) .first))

@@ -2,7 +2,6 @@
 use mathlib.Core.Path.{_≡_}
 use Prim.Native.Nat.{ℕ, suc, _/_, _≤_, _<_}
 use mathlib.Core.List.{List, _∷_}
-use mathlib.Core.Bool.{false}
 use mathlib.Core.Option.{Option, some}
 use lib.ListN.{length}
 use Rattle.rules.specs.Records.{fieldA, fieldB, fieldC}
@@ -11,7 +10,7 @@ use Rattle.rules.specs.Grammar.{classes, productions, elementAt, elementHeads}
 use Rattle.rules.specs.Templates.{type, typeAt, fieldHeads, templates, parameterHeads, body, formOf, nodesBelow}
 use Rattle.rules.specs.Value.{valuesBelow}
 use Rattle.rules.specs.Limits.{Looped, looped, loopedBelow}
-use Rattle.rules.specs.Typing.{Site, suits, sitesBelow, bodySite, Typed, typed, hasType, typedBelow}
+use Rattle.rules.specs.declared.Position.{Position}
 use Rattle.rules.specs.Answers
 use Rattle.rules.specs.Answers.{Stream, streamKind, bytesOf}
 use Rattle.laws.specs.Faults.{In, Below}
@@ -19,6 +18,7 @@ use Rattle.theorems.specs.Streams.{WellSized, RightBlock}
 use Rattle.theorems.specs.LaidOut.{GrammarLaid, TemplatesLaid, ValueLaid}
 use Rattle.theorems.specs.LimitsExactly.{Exists, HasProduction, ElementNames, TypeNames, NodeNames}
 use Rattle.theorems.specs.Judgement.{Declared}
+use Rattle.theorems.specs.OwnRule.{Fits, Stands, OfForm, ShouldBe}
 
 -- 2: "A block has a wrong number, kind, byte 3 or check (place: block)."
 pub record WrongBlock (kind : ℕ) (s : List ℕ) (n : ℕ) : Type 0 where
@@ -70,11 +70,11 @@ pub data WrongClass (g : List ℕ) (p : ℕ) : ℕ → Type 0 where
 -- never the one above it; 0, and tried first, if template 0 is missing or has not one parameter)."
 pub data Misfit (g t : List ℕ) : ℕ → Type 0 where
   undeclared : ((ty : ℕ) → Declared t ty → ⊥) → Misfit g t 0
-  unsuited : (p d : ℕ) (x : Site) → In p (templates t) → Below (sitesBelow g t) (bodySite t p) d x → suits g t x ≡ false → Misfit g t (x .node)
+  unsuited : (p q : ℕ) (vars : List ℕ) (at : Position) → In p (templates t) → Stands g t p vars q at → (Fits g t vars q at → ⊥) → Misfit g t q
 
--- 8: "The value isn't of its declared type." A value in it is not of the type that it should have:
+-- 8: "The value isn't of its declared type." A value in it is not, by its own rule, of the type that it should be of:
 pub data Mistyped (g t v : List ℕ) : ℕ → Type 0 where
-  not-of-type : (ty d : ℕ) (x : Typed) → Declared t ty → Below (typedBelow t v) (typed ty 0) d x → hasType g t v x ≡ false → Mistyped g t v (x .value)
+  not-of-type : (ty w : ℕ) → ShouldBe t v ty w → (OfForm g t v ty w → ⊥) → Mistyped g t v w
 
 -- All of these, by the refusal's number, the stream's kind and the place. Of a grammar, a template set and more streams; the check call has
 -- no more streams, and no scratch. "1 has place 0; 9 has kind and place 0."
