@@ -13,7 +13,7 @@ use Rattle.rules.specs.Grammar.{Element, keyword, lexeme, nonterminal, repetiti
 use Rattle.rules.specs.Templates.{template, formOf, path, first, second}
 use Rattle.rules.specs.Value.{asYesNo}
 use Rattle.rules.specs.Limits.{deepest}
-use Rattle.rules.specs.Walk.{Input, State, start, Limit, fuel-spent, too-deep, output-full, End, done, ended, stuck, andThen, pathValue, write}
+use Rattle.rules.specs.Walk.{Input, State, start, Limit, fuel-spent, too-deep, output-full, End, done, ended, stuck, andThen, write}
 use Rattle.rules.specs.Walk.{inOrder, withChild, pieces, visitForm, counted, reached, visit, walk}
 use Rattle.rules.specs.declared.Form.{Form}
 use Rattle.rules.specs.declared.Form.the-variants.{Build, Literal, Place, Expand, If, For, Sequence, Unknown}

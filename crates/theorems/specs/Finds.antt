@@ -31,11 +31,15 @@ pub data FindsAll (t v env : List ℕ) : List ℕ → List ℕ → Type 0 where
   one-path : {p w : ℕ} {ps ws : List ℕ} → Finds t v env p w → FindsAll t v env ps ws → FindsAll t v env (p ∷ ps) (w ∷ ws)
 
 -- a value of a kind is what it is: a text's bytes, whether a yes/no is yes, the items of a list, the fields of a record
+pub of-kind : {A : Type 0} (v : List ℕ) (w kind : ℕ) (a x : A) → onlyIf (eqb (kindOf v w) kind) a ≡ some x → (kindOf v w ≡ kind) × (a ≡ x)
+of-kind v w kind a x e = let r = only-if-iff _ a x .0 e in (eqb-iff _ _ .0 (r .0), r .1)
+
+pub kind-of : {A : Type 0} (v : List ℕ) (w kind : ℕ) (a : A) → kindOf v w ≡ kind → onlyIf (eqb (kindOf v w) kind) a ≡ some a
+unfolding onlyIf
+kind-of v w kind a e = rw (eqb-iff _ _ .1 e)
+
 kind-exactly : {A : Type 0} (v : List ℕ) (w kind : ℕ) (a x : A) → (onlyIf (eqb (kindOf v w) kind) a ≡ some x) ↔ ((kindOf v w ≡ kind) × (a ≡ x))
-kind-exactly v w kind a x = (
-  λ e. let r = only-if-iff _ a x .0 e in (eqb-iff _ _ .0 (r .0), r .1),
-  λ h. only-if-iff _ a x .1 (eqb-iff _ _ .1 (h .0), h .1),
-)
+kind-exactly v w kind a x = (of-kind v w kind a x, λ h. kind-of v w kind a (h .0) ∙ ap some (h .1))
 
 eqb-fails : (a b : ℕ) → (eqb a b ≡ false) ↔ (a ≡ b → ⊥)
 eqb-fails a b = (eqb-false a b, ne-eqb a b)

@@ -1,4 +1,5 @@
 pub mod Streams
+pub mod Readings
 pub mod LaidOut
 pub mod Heads
 pub mod LayoutExactly
@@ -6,6 +7,7 @@ pub mod LimitsExactly
 pub mod Utf8
 pub mod Lexemes
 pub mod Children
+pub mod Finds
 pub mod Judgement
 pub mod OwnRule
 pub mod HeadByHead
@@ -19,7 +21,6 @@ pub mod Ranges
 pub mod Offences
 pub mod FirstOffending
 pub mod FirstRefused
-pub mod Finds
 pub mod Levels
 pub mod Visits
 pub mod Bounds

@@ -26,7 +26,8 @@ use Rattle.theorems.specs.Judgement.{Suits, by-build, by-literal, by-pla
 use Rattle.theorems.specs.Judgement.{Fills, all-filled, no-child, a-child, Items, no-item, an-item}
 use Rattle.theorems.specs.Judgement.{OfType, of-text, of-yes-no, of-list, of-record, AllOf, none-left, one-of, EachOf, no-field}
 use Rattle.theorems.specs.TypingExactly.{misfit-suits, declared-exactly}
-use Rattle.theorems.specs.ValueExactly.{kind-of, mistyped-of}
+use Rattle.theorems.specs.ValueExactly.{mistyped-of}
+use Rattle.theorems.specs.Finds.{kind-of}
 
 -- What the walk finds at a value of a type, by the type's form
 abbrev Shaped : List ℕ → List ℕ → List ℕ → ℕ → TypeForm → Type 0

@@ -15,22 +15,15 @@ use Rattle.rules.specs.Templates.{TypeForm, text, yes-no, list, fields, no-type
 use Rattle.rules.specs.Value.{children, asText, asYesNo, asList, asRecord, valuesBelow}
 use Rattle.rules.specs.Limits.{deepest, valueLimits}
 use Rattle.rules.specs.Typing.{Typed, typed, hasForm, hasType, paired, typedOf, typedBelow, mistyped, declaredType, valueTyping}
-use Rattle.laws.specs.Faults.{In, here, later, in-map, exists-iff, onFound-true, onFound-none, only-if-iff, eqb-iff, at-none, Below, itself, under, tree-in}
+use Rattle.laws.specs.Faults.{In, here, later, in-map, exists-iff, onFound-true, onFound-none, eqb-iff, at-none, Below, itself, under, tree-in}
 use Rattle.theorems.specs.Lexemes.{lexeme-exactly}
+use Rattle.theorems.specs.Finds.{of-kind, kind-of}
 use Rattle.theorems.specs.Judgement.{OfType, of-text, of-yes-no, of-list, of-record, AllOf, none-left, one-of, EachOf, no-field, a-field, Declared}
 use Rattle.theorems.specs.OwnRule.{OfForm, a-text, a-yes-no, a-list, a-record, ChildValue, list-item, record-field, ShouldBe, the-whole, inside}
 use Rattle.theorems.specs.HeadByHead.{in-cons, map-in, found-in, below-more, tree-judged, judged-exactly, each-exactly}
 use Rattle.theorems.specs.TypingExactly.{declared-exactly}
 use Rattle.theorems.specs.Least.{in-none}
 use Rattle.theorems.specs.Ranges.{below-leading, typed-leading}
-
--- a value of a kind is what it is
-of-kind : {A : Type 0} (v : List ℕ) (w kind : ℕ) (a x : A) → onlyIf (eqb (kindOf v w) kind) a ≡ some x → (kindOf v w ≡ kind) × (a ≡ x)
-of-kind v w kind a x e = let r = only-if-iff _ a x .0 e in (eqb-iff _ _ .0 (r .0), r .1)
-
-pub kind-of : {A : Type 0} (v : List ℕ) (w kind : ℕ) (a : A) → kindOf v w ≡ kind → onlyIf (eqb (kindOf v w) kind) a ≡ some a
-unfolding onlyIf
-kind-of v w kind a e = rw (eqb-iff _ _ .1 e)
 
 kind-in : {A B : Type 0} (v : List ℕ) (w kind : ℕ) (a : A) (f : A → List B) {y : B} → In y (onFound (onlyIf (eqb (kindOf v w) kind) a) [] f)
     → (kindOf v w ≡ kind) × In y (f a)
