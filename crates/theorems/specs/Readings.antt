@@ -5,7 +5,7 @@ use mathlib.Core.List.{List, map}
 use native.Mathlib.Omega.{arith}
 use Rattle.rules.specs.Records.{fieldA, fieldB, textOf}
 use Rattle.rules.specs.Grammar.{Element, keyword, lexeme, nonterminal, repetition, elementNumbered, elementAt}
-use Rattle.rules.specs.Templates.{TypeForm, text, yes-no, list, fields, no-type, fieldHeads, typeNumbered, typeAt}
+use Rattle.rules.specs.Templates.{TypeForm, text, yes-no, list, fields, fieldHeads, typeNumbered, typeAt}
 
 -- "4 element: a = 0 keyword (b bytes of text follow), 1 class b, 2 nonterminal b, 3 repetition of nonterminal b."
 pub data ElementIs (g : List ℕ) (e : ℕ) : Element → Type 0 where
