@@ -8,7 +8,7 @@ use mathlib.Core.Option.{Option, none, some, Option·some-ne-none, Option·none-
 use native.Mathlib.Omega.{arith}
 use Rattle.rules.specs.Faults.{need, both, every, tree, at}
 use Rattle.rules.specs.Records.{heads}
-use Rattle.laws.specs.Faults.{In, here, later, Below, itself, under}
+use Rattle.laws.specs.Faults.{In, here, later, at-both, Below, itself, under}
 use Rattle.theorems.specs.LaidOut.{InRow, no-thing, one-thing}
 
 -- f answers the first of all that offends, in an order, and none where nothing offends
@@ -186,11 +186,6 @@ pub record Standing {A : Type 0} (below : A → List A) (place : A → ℕ) (Sta
   pub rest : {x : A} {lo hi : ℕ} → Stands x lo hi → Rows Stands (below x) (lo + 1) hi
 
 -- the place of what a check finds is what the check of the places finds
-at-both : {A : Type 0} (place : A → ℕ) (a b : Option A) → at place (both a b) ≡ both (at place a) (at place b)
-unfolding at both
-at-both place none b = refl
-at-both place (some x) b = refl
-
 at-need : {A : Type 0} (place : A → ℕ) (b : Bool) (x : A) → at place (need b x) ≡ need b (place x)
 unfolding at need
 at-need place true x = refl

@@ -11,6 +11,7 @@ pub mod Finds
 pub mod Judgement
 pub mod OwnRule
 pub mod HeadByHead
+pub mod Lookups
 pub mod OwnRuleExactly
 pub mod TypingExactly
 pub mod ValueExactly

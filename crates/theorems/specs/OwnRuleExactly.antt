@@ -4,135 +4,27 @@ use mathlib.Core.Logic.{_↔_}
 use Prim.Native.Nat.{ℕ, suc, _+_}
 use mathlib.Core.List.{List, [], _∷_, _++_}
 use mathlib.Core.Bool.{Bool, true, false, false≢true}
-use mathlib.Core.Option.{Option, some, Option·none-ne-some, Option·some-injective}
+use mathlib.Core.Option.{some}
 use native.Mathlib.Omega.{arith}
 use lib.ListN.{length}
-use lib.Dec.{eqb}
 use Rattle.rules.specs.Faults.{onFound, exists}
-use Rattle.rules.specs.Records.{fieldB, fieldC, fieldD, nth}
+use Rattle.rules.specs.Records.{fieldB, fieldC, fieldD}
 use Rattle.rules.specs.Grammar.{production, Element, keyword, lexeme, nonterminal, repetition}
-use Rattle.rules.specs.Templates.{TypeForm, text, yes-no, list, fields, no-type, typeOf, template, parameters, formOf, nodes, paths, path, first, variable, fieldNumbers}
-use Rattle.rules.specs.Typing.{asksClass, asksNonterminal, asksRepetition, asksItem, positions, textClass, isYesNo, itemType, fieldTypes, typeAlong, pathType, argumentsFit, Site, site, suitsForm, suits, sites, sitesOf, sitesBelow, bodySite}
+use Rattle.rules.specs.Templates.{text, typeOf, template, parameters, formOf, nodes, paths, path, first}
+use Rattle.rules.specs.Typing.{asksClass, asksNonterminal, asksRepetition, asksItem, positions, textClass, isYesNo, itemType, pathType, Site, site, suitsForm, suits, sites, sitesOf, sitesBelow, bodySite}
 use Rattle.rules.specs.declared.Form.{Form}
 use Rattle.rules.specs.declared.Form.the-variants.{Build, Literal, Place, Expand, If, For, Sequence, Unknown}
 use Rattle.rules.specs.declared.Position.{Position}
-use Rattle.rules.specs.declared.Position.the-variants.{Class, Nonterminal, Repetition, Item}
-use Rattle.laws.specs.Faults.{In, here, later, in-map, exists-iff, onFound-true, onFound-some, and-iff, eqb-iff, Below, itself, under}
+use Rattle.rules.specs.declared.Position.the-variants.{Nonterminal, Item}
+use Rattle.laws.specs.Faults.{In, here, later, in-map, exists-iff, onFound-true, and-iff, eqb-iff, Below, itself, under}
 use Rattle.laws.specs.Rows.{length-heads}
 use Rattle.theorems.specs.Lexemes.{lexeme-exactly}
 use Rattle.theorems.specs.Children.{Asks, asks-class, asks-nonterminal, asks-repetition, OneEach, nothing-left, no-child-for, one-child-for, ChildFor, this-child, past-keyword, past-child}
-use Rattle.theorems.specs.Judgement.{Along, arrived, a-field, PathTyped, Arguments, no-argument, an-argument}
-use Rattle.theorems.specs.OwnRule.{AsksText, in-its-position, in-a-sequence, Fits, a-build, a-literal, a-place, an-expand, an-if, a-for, a-sequence, ChildNode, build-child, first-branch, second-branch, loop-body, sequence-item, Stands, the-body, below}
+use Rattle.theorems.specs.Judgement.{PathTyped, Arguments}
+use Rattle.theorems.specs.OwnRule.{AsksText, Fits, a-build, a-literal, a-place, an-expand, an-if, a-for, a-sequence, ChildNode, build-child, first-branch, second-branch, loop-body, sequence-item, Stands, the-body, below}
 use Rattle.theorems.specs.HeadByHead.{in-cons, map-in, found-in, below-more}
-
--- what a type is, from what it gives
-text-class : (f : TypeForm) (c : ℕ) → textClass f ≡ some c → f ≡ text c
-unfolding textClass
-text-class (text d) c e = ap text (Option·some-injective d c e)
-text-class yes-no c e = absurd (Option·none-ne-some c e)
-text-class (list n) c e = absurd (Option·none-ne-some c e)
-text-class (fields ns) c e = absurd (Option·none-ne-some c e)
-text-class no-type c e = absurd (Option·none-ne-some c e)
-
-yes-no-is : (f : TypeForm) → isYesNo f ≡ true → f ≡ yes-no
-unfolding isYesNo
-yes-no-is (text d) e = absurd (false≢true e)
-yes-no-is yes-no e = refl
-yes-no-is (list n) e = absurd (false≢true e)
-yes-no-is (fields ns) e = absurd (false≢true e)
-yes-no-is no-type e = absurd (false≢true e)
-
-item-type : (f : TypeForm) (n : ℕ) → itemType f ≡ some n → f ≡ list n
-unfolding itemType
-item-type (text d) n e = absurd (Option·none-ne-some n e)
-item-type yes-no n e = absurd (Option·none-ne-some n e)
-item-type (list m) n e = ap list (Option·some-injective m n e)
-item-type (fields ns) n e = absurd (Option·none-ne-some n e)
-item-type no-type n e = absurd (Option·none-ne-some n e)
-
-field-types : (f : TypeForm) (ns : List ℕ) → fieldTypes f ≡ some ns → f ≡ fields ns
-unfolding fieldTypes
-field-types (text d) ns e = absurd (Option·none-ne-some ns e)
-field-types yes-no ns e = absurd (Option·none-ne-some ns e)
-field-types (list n) ns e = absurd (Option·none-ne-some ns e)
-field-types (fields ms) ns e = ap fields (Option·some-injective ms ns e)
-field-types no-type ns e = absurd (Option·none-ne-some ns e)
-
--- paths
-along-found : (t js : List ℕ) (ty to : ℕ) → typeAlong t js ty ≡ some to → Along t js ty to
-unfolding typeAlong
-along-found t [] ty to e = subst (λ (x : ℕ). Along t [] ty x) (Option·some-injective ty to e) (arrived ty)
-along-found t (j ∷ js) ty to e =
-    let a = onFound-some (fieldTypes (typeOf t ty)) _ to e in
-    let b = onFound-some (nth (a .0) j) _ to (a .2) in
-    a-field j ty (b .0) to js (a .0) (field-types _ (a .0) (a .1)) (b .1) (along-found t js (b .0) to (b .2))
-
-found-along : {t js : List ℕ} {ty to : ℕ} → Along t js ty to → typeAlong t js ty ≡ some to
-unfolding typeAlong fieldTypes onFound
-found-along (arrived ty) = refl
-found-along (a-field j ty next to js tys e f h) = rw (e, f) (found-along h)
-
-pub path-exactly : (t vars : List ℕ) (p ty : ℕ) → (pathType t vars p ≡ some ty) ↔ PathTyped t vars p ty
-unfolding pathType onFound
-path-exactly t vars p ty = (
-  λ e. let a = onFound-some (nth vars (variable t p)) (typeAlong t (fieldNumbers t p)) ty e in
-      record { from = a .0; variable-there = a .1; along = along-found t _ (a .0) ty (a .2) },
-  λ h. rw (h .variable-there) (found-along (h .along)),
-)
-
-arguments-found : (t vars ps tys : List ℕ) → argumentsFit t vars ps tys ≡ true → Arguments t vars ps tys
-unfolding argumentsFit
-arguments-found t vars [] [] e = no-argument
-arguments-found t vars [] (ty ∷ tys) e = absurd (false≢true e)
-arguments-found t vars (p ∷ ps) [] e = absurd (false≢true e)
-arguments-found t vars (p ∷ ps) (ty ∷ tys) e =
-    let a = and-iff _ _ .0 e in
-    let b = onFound-true (pathType t vars p) (eqb ty) .0 (a .0) in
-    an-argument p ty ps tys (path-exactly t vars p ty .0 (b .1 ∙ ap {B = Option ℕ} some (sym (eqb-iff ty (b .0) .0 (b .2))))) (arguments-found t vars ps tys (a .1))
-
-found-arguments : {t vars ps tys : List ℕ} → Arguments t vars ps tys → argumentsFit t vars ps tys ≡ true
-unfolding argumentsFit
-found-arguments no-argument = refl
-found-arguments {t} {vars} (an-argument p ty ps tys h r) =
-    and-iff _ _ .1 (onFound-true (pathType t vars p) (eqb ty) .1 (ty, path-exactly t vars p ty .1 h, eqb-iff ty ty .1 refl), found-arguments r)
-
--- what a position asks for
-asked-text : (at : Position) (n : ℕ) → asksNonterminal at ≡ some n → AsksText at n
-unfolding asksNonterminal
-asked-text (Class c) n e = absurd (Option·none-ne-some n e)
-asked-text (Nonterminal m) n e = rw (Option·some-injective m n e) (in-its-position n)
-asked-text (Repetition m) n e = absurd (Option·none-ne-some n e)
-asked-text (Item m) n e = rw (Option·some-injective m n e) (in-a-sequence n)
-
--- the very nonterminal
-asked-same : (at : Position) (m n : ℕ) → asksNonterminal at ≡ some n → eqb m n ≡ true → AsksText at m
-asked-same at m n e h = asked-text at m (e ∙ ap {B = Option ℕ} some (sym (eqb-iff m n .0 h)))
-
-text-asked : {at : Position} {n : ℕ} → AsksText at n → asksNonterminal at ≡ some n
-unfolding asksNonterminal
-text-asked (in-its-position n) = refl
-text-asked (in-a-sequence n) = refl
-
-asked-class : (at : Position) (c : ℕ) → asksClass at ≡ some c → at ≡ Class c
-unfolding asksClass
-asked-class (Class d) c e = ap Class (Option·some-injective d c e)
-asked-class (Nonterminal n) c e = absurd (Option·none-ne-some c e)
-asked-class (Repetition n) c e = absurd (Option·none-ne-some c e)
-asked-class (Item n) c e = absurd (Option·none-ne-some c e)
-
-asked-repetition : (at : Position) (n : ℕ) → asksRepetition at ≡ some n → at ≡ Repetition n
-unfolding asksRepetition
-asked-repetition (Class d) n e = absurd (Option·none-ne-some n e)
-asked-repetition (Nonterminal m) n e = absurd (Option·none-ne-some n e)
-asked-repetition (Repetition m) n e = ap Repetition (Option·some-injective m n e)
-asked-repetition (Item m) n e = absurd (Option·none-ne-some n e)
-
-asked-item : (at : Position) (n : ℕ) → asksItem at ≡ some n → at ≡ Item n
-unfolding asksItem
-asked-item (Class d) n e = absurd (Option·none-ne-some n e)
-asked-item (Nonterminal m) n e = absurd (Option·none-ne-some n e)
-asked-item (Repetition m) n e = absurd (Option·none-ne-some n e)
-asked-item (Item m) n e = ap Item (Option·some-injective m n e)
+use Rattle.theorems.specs.Lookups.{text-class, yes-no-is, item-type, path-exactly, arguments-found, found-arguments, asked-text, asked-same, text-asked}
+use Rattle.theorems.specs.Lookups.{asked-class, asked-repetition, asked-item}
 
 -- The positions of a production's elements, one for each element that is no keyword
 data Positions : List Element → List Position → Type 0 where

@@ -21,7 +21,8 @@ use Rattle.theorems.specs.Children.{OneEach, nothing-left, no-child-for,
 use Rattle.theorems.specs.Judgement.{Suits, by-build, by-literal, by-place, by-expand, by-if, by-for, by-sequence, as-item, Fills, all-filled, no-child, a-child, Items, no-item, an-item, Declared}
 use Rattle.theorems.specs.OwnRule.{AsksText, in-its-position, in-a-sequence, Fits, a-build, a-literal, a-place, an-expand, an-if, a-for, a-sequence, ChildNode, build-child, first-branch, second-branch, loop-body, sequence-item, Stands}
 use Rattle.theorems.specs.HeadByHead.{in-cons, tree-judged, judged-exactly, each-exactly}
-use Rattle.theorems.specs.OwnRuleExactly.{path-exactly, position-of, fits-exactly, child-exactly, stands-exactly}
+use Rattle.theorems.specs.Lookups.{path-exactly}
+use Rattle.theorems.specs.OwnRuleExactly.{position-of, fits-exactly, child-exactly, stands-exactly}
 use Rattle.theorems.specs.Least.{in-none}
 use Rattle.theorems.specs.Ranges.{below-leading, sites-leading}
 
