@@ -2,21 +2,23 @@
 -- And of any call that is not refused: its text is what the evaluation rules give.
 use mathlib.Core.Path.{_≡_, refl, sym, _∙_, ap, subst}
 use mathlib.Core.Logic.{_↔_, _⊎_, inl, inr}
-use Prim.Native.Nat.{ℕ, _≤_}
+use Prim.Native.Nat.{ℕ, _≤_, _<_}
 use native.Mathlib.Omega.{arith}
 use mathlib.Core.List.{List, _++_}
 use mathlib.Core.Option.{some}
+use lib.ListN.{length}
 use Rattle.rules.specs.Records.{fieldB}
 use Rattle.rules.specs.Templates.{template}
 use Rattle.rules.specs.Derivation.{Derives}
-use Rattle.rules.specs.Walk.{State, Limit, fuel-spent, too-deep, output-full, End, done, ended, walk}
+use Rattle.rules.specs.Walk.{Input, State, Limit, fuel-spent, too-deep, output-full, End, done, ended, walk}
 use Rattle.rules.specs.Answers.{answer, limitNumber, Outcome, input, evaluate}
 use Rattle.rules.specs.declared.Answer.{Answer}
 use Rattle.theorems.specs.Refusals.{Refusal}
 use Rattle.theorems.specs.Accepted.{Admitted, admitted-exactly}
 use Rattle.theorems.specs.Sound.{finished-derived}
 use Rattle.theorems.specs.Evaluation.{EvaluatesSet}
-use Rattle.theorems.specs.EvaluatesExactly.{Gives, begun, evaluates-exactly}
+use Rattle.theorems.specs.Begins.{Begins}
+use Rattle.theorems.specs.EvaluatesExactly.{Gives, fuel-short, levels-short, room-short, evaluates-exactly}
 use Rattle.theorems.specs.Kept.{AsWalked, finished, limited, Kept, refused, as-walked, textLeft, text-produced, admitted-typed, unrefused-as-walked, refusals-keep}
 
 -- a limit that the walk meets
@@ -64,9 +66,6 @@ done-ended e = let z : _≡_ {A = ℕ} 0 1 = cc in omega arith
 ended-limit : {l m : Limit} {p q : ℕ} {s s′ : State} → ended l p s ≡ ended m q s′ → l ≡ m
 ended-limit e = cc
 
-given-ended : {x : List ℕ} {l : Limit} {p : ℕ} {s : State} → Gives x (ended l p s) → (rest : List ℕ) × (x ≡ s .text ++ rest)
-given-ended (begun l p s rest e) = (rest, e)
-
 numbered : {a b : Answer} → a ≡ b → a .number ≡ b .number
 numbered r = ap (λ (x : Answer). x .number) r
 
@@ -92,16 +91,43 @@ module _ {e : End} {out scratch : List ℕ} {o : Outcome} where
     λ k. numbered r ∙ ap limitNumber (ended-limit (sym h ∙ k .2)),
   )
 
-  -- a finished text is the walk's; of a text that a limit ended, the walk's so far
-  finished-text : AsWalked e out scratch o → o .result .number ≡ 0 → (s : State) × (e ≡ done s) × (textLeft o ≡ s .text)
+  -- a finished text is the walk's
+  finished-text : AsWalked e out scratch o → o .result .number ≡ 0 → (s : State) × (e ≡ done s) × (textLeft o ≡ s .text) × (o .result .steps ≡ s .steps)
   unfolding answer
-  finished-text (finished s h r p) z = (s, h, text-produced (ap (λ (x : Answer). x .bytes) r) p)
+  finished-text (finished s h r p) z = (s, h, text-produced (ap (λ (x : Answer). x .bytes) r) p, ap (λ (x : Answer). x .steps) r)
   finished-text (limited l p s h r q) z = absurd (let a : o .result .number ≡ limitNumber l = numbered r in let b = from-10 l in omega arith)
 
-  limited-text : AsWalked e out scratch o → 10 ≤ o .result .number → (l : Limit) × (p : ℕ) × (s : State) × (e ≡ ended l p s) × (textLeft o ≡ s .text)
-  unfolding answer
-  limited-text (finished s h r p) z = absurd (let a : o .result .number ≡ 0 = numbered r in omega arith)
-  limited-text (limited l p s h r q) z = (l, p, s, h, text-produced (ap (λ (x : Answer). x .bytes) r) q)
+-- what a call has done that a limit ended, on the way to the text x with n steps
+pub record Begun (fuel room : ℕ) (x : List ℕ) (n : ℕ) (o : Outcome) : Type 0 where
+  pub rest : List ℕ
+  pub text-begins : x ≡ textLeft o ++ rest
+  pub steps-first : o .result .steps ≤ n
+  pub fuel-short : o .result .number ≡ 10 → fuel < n
+  pub room-short : o .result .number ≡ 12 → room < length x
+
+short : {i : Input} {z s : State} {l : Limit} {p : ℕ} → Gives i z (ended l p s)
+    → Begins s z × (limitNumber l ≡ 10 → i .fuel < z .steps) × (limitNumber l ≡ 12 → i .room < length (z .text))
+unfolding limitNumber
+short (fuel-short p s b used less) = (b, λ e. omega arith, λ e. absurd (omega arith))
+short (levels-short p s b) = (b, λ e. absurd (omega arith), λ e. absurd (omega arith))
+short (room-short p s b full) = (b, λ e. absurd (omega arith), λ e. full)
+
+limited-begun : {i : Input} {e : End} {x out scratch : List ℕ} {n : ℕ} {o : Outcome} → AsWalked e out scratch o → 10 ≤ o .result .number
+    → Gives i (record { steps = n; text = x }) e → Begun (i .fuel) (i .room) x n o
+unfolding answer
+limited-begun {o = o} (finished s h r p) z w = absurd (let a : o .result .number ≡ 0 = numbered r in omega arith)
+limited-begun {i} {x = x} {n = n} {o} (limited l p s h r q) z w =
+    let (b, f, c) = short (subst (Gives i _) h w) in
+    let e : textLeft o ≡ s .text = text-produced (ap (λ (a : Answer). a .bytes) r) q in
+    let d : o .result .steps ≡ s .steps = ap (λ (a : Answer). a .steps) r in
+    let m : s .steps ≤ n = b .steps-first in
+    record {
+      rest = b .rest;
+      text-begins = b .text-begins ∙ ap (λ (a : List ℕ). a ++ b .rest) (sym e);
+      steps-first = omega arith;
+      fuel-short = λ j. f (sym (numbered r) ∙ j);
+      room-short = λ j. c (sym (numbered r) ∙ j);
+    }
 
 -- a call that is not refused by 1 to 9 goes as its walk goes
 kept-walked : {g t v : List ℕ} {fuel : ℕ} {out scratch : List ℕ} {o : Outcome} → (Refusal (o .result) → ⊥) → Kept g t v fuel out scratch o
@@ -122,24 +148,26 @@ module _ (g t v : List ℕ) (fuel : ℕ) (out scratch : List ℕ) where
         output-full-exactly = limit-exactly w output-full;
         answer-and-bytes = w;
         finished-derived = λ z.
-            let (s, h, x) = finished-text w z in
+            let (s, h, x, n) = finished-text w z in
             let (q, r, d) = finished-derived (input g t v fuel out) (admitted-typed g t v fuel out scratch e) s h in
             record { root = q; root-there = r; derivation = rw x d };
       }
 
-  -- The text of a call that answers 0 is what the evaluation rules give, and nothing else is.
-  pub text-exactly : evaluate g t v fuel out scratch .result .number ≡ 0 → (x : List ℕ) → EvaluatesSet g t v x ↔ (x ≡ textLeft (evaluate g t v fuel out scratch))
+  -- The text of a call that answers 0, and its steps, are what the evaluation rules give, and nothing else is.
+  pub text-exactly : evaluate g t v fuel out scratch .result .number ≡ 0 → (x : List ℕ) (n : ℕ)
+      → EvaluatesSet g t v x n ↔ ((x ≡ textLeft (evaluate g t v fuel out scratch)) × (n ≡ evaluate g t v fuel out scratch .result .steps))
   unfolding input
-  text-exactly z x =
-      let n : Refusal (evaluate g t v fuel out scratch .result) → ⊥ = λ r. let l = r .from-1 in omega arith in
-      let (s, h, e) = finished-text (kept-walked n (refusals-keep g t v fuel out scratch)) z in
-      rw e (evaluates-exactly (input g t v fuel out) .0 s h x)
+  text-exactly z x n =
+      let k : Refusal (evaluate g t v fuel out scratch .result) → ⊥ = λ r. let l = r .from-1 in omega arith in
+      let (s, h, e, c) = finished-text (kept-walked k (refusals-keep g t v fuel out scratch)) z in
+      let (to, from) = evaluates-exactly (input g t v fuel out) .0 s h x n in
+      (λ d. let r = to d in (r .0 ∙ sym e, r .1 ∙ sym c), λ q. from (q .0 ∙ e, q .1 ∙ c))
 
-  -- Where a limit ended the call, its text begins what the evaluation rules give.
-  pub text-begun : 10 ≤ evaluate g t v fuel out scratch .result .number → (x : List ℕ) → EvaluatesSet g t v x
-      → (rest : List ℕ) × (x ≡ textLeft (evaluate g t v fuel out scratch) ++ rest)
+  -- Where a limit ended the call, its text begins what the evaluation rules give, and its steps are at most theirs: fewer where the fuel is spent.
+  -- Where the output is full, it is too short for that text.
+  pub text-begun : 10 ≤ evaluate g t v fuel out scratch .result .number → (x : List ℕ) (n : ℕ) → EvaluatesSet g t v x n
+      → Begun fuel (length out) x n (evaluate g t v fuel out scratch)
   unfolding input
-  text-begun z x h =
-      let n : Refusal (evaluate g t v fuel out scratch .result) → ⊥ = λ r. let l = r .to-9 in omega arith in
-      let (l, p, s, k, e) = limited-text (kept-walked n (refusals-keep g t v fuel out scratch)) z in
-      rw e (given-ended (subst (Gives x) k (evaluates-exactly (input g t v fuel out) .1 x h)))
+  text-begun z x n h =
+      let k : Refusal (evaluate g t v fuel out scratch .result) → ⊥ = λ r. let l = r .to-9 in omega arith in
+      limited-begun (kept-walked k (refusals-keep g t v fuel out scratch)) z (evaluates-exactly (input g t v fuel out) .1 x n h)

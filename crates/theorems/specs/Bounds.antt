@@ -2,13 +2,14 @@
 -- and where one of the limits 10 to 12 ends it, that limit was met.
 use mathlib.Core.Path.{_≡_, refl, subst}
 use Prim.Native.Nat.{ℕ, _+_, _≤_, _<_}
-use mathlib.Core.List.{List, _++_}
+use mathlib.Core.List.{List}
 use mathlib.Core.Bool.{Bool, true, false, cond}
 use native.Mathlib.Omega.{arith}
 use lib.ListN.{length, length-append}
 use lib.Dec.{leb, ltb}
 use borrow.Author.Tests.{leb-true, leb-false, ltb-true, ltb-false}
 use Rattle.rules.specs.Walk.{Input, State, start, Limit, fuel-spent, too-deep, output-full, End, done, ended, stuck, andThen, write, counted, reached, walk}
+use Rattle.theorems.specs.Begins.{written}
 use Rattle.theorems.specs.Visits.{LevelsOf, WritesOf, InStep, walk-both}
 
 -- the state that an end has, done or ended by one of 10 to 12
@@ -28,10 +29,6 @@ unfolding andThen
 then-leaves next (at-done s q) k = k s q
 then-leaves next (at-limit l p s h) k = at-limit l p s h
 then-leaves next at-stuck k = at-stuck
-
--- the state after a piece of text
-abbrev pub written : State → List ℕ → State
-written s x = record { steps = s .steps; text = s .text ++ x }
 
 -- a piece fits, or it passes the end of the output
 pub write-leaves : {Q : State → Type 0} {L : Limit → ℕ → State → Type 0} (room p : ℕ) (x : List ℕ) (s : State)

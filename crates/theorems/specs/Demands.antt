@@ -3,7 +3,7 @@
 use mathlib.Core.Path.{_≡_}
 use mathlib.Core.Logic.{_↔_}
 use Prim.Native.Nat.{ℕ, _*_, _≤_, _<_}
-use mathlib.Core.List.{List, _++_}
+use mathlib.Core.List.{List}
 use lib.ListN.{length}
 use Rattle.rules.specs.Answers.{answer, check, evaluate, pack}
 use Rattle.theorems.specs.Streams.{WellSized}
@@ -13,7 +13,7 @@ use Rattle.theorems.specs.Evaluation.{EvaluatesSet}
 use Rattle.theorems.specs.Packing.{blockCount, fillCount, fill-small, RoundTrip, unpack-of-pack}
 use Rattle.theorems.specs.Unpacked.{RecordsUnpacked, records-unpacked}
 use Rattle.theorems.specs.Kept.{Kept, textLeft, refusals-keep}
-use Rattle.theorems.specs.AsWalked.{AnswersAsWalk, answers-of-accepted, text-exactly, text-begun}
+use Rattle.theorems.specs.AsWalked.{AnswersAsWalk, answers-of-accepted, text-exactly, Begun, text-begun}
 use Rattle.theorems.specs.InOrder.{CheckInOrder, check-in-order, EvaluateInOrder, evaluate-in-order}
 
 -- 1. "A caller who lends any grammar, template set, record, scratch and output buffer, of any bytes and lengths, gets either a finished text or one numbered
@@ -30,11 +30,11 @@ demand-1 = record { finished-or-refused = refusals-keep; check-in-order = check-
 -- byte for byte what the written evaluation rules give; blocks packed and unpacked return the same records, with zero fill at most after them."
 pub record Demand2 : Type 0 where
   pub accepts-exactly : (g t : List ℕ) → (check g t ≡ answer 0 0 0 0 0) ↔ Accepted g t
-  -- a finished text; and what was written of one that a limit ended
-  pub text-exactly : (g t v : List ℕ) (fuel : ℕ) (out scratch : List ℕ) → evaluate g t v fuel out scratch .result .number ≡ 0
-      → (x : List ℕ) → EvaluatesSet g t v x ↔ (x ≡ textLeft (evaluate g t v fuel out scratch))
+  -- a finished text, with its steps; and what was written of one that a limit ended
+  pub text-exactly : (g t v : List ℕ) (fuel : ℕ) (out scratch : List ℕ) → evaluate g t v fuel out scratch .result .number ≡ 0 → (x : List ℕ) (n : ℕ)
+      → EvaluatesSet g t v x n ↔ ((x ≡ textLeft (evaluate g t v fuel out scratch)) × (n ≡ evaluate g t v fuel out scratch .result .steps))
   pub text-begun : (g t v : List ℕ) (fuel : ℕ) (out scratch : List ℕ) → 10 ≤ evaluate g t v fuel out scratch .result .number
-      → (x : List ℕ) → EvaluatesSet g t v x → (rest : List ℕ) × (x ≡ textLeft (evaluate g t v fuel out scratch) ++ rest)
+      → (x : List ℕ) (n : ℕ) → EvaluatesSet g t v x n → Begun fuel (length out) x n (evaluate g t v fuel out scratch)
   pub same-records : (kind : ℕ) (payload out out′ : List ℕ) → pack kind payload out .result .number ≡ 0 → 504 * blockCount payload ≤ length out′
       → RoundTrip kind payload out out′
   pub little-fill : (payload : List ℕ) → fillCount payload < 504

@@ -1,5 +1,5 @@
 -- How a visit ends. First, the ends that are not stuck; then, what an end that is done came from.
-use mathlib.Core.Path.{_≡_, refl}
+use mathlib.Core.Path.{_≡_, refl, ap}
 use Prim.Native.Nat.{ℕ, _+_}
 use native.Mathlib.Omega.{arith}
 use mathlib.Core.List.{List, _++_}
@@ -62,5 +62,11 @@ unfolding reached
 reached-done true p next s s′ h = h
 reached-done false p next s s′ h = absurd (let z : _≡_ {A = ℕ} 0 1 = cc in omega arith)
 
-pub write-done : (room p : ℕ) (x : List ℕ) (s s′ : State) → write room p x s ≡ done s′ → s′ .text ≡ s .text ++ x
-write-done room p x s s′ h = ends-done s′ (write-ends room p x s) h
+pub write-done : (room p : ℕ) (x : List ℕ) (s s′ : State) → write room p x s ≡ done s′ → (s′ .text ≡ s .text ++ x) × (s′ .steps ≡ s .steps)
+unfolding write
+write-done room p x s s′ = go (leb (length (s .text) + length x) room)
+  where
+    go : (b : Bool) → cond b (done (record { steps = s .steps; text = s .text ++ x })) (ended output-full p s) ≡ done s′
+        → (s′ .text ≡ s .text ++ x) × (s′ .steps ≡ s .steps)
+    go true h = let r : s′ ≡ record { steps = s .steps; text = s .text ++ x } = cc in (ap (λ z. z .text) r, ap (λ z. z .steps) r)
+    go false h = absurd (let z : _≡_ {A = ℕ} 0 1 = cc in omega arith)

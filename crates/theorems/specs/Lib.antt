@@ -24,6 +24,7 @@ pub mod FirstOffending
 pub mod FirstRefused
 pub mod Levels
 pub mod Visits
+pub mod Begins
 pub mod Bounds
 pub mod OneLine
 pub mod Ends

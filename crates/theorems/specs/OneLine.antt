@@ -1,39 +1,17 @@
 -- Two walks of one set and value are on one line: fuel and room only say where a walk stops, never where it goes.
-use mathlib.Core.Path.{_≡_, refl, sym, subst}
+use mathlib.Core.Path.{_≡_, refl, subst}
 use mathlib.Core.Logic.{_⊎_, inl, inr}
 use Prim.Native.Nat.{ℕ, _+_, _≤_, _<_}
-use mathlib.Core.List.{List, [], _++_, append-assoc, append-nil}
+use mathlib.Core.List.{List, []}
 use mathlib.Core.Bool.{Bool, true, false, cond}
 use native.Mathlib.Omega.{arith}
 use lib.ListN.{length}
 use lib.Dec.{leb, ltb}
 use borrow.Author.Tests.{leb-true, leb-false, ltb-true, ltb-false}
 use Rattle.rules.specs.Walk.{Input, State, Limit, fuel-spent, too-deep, output-full, End, done, ended, stuck, andThen, write, counted, reached, walk}
+use Rattle.theorems.specs.Begins.{Begins, begins-itself, begins-then, begins-written, begins-counted, written}
 use Rattle.theorems.specs.Visits.{limitedBy, WritesOf, InStep, walk-both}
-use Rattle.theorems.specs.Bounds.{EndsWith, when-done, when-ended, Leaves, at-done, at-limit, at-stuck, written, then-leaves, write-leaves, reached-leaves}
-
--- the text of s begins that of s′, and its steps are at most those of s′
-pub record Begins (s s′ : State) : Type 0 where
-  pub rest : List ℕ
-  pub text-begins : s′ .text ≡ s .text ++ rest
-  pub steps-first : s .steps ≤ s′ .steps
-
-begins-itself : (s : State) → Begins s s
-begins-itself s = record { rest = []; text-begins = sym (append-nil (s .text)); steps-first = omega arith }
-
-begins-then : {s₁ s₂ s₃ : State} → Begins s₁ s₂ → Begins s₂ s₃ → Begins s₁ s₃
-begins-then {s₁} a b = record {
-  rest = a .rest ++ b .rest;
-  text-begins = cc (append-assoc (s₁ .text) (a .rest) (b .rest), a .text-begins, b .text-begins);
-  steps-first = let l = a .steps-first in let m = b .steps-first in omega arith;
-}
-
-begins-written : (s : State) (x : List ℕ) → Begins s (written s x)
-begins-written s x = record { rest = x; text-begins = refl; steps-first = omega arith }
-
-begins-counted : (s : State) → Begins s (counted s)
-unfolding counted
-begins-counted s = record { rest = []; text-begins = sym (append-nil (s .text)); steps-first = omega arith }
+use Rattle.theorems.specs.Bounds.{EndsWith, when-done, when-ended, Leaves, at-done, at-limit, at-stuck, then-leaves, write-leaves, reached-leaves}
 
 -- whatever state an end has, s begins it
 abbrev Past : State → End → Type 0
