@@ -28,7 +28,8 @@ use Rattle.theorems.specs.Streams.{WellSized, length-exactly, block-exac
 use Rattle.theorems.specs.LaidOut.{InRow, no-thing, one-thing, GrammarLaid, NamingAt, TypeAt, TemplateAt, TemplatesLaid, ValueLaid}
 use Rattle.theorems.specs.Heads.{element-size, element-grows}
 use Rattle.theorems.specs.LayoutExactly.{grammar-laid-exactly, templates-laid-exactly, value-laid-exactly}
-use Rattle.theorems.specs.LimitsExactly.{limits-exactly, not-deep, nonterminal-iff, element-names, type-names, node-names, numbered-in}
+use Rattle.theorems.specs.Around.{around-exactly}
+use Rattle.theorems.specs.LimitsExactly.{looped-below, below-looped, limits-exactly, not-deep, nonterminal-iff, element-names, type-names, node-names, numbered-in}
 use Rattle.theorems.specs.Judgement.{Declared}
 use Rattle.theorems.specs.OwnRuleExactly.{fits-exactly, stands-exactly}
 use Rattle.theorems.specs.TypingExactly.{sites-shallow, declared-exactly}
@@ -103,16 +104,16 @@ abbrev OverIn : List ℕ → ℕ → ℕ → Type 0
 OverIn t p q = ((q ≡ p) × (leb (fieldA t p) 8 ≡ false)) ⊎ Offends fewLoops (loopedBelow t) (λ x. x .node) deepest (looped 0 (body t p)) q
 
 template-over : (t : List ℕ) (p q : ℕ) → OverIn t p q → TemplateOver t p q
-unfolding deepest fewLoops
+unfolding deepest fewLoops looped
 template-over t p q (inl (e, b)) = subst (TemplateOver t p) (sym e) (over-8-parameters (leb-false _ _ b))
-template-over t p q (inr (too-deep d x b l)) = over-200-deep d x b l
-template-over t p q (inr (fails d x b e)) = over-16-loops d x b (leb-false _ _ e)
+template-over t p q (inr (too-deep d x b l)) = over-200-deep d (x .node) (below-looped t b) l
+template-over t p q (inr (fails d x b e)) = over-16-loops (x .loops) (x .node) (around-exactly t (body t p) x .0 (d, b)) (leb-false _ _ e)
 
 over-template : (t : List ℕ) (p q : ℕ) → TemplateOver t p q → OverIn t p q
-unfolding deepest fewLoops
+unfolding deepest fewLoops looped
 over-template t p q (over-8-parameters l) = inl (refl, lt-leb _ _ l)
-over-template t p q (over-200-deep d x b l) = inr (too-deep d x b l)
-over-template t p q (over-16-loops d x b l) = inr (fails d x b (lt-leb _ _ l))
+over-template t p q (over-200-deep d r b l) = let (m, k) = looped-below t 0 b in inr (too-deep d (looped m r) k l)
+over-template t p q (over-16-loops n r a l) = let (d, b) = around-exactly t (body t p) (looped n r) .1 a in inr (fails d (looped n r) b (lt-leb _ _ l))
 
 least-over : (t : List ℕ) (p q : ℕ) → TemplateAt t p q → Least (TemplateOver t p) p q (templateLimits t p)
 unfolding templateLimits body looped

@@ -18,26 +18,44 @@ use Rattle.rules.specs.Names.{elementNamed, grammarNames, typeNamed, typeNames,
 use Rattle.rules.specs.Classes.{rangeRight, classBounds, grammarClasses}
 use Rattle.rules.specs.declared.Form.{Form}
 use Rattle.rules.specs.declared.Form.the-variants.{Build, Literal, Place, Expand, If, For, Sequence, Unknown}
+use Rattle.theorems.specs.Around.{Around, around-exactly}
+use Rattle.theorems.specs.Ranges.{below-leading, looped-leading}
 use Rattle.laws.specs.Faults.{need-none, need-iff, both-none, both-iff, In, here, later, in-map, every-in, in-every, every-nil, every-cons, exists-iff, and-iff, eqb-iff, leb-iff, ltb-iff, at-none, Below, itself, under, tree-in, in-tree}
 
 -- 4, of a template: the body counts 1, what stands d levels below it d + 1
 pub record TemplateWithin (t : List ℕ) (p : ℕ) : Type 0 where
   pub parameters-few : fieldA t p ≤ 8
-  pub at-most-200-deep : (d : ℕ) (x : Looped) → Below (loopedBelow t) (looped 0 (body t p)) d x → d + 1 ≤ 200
-  pub at-most-16-loops : (d : ℕ) (x : Looped) → Below (loopedBelow t) (looped 0 (body t p)) d x → x .loops ≤ 16
+  pub at-most-200-deep : (d q : ℕ) → Below (nodesBelow t) (body t p) d q → d + 1 ≤ 200
+  pub at-most-16-loops : (n q : ℕ) → Around t (body t p) n q → n ≤ 16
+
+-- a node of the tree, with the loops around it
+pub looped-below : (t : List ℕ) {p q d : ℕ} (l : ℕ) → Below (nodesBelow t) p d q → (m : ℕ) × Below (loopedBelow t) (looped l p) d (looped m q)
+unfolding loopedBelow looped
+looped-below t l (itself p) = (l, itself _)
+looped-below t l (under p c q d i b) =
+    let r = looped-below t (loopsBelow (formOf t p) l) b in
+    (r .0, under _ _ _ d (in-map (looped (loopsBelow (formOf t p) l)) i) (r .1))
+
+-- and without them
+pub below-looped : (t : List ℕ) {d : ℕ} {x y : Looped} → Below (loopedBelow t) x d y → Below (nodesBelow t) (x .node) d (y .node)
+unfolding loopedBelow looped
+below-looped t b = below-leading (λ x. x .node) (loopedBelow t) (nodesBelow t) (looped-leading t) b
 
 template-limits : (t : List ℕ) (p : ℕ) → (templateLimits t p ≡ none) ↔ TemplateWithin t p
-unfolding templateLimits fewLoops deepest
+unfolding templateLimits fewLoops deepest looped
 template-limits t p = (
   λ e. let a = both-none _ _ e in let r = at-none _ _ .0 (a .1) in
       record {
         parameters-few = leb-iff _ _ .0 (need-none _ p (a .0));
-        at-most-200-deep = λ d x b. let l = tree-in _ _ 200 r b .0 in omega arith;
-        at-most-16-loops = λ d x b. leb-iff _ _ .0 (tree-in _ _ 200 r b .1);
+        at-most-200-deep = λ d q b. let l = tree-in _ _ 200 r (looped-below t 0 b .1) .0 in omega arith;
+        at-most-16-loops = λ n q k. leb-iff _ _ .0 (tree-in _ _ 200 r (around-exactly t (body t p) (looped n q) .1 k .1) .1);
       },
   λ w. both-iff _ _ .1 (
     need-iff _ p .1 (leb-iff _ _ .1 (w .parameters-few)),
-    at-none _ _ .1 (in-tree _ _ 200 _ (λ d x b. let l = w .at-most-200-deep d x b in (omega arith, leb-iff _ _ .1 (w .at-most-16-loops d x b)))),
+    at-none _ _ .1 (in-tree _ _ 200 _ (λ d x b. (
+      let l = w .at-most-200-deep d (x .node) (below-looped t b) in omega arith,
+      leb-iff _ _ .1 (w .at-most-16-loops (x .loops) (x .node) (around-exactly t (body t p) x .0 (d, b))),
+    ))),
   ),
 )
 
@@ -52,18 +70,10 @@ value-limits-exactly v = (
   λ h. in-tree _ _ 200 0 λ d w b. let l = h d w b in (omega arith, refl),
 )
 
--- a node of the tree, with the loops around it
-looped-below : (t : List ℕ) {p q d : ℕ} (l : ℕ) → Below (nodesBelow t) p d q → (m : ℕ) × Below (loopedBelow t) (looped l p) d (looped m q)
-unfolding loopedBelow looped
-looped-below t l (itself p) = (l, itself _)
-looped-below t l (under p c q d i b) =
-    let r = looped-below t (loopsBelow (formOf t p) l) b in
-    (r .0, under _ _ _ d (in-map (looped (loopsBelow (formOf t p) l)) i) (r .1))
-
 -- no node of a template within the limits is over 200 deep
 pub not-deep : (t : List ℕ) (p : ℕ) → TemplateWithin t p → (d q : ℕ) → Below (nodesBelow t) (body t p) d q → d < deepest
 unfolding deepest
-not-deep t p w d q b = let r = looped-below t 0 b in let l = w .at-most-200-deep d _ (r .1) in omega arith
+not-deep t p w d q b = let l = w .at-most-200-deep d q b in omega arith
 
 -- 5: what is named exists
 abbrev pub Exists : Option ℕ → Type 0

@@ -9,13 +9,13 @@ use Rattle.rules.specs.Lexeme.{lowest, highest, ranges}
 use Rattle.rules.specs.Grammar.{classes, productions, elementAt, elementHeads}
 use Rattle.rules.specs.Templates.{type, typeAt, fieldHeads, templates, parameterHeads, body, formOf, nodesBelow}
 use Rattle.rules.specs.Value.{valuesBelow}
-use Rattle.rules.specs.Limits.{Looped, looped, loopedBelow}
 use Rattle.rules.specs.declared.Position.{Position}
 use Rattle.rules.specs.Answers
 use Rattle.rules.specs.Answers.{Stream, streamKind, bytesOf}
 use Rattle.laws.specs.Faults.{In, Below}
 use Rattle.theorems.specs.Streams.{WellSized, RightBlock}
 use Rattle.theorems.specs.LaidOut.{GrammarLaid, TemplatesLaid, ValueLaid}
+use Rattle.theorems.specs.Around.{Around}
 use Rattle.theorems.specs.LimitsExactly.{Exists, HasProduction, ElementNames, TypeNames, NodeNames}
 use Rattle.theorems.specs.Judgement.{Declared}
 use Rattle.theorems.specs.OwnRule.{Fits, Stands, OfForm, ShouldBe}
@@ -35,8 +35,8 @@ Laid (Answers.value v) = ValueLaid v
 -- What stands d levels below the body, or the whole value, is d + 1 deep. In the template at p:
 pub data TemplateOver (t : List ℕ) (p : ℕ) : ℕ → Type 0 where
   over-8-parameters : 8 < fieldA t p → TemplateOver t p p
-  over-200-deep : (d : ℕ) (x : Looped) → Below (loopedBelow t) (looped 0 (body t p)) d x → 200 < suc d → TemplateOver t p (x .node)
-  over-16-loops : (d : ℕ) (x : Looped) → Below (loopedBelow t) (looped 0 (body t p)) d x → 16 < x .loops → TemplateOver t p (x .node)
+  over-200-deep : (d q : ℕ) → Below (nodesBelow t) (body t p) d q → 200 < suc d → TemplateOver t p q
+  over-16-loops : (n q : ℕ) → Around t (body t p) n q → 16 < n → TemplateOver t p q
 
 pub data OverLimits : Stream → ℕ → Type 0 where
   a-template : (t : List ℕ) (p q : ℕ) → In p (templates t) → TemplateOver t p q → OverLimits (Answers.templates t) q
