@@ -38,6 +38,7 @@ pub mod AsWalked
 pub mod InOrder
 pub mod Demands
 pub mod Packing
+pub mod PackCalls
 pub mod Unpacked
 pub mod Published
 pub mod Teeth
