@@ -248,6 +248,7 @@ to-7 g t (misfit q o) = omega arith
 to-7 g t (mistyped v q i o) = absurd (in-none i)
 to-7 g t (short-scratch xs e l) = absurd (Option·none-ne-some xs e)
 
+-- No offence comes before the one that is refused, by its number, then its stream, then its place; and where nothing is refused, nothing offends.
 pub first-offending-check : (g t : List ℕ) → FirstBy Before (Names (Offence g t [] none)) (checkRefusal g t)
 unfolding checkRefusal
 first-offending-check g t =
@@ -296,9 +297,3 @@ pub first-offending-evaluate : (g t v scratch : List ℕ)
 unfolding evaluateRefusal
 first-offending-evaluate g t v scratch =
     from-1 g t _ (some scratch) (first-of-set g t _ (some scratch) _ (ascending g t _ (value-ascending v)) (first-of-value g t v scratch))
-
--- No offence comes before the one that is answered, by its number, then its stream, then its place; and where nothing is refused, nothing offends.
-pub first-offending : (g t v scratch : List ℕ)
-    → FirstBy Before (Names (Offence g t [] none)) (checkRefusal g t)
-    × FirstBy Before (Names (Offence g t (Answers.value v ∷ []) (some scratch))) (evaluateRefusal g t v scratch)
-first-offending g t v scratch = (first-offending-check g t, first-offending-evaluate g t v scratch)
