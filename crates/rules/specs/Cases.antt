@@ -1,69 +1,140 @@
 -- The paper's example and its cases M1 to M12, as rows of one table over whole streams of blocks. Each row has all five fields and the text.
-use Prim.Native.Nat.{ℕ, zero, suc, _+_, _-_, _*_, _/_, _%_}
+use Prim.Native.Nat.{ℕ, _+_, _-_, _/_, _%_}
+use Prim.Native.Char.{code}
+use Prim.Native.String.{String, [] as []ˢ, _∷_ as _∷ˢ_}
 use mathlib.Core.Path.{_≡_, refl}
-use mathlib.Core.List.{List, [], _∷_, _++_, map}
-use mathlib.Core.Bool.{Bool, true, false}
-use mathlib.Core.Option.{Option, none, some}
+use mathlib.Core.List.{List, [], _∷_, _++_, map, flatten}
+use mathlib.Core.Bool.{cond}
 use lib.ListN.{length, take, replicate}
-use Rattle.rules.specs.Faults.{need, both, every, tree, onFound, exists, onlyIf, at}
-use Rattle.rules.specs.Records.{base, byteOf, word, kindOf, fieldA, fieldB, fieldC, fieldD, recordCount, recordsFrom, units, textOf, paddingOf, zeros, heads, after, row, things, ofKind, nth, numbered}
-use Rattle.rules.specs.Blocks.{fnvStart, multiplied, fnv1a, word32, sound, isKind, blockPayload, streamLength, block, blockRight, streamBlocks, bytes32, checked, filled, packedBlock, packedBlocks, packed, payloadLength, payloads, unpacked}
-use Rattle.rules.specs.Lexeme.{between, inside, broken, firstByte, laterByte, nextByte, decode, decoded, charactersOf, lowest, highest, ranges, inSome, allInSome, admits, isLexeme}
-use Rattle.rules.specs.Grammar.{elementSize, productionSize, grammarSize, grammarThings, classes, productions, class, production, elementNumbered, elementAt, elementHeads, elements, hasProduction, nonterminalExists}
-use Rattle.rules.specs.Templates.{templatesSize, templatesThings, types, templates, type, template, fieldHeads, typeNumbered, typeAt, typeOf, parameterHeads, parameters, body, formNumbered, formOf, nodes, paths, path, first, second, nodesOf, nodesBelow, variable, fieldNumbers}
-use Rattle.rules.specs.Value.{valueSize, children, valuesBelow, asText, asYesNo, asList, asRecord}
-use Rattle.rules.specs.Layout.{thenRead, inRow, whileKind, textEnd, rangeEnd, classEnd, elementEnd, productionEnd, grammarEnd, namingEnd, typeFormEnd, typeEnd, pathEnd, formEnd, sized, nodeEnd, templateEnd, templatesEnd, childrenEnd, kindEnd, valueEnd, tailRight, layoutFault, grammarLayout, templatesLayout, valueLayout}
-use Rattle.rules.specs.Limits.{deepest, looped, loopsBelow, loopedBelow, fewLoops, templateLimits, templatesLimits, valueLimits}
-use Rattle.rules.specs.Names.{elementNamed, grammarNames, typeNamed, typeNames, formNamed, nodeNamed, templateNames, templatesNames}
-use Rattle.rules.specs.Classes.{rangeRight, classBounds, grammarClasses}
-use Rattle.rules.specs.Typing.{asksClass, asksNonterminal, asksRepetition, asksItem, positions, textClass, isYesNo, itemType, fieldTypes, typeAlong, pathType, argumentsFit, site, suitsForm, suits, sites, sitesOf, sitesBelow, misfit, bodySite, only, declaredType, templatesTyping, typed, hasForm, hasType, paired, typedOf, typedBelow, mistyped, valueTyping}
-use Rattle.rules.specs.Walk.{start, andThen, valueAlong, pathValue, pathValues, write, inOrder, withChild, pieces, visitForm, counted, reached, visit, walk}
-use Rattle.rules.specs.Answers.{answer, streamKind, bytesOf, layoutOf, limitsOf, placed, over, try, accept, setRefusal, checkRefusal, scratchNeeded, evaluateRefusal, limitNumber, check, left, kept, walked, unlessRefused, input, evaluate, packRefusal, unpackRefusal, written, pack, unpack}
+use lib.Dec.{leb}
+use Rattle.rules.specs.Faults
+use Rattle.rules.specs.Records
+use Rattle.rules.specs.Blocks
+use Rattle.rules.specs.Lexeme
+use Rattle.rules.specs.Grammar
+use Rattle.rules.specs.Templates
+use Rattle.rules.specs.Value
+use Rattle.rules.specs.Layout
+use Rattle.rules.specs.Limits
+use Rattle.rules.specs.Names
+use Rattle.rules.specs.Classes
+use Rattle.rules.specs.Typing
+use Rattle.rules.specs.Walk
+use Rattle.rules.specs.Answers
+use Rattle.rules.specs.Blocks.{packed}
+use Rattle.rules.specs.Answers.{answer, evaluate}
 use Rattle.rules.specs.declared.Answer.{Answer}
 
--- a record by its fields; a range; a text of at most 8 bytes, in its unit
+-- Records are made from what the paper says of them; counts and sizes are computed.
+-- "Byte 0 kind, byte 1 a, then words b, c, d of 16 bits, little-endian."
 unfoldable pub head : ℕ → ℕ → ℕ → ℕ → ℕ → List ℕ
 head kind a b c d = kind ∷ a ∷ b % 256 ∷ b / 256 ∷ c % 256 ∷ c / 256 ∷ d % 256 ∷ d / 256 ∷ []
 
+-- "Size is the number of records of a thing, head and all below it."
+unfoldable pub size : List ℕ → ℕ
+size below = 1 + length below / 8
+
+-- a text's bytes: UTF-8 up to U+07FF, as the example has no character past that
+unfoldable pub utf8 : String → List ℕ
+utf8 []ˢ = []
+utf8 (c ∷ˢ s) = cond (leb (code c) 0x7f) (code c ∷ []) ((0xc0 + code c / 64) ∷ (0x80 + code c % 64) ∷ []) ++ utf8 s
+
+-- "Text follows its head in units of 8 bytes, the last zero-padded; length 0 has no unit."
+unfoldable pub inUnits : String → List ℕ
+inUnits x = utf8 x ++ replicate ((8 - length (utf8 x) % 8) % 8) 0
+
+-- Grammar. "1 class: a number (from 0, consecutive), b least and c most characters, d count of ranges."
+unfoldable pub class : ℕ → ℕ → ℕ → List (List ℕ) → List ℕ
+class number least most ranges = head 1 number least most (length ranges) ++ flatten ranges
+
+-- "2 range: bytes 1-3 lowest and 4-6 highest code point, little-endian."
 unfoldable pub range : ℕ → ℕ → List ℕ
 range low high = 2 ∷ low % 256 ∷ low / 256 % 256 ∷ low / 65536 ∷ high % 256 ∷ high / 256 % 256 ∷ high / 65536 ∷ 0 ∷ []
 
-unfoldable pub unit : List ℕ → List ℕ
-unit text = text ++ replicate (8 - length text) 0
+-- "3 production: a number (from 0, consecutive ..), b its nonterminal, d count of elements."
+unfoldable pub production : ℕ → ℕ → List (List ℕ) → List ℕ
+production number nonterminal elements = head 3 number nonterminal 0 (length elements) ++ flatten elements
 
--- "Class 0: 1 to 4 characters, U+0061-U+007A and U+0370-U+03FF. Nonterminal 0: production 0, "[" repetition of 1 "]". Nonterminal 1: production 1, "<" class 0 ">"."
+-- "4 element: a = 0 keyword (b bytes of text follow), 1 class b, .. 3 repetition of nonterminal b."
+unfoldable pub keyword : String → List ℕ
+keyword x = head 4 0 (length (utf8 x)) 0 0 ++ inUnits x
+
+unfoldable pub lexeme : ℕ → List ℕ
+lexeme class = head 4 1 class 0 0
+
+unfoldable pub repetition : ℕ → List ℕ
+repetition nonterminal = head 4 3 nonterminal 0 0
+
+-- Templates. "1 type (numbered by order from 0): a = 0 text of class b, .. 2 list of type b"
+unfoldable pub textType : ℕ → List ℕ
+textType class = head 1 0 class 0 0
+
+unfoldable pub listType : ℕ → List ℕ
+listType type = head 1 2 type 0 0
+
+-- "3 template (numbered by order): a parameters, b nonterminal, c size; then 4 parameter: type b; then one body node."
+unfoldable pub template : ℕ → List (List ℕ) → List ℕ → List ℕ
+template nonterminal parameters body =
+    let below = flatten parameters ++ body in
+    head 3 (length parameters) nonterminal (size below) 0 ++ below
+
+unfoldable pub parameter : ℕ → List ℕ
+parameter type = head 4 0 type 0 0
+
+-- "5 node: a form, c size; children follow in order."
+unfoldable pub node : ℕ → ℕ → ℕ → List ℕ → List ℕ
+node form b d below = head 5 form b (size below) d ++ below
+
+-- "0 build (b production, d children ..); .. 2 place (a path); 3 expand (b template, d paths); .. 5 for (path, one node); 6 sequence (d nodes)."
+unfoldable pub build : ℕ → List (List ℕ) → List ℕ
+build production children = node 0 production (length children) (flatten children)
+
+unfoldable pub place : List ℕ → List ℕ
+place path = node 2 0 0 path
+
+unfoldable pub expand : ℕ → List (List ℕ) → List ℕ
+expand template paths = node 3 template (length paths) (flatten paths)
+
+unfoldable pub for : List ℕ → List ℕ → List ℕ
+for path body = node 5 0 0 (path ++ body)
+
+unfoldable pub sequence : List (List ℕ) → List ℕ
+sequence items = node 6 0 (length items) (flatten items)
+
+-- "6 path: byte 1 variable, byte 2 number of steps (0 to 5)": all paths of the example have no step
+unfoldable pub path : ℕ → List ℕ
+path variable = head 6 variable 0 0 0
+
+-- Value. "1 text: b bytes, c size. .. 3 list ..: c size, d children."
+unfoldable pub text : String → List ℕ
+text x = head 1 0 (length (utf8 x)) (size (inUnits x)) 0 ++ inUnits x
+
+unfoldable pub list : List (List ℕ) → List ℕ
+list items = head 3 0 0 (size (flatten items)) (length items) ++ flatten items
+
+-- The example. "Class 0: 1 to 4 characters, U+0061-U+007A and U+0370-U+03FF. Nonterminal 0: production 0, "[" repetition of 1 "]".
+-- Nonterminal 1: production 1, "<" class 0 ">"."
 unfoldable pub exampleGrammar : List ℕ
 exampleGrammar =
-    head 1 0 1 4 2 ++ range 0x61 0x7a ++ range 0x370 0x3ff
-    ++ head 3 0 0 0 3 ++ head 4 0 1 0 0 ++ unit (91 ∷ []) ++ head 4 3 1 0 0 ++ head 4 0 1 0 0 ++ unit (93 ∷ [])
-    ++ head 3 1 1 0 3 ++ head 4 0 1 0 0 ++ unit (60 ∷ []) ++ head 4 1 0 0 0 ++ head 4 0 1 0 0 ++ unit (62 ∷ [])
+    class 0 1 4 (range 0x61 0x7a ∷ range 0x370 0x3ff ∷ [])
+    ++ production 0 0 (keyword "[" ∷ repetition 1 ∷ keyword "]" ∷ [])
+    ++ production 1 1 (keyword "<" ∷ lexeme 0 ∷ keyword ">" ∷ [])
 
--- "Types: 0 text of class 0, 1 list of 0."
-unfoldable pub exampleTypes : List ℕ
-exampleTypes = head 1 0 0 0 0 ++ head 1 2 0 0 0
+-- "Types: 0 text of class 0, 1 list of 0. Template 0 (type 1, nonterminal 0):"
+unfoldable pub templatesWith : List ℕ → List ℕ
+templatesWith body = textType 0 ++ listType 0 ++ template 0 (parameter 1 ∷ []) body
 
--- "Template 0 (type 1, nonterminal 0): build 0 of a sequence of one for over variable 0, body build 1 of place variable 1."
+-- "build 0 of a sequence of one for over variable 0, body build 1 of place variable 1."
 unfoldable pub exampleTemplates : List ℕ
-exampleTemplates =
-    exampleTypes ++ head 3 1 0 9 0 ++ head 4 0 1 0 0
-    ++ head 5 0 0 7 1 ++ head 5 6 0 6 1 ++ head 5 5 0 5 0 ++ head 6 0 0 0 0 ++ head 5 0 1 3 1 ++ head 5 2 0 2 0 ++ head 6 1 0 0 0
+exampleTemplates = templatesWith (build 0 (sequence (for (path 0) (build 1 (place (path 1) ∷ [])) ∷ []) ∷ []))
 
 -- "body "expand 0 on variable 0" alone"
 unfoldable pub endlessTemplates : List ℕ
-endlessTemplates = exampleTypes ++ head 3 1 0 4 0 ++ head 4 0 1 0 0 ++ head 5 3 0 2 1 ++ head 6 0 0 0 0
+endlessTemplates = templatesWith (expand 0 (path 0 ∷ []))
 
--- "Value: "ab", "αβγδ"."; the empty list; a title of five Greek letters; an empty title
-unfoldable pub twoTitles : List ℕ
-twoTitles = head 3 0 0 5 2 ++ head 1 0 2 2 0 ++ unit (97 ∷ 98 ∷ []) ++ head 1 0 8 2 0 ++ unit (206 ∷ 177 ∷ 206 ∷ 178 ∷ 206 ∷ 179 ∷ 206 ∷ 180 ∷ [])
-
-unfoldable pub noTitle : List ℕ
-noTitle = head 3 0 0 1 0
-
-unfoldable pub longTitle : List ℕ
-longTitle = head 3 0 0 4 1 ++ head 1 0 10 3 0 ++ unit (206 ∷ 177 ∷ 206 ∷ 178 ∷ 206 ∷ 179 ∷ 206 ∷ 180 ∷ []) ++ unit (206 ∷ 181 ∷ [])
-
-unfoldable pub emptyTitle : List ℕ
-emptyTitle = head 3 0 0 2 1 ++ head 1 0 0 1 0
+-- "Value: "ab", "αβγδ"."
+unfoldable pub exampleValue : List ℕ
+exampleValue = list (text "ab" ∷ text "αβγδ" ∷ [])
 
 -- what is evaluated, and what is expected: the answer, and the text written
 pub record Case : Type 0 where
@@ -72,41 +143,83 @@ pub record Case : Type 0 where
   pub fuel : ℕ
   pub room : ℕ
   pub expected : Answer
-  pub text : List ℕ
+  pub written : String
 
-unfoldable pub case : List ℕ → List ℕ → ℕ → ℕ → Answer → List ℕ → Case
-case t v fuel room a x = record { templates = t; value = v; fuel = fuel; room = room; expected = a; text = x }
+unfoldable pub case : List ℕ → List ℕ → ℕ → ℕ → Answer → String → Case
+case t v fuel room a x = record { templates = t; value = v; fuel = fuel; room = room; expected = a; written = x }
 
--- "[<ab><αβγδ>]"
-unfoldable pub whole : List ℕ
-whole = 91 ∷ 60 ∷ 97 ∷ 98 ∷ 62 ∷ 60 ∷ 206 ∷ 177 ∷ 206 ∷ 178 ∷ 206 ∷ 179 ∷ 206 ∷ 180 ∷ 62 ∷ 93 ∷ []
-
--- M1 to M12
+-- The table: templates, value, fuel, output bytes; the answer's number, kind, place, steps and bytes; the text. "with fuel 1,000,000 and 65,536
+-- output bytes", where a case says nothing else.
 unfoldable pub cases : List Case
 cases =
-    case exampleTemplates twoTitles 1000000 65536 (answer 0 0 0 7 16) whole
-    ∷ case exampleTemplates twoTitles 7 65536 (answer 0 0 0 7 16) whole
-    ∷ case exampleTemplates twoTitles 6 65536 (answer 10 2 9 6 6) (take 6 whole)
-    ∷ case exampleTemplates twoTitles 0 65536 (answer 10 2 4 0 0) []
-    ∷ case exampleTemplates twoTitles 1000000 16 (answer 0 0 0 7 16) whole
-    ∷ case exampleTemplates twoTitles 1000000 15 (answer 12 2 4 7 15) (take 15 whole)
-    ∷ case exampleTemplates twoTitles 1000000 13 (answer 12 2 9 7 6) (take 6 whole)
-    ∷ case exampleTemplates noTitle 1000000 65536 (answer 0 0 0 3 2) (91 ∷ 93 ∷ [])
-    ∷ case exampleTemplates longTitle 1000000 65536 (answer 8 3 1 0 0) []
-    ∷ case exampleTemplates emptyTitle 1000000 65536 (answer 8 3 1 0 0) []
-    ∷ case endlessTemplates twoTitles 201 65536 (answer 11 2 4 201 0) []
-    ∷ case endlessTemplates twoTitles 200 65536 (answer 10 2 4 200 0) []
+    -- M1 the above
+    case exampleTemplates exampleValue 1_000_000 65_536 (answer 0 0 0 7 16) "[<ab><αβγδ>]"
+    -- M2 fuel 7: finished
+    ∷ case exampleTemplates exampleValue 7 65_536 (answer 0 0 0 7 16) "[<ab><αβγδ>]"
+    -- M3 fuel 6: 10, place 9, 6 steps, 6 bytes
+    ∷ case exampleTemplates exampleValue 6 65_536 (answer 10 2 9 6 6) "[<ab><"
+    -- M4 fuel 0: 10, 0 bytes
+    ∷ case exampleTemplates exampleValue 0 65_536 (answer 10 2 4 0 0) ""
+    -- M5 output 16: finished
+    ∷ case exampleTemplates exampleValue 1_000_000 16 (answer 0 0 0 7 16) "[<ab><αβγδ>]"
+    -- M6 output 15: 12, place 4, 15 bytes
+    ∷ case exampleTemplates exampleValue 1_000_000 15 (answer 12 2 4 7 15) "[<ab><αβγδ>"
+    -- M7 output 13: 12, place 9, 6 bytes
+    ∷ case exampleTemplates exampleValue 1_000_000 13 (answer 12 2 9 7 6) "[<ab><"
+    -- M8 empty list: "[]", 3 steps
+    ∷ case exampleTemplates (list []) 1_000_000 65_536 (answer 0 0 0 3 2) "[]"
+    -- M9 title of five Greek letters: 8
+    ∷ case exampleTemplates (list (text "αβγδε" ∷ [])) 1_000_000 65_536 (answer 8 3 1 0 0) ""
+    -- M10 empty title: 8
+    ∷ case exampleTemplates (list (text "" ∷ [])) 1_000_000 65_536 (answer 8 3 1 0 0) ""
+    -- M11 body "expand 0 on variable 0" alone, fuel 201: 11, 201 steps
+    ∷ case endlessTemplates exampleValue 201 65_536 (answer 11 2 4 201 0) ""
+    -- M12 the same, fuel 200: 10, 200 steps
+    ∷ case endlessTemplates exampleValue 200 65_536 (answer 10 2 4 200 0) ""
     ∷ []
 
--- the evaluate call on packed streams, an output of zeros and 4,800 numbers of scratch; what is left of the output is its first bytes
+-- the evaluate call on packed streams, an output of zeros and 4,800 numbers of scratch; the text is the first bytes of the output
 unfoldable pub evaluated : Case → Answer × List ℕ
 evaluated c =
-    let o = evaluate (packed 1 exampleGrammar) (packed 2 (c .templates)) (packed 3 (c .value)) (c .fuel) (replicate (c .room) 0) (replicate scratchNeeded 0) in
+    let o = evaluate (packed 1 exampleGrammar) (packed 2 (c .templates)) (packed 3 (c .value)) (c .fuel) (replicate (c .room) 0) (replicate 4_800 0) in
     (o .result, take (o .result .bytes) (o .output))
 
 unfoldable pub stated : Case → Answer × List ℕ
-stated c = (c .expected, c .text)
+stated c = (c .expected, utf8 (c .written))
 
+-- Both sides compute to the same. Named are all the definitions that antt looks into on the way, module by module.
 pub cases-hold : map evaluated cases ≡ map stated cases
-unfolding head range unit exampleGrammar exampleTypes exampleTemplates endlessTemplates twoTitles noTitle longTitle emptyTitle case whole cases evaluated stated need both every tree onFound exists onlyIf at base byteOf word kindOf fieldA fieldB fieldC fieldD recordCount recordsFrom units textOf paddingOf zeros heads after row things ofKind nth numbered fnvStart multiplied fnv1a word32 sound isKind blockPayload streamLength block blockRight streamBlocks bytes32 checked filled packedBlock packedBlocks packed payloadLength payloads unpacked between inside broken firstByte laterByte nextByte decode decoded charactersOf lowest highest ranges inSome allInSome admits isLexeme elementSize productionSize grammarSize grammarThings classes productions class production elementNumbered elementAt elementHeads elements hasProduction nonterminalExists templatesSize templatesThings types templates type template fieldHeads typeNumbered typeAt typeOf parameterHeads parameters body formNumbered formOf nodes paths path first second nodesOf nodesBelow variable fieldNumbers valueSize children valuesBelow asText asYesNo asList asRecord thenRead inRow whileKind textEnd rangeEnd classEnd elementEnd productionEnd grammarEnd namingEnd typeFormEnd typeEnd pathEnd formEnd sized nodeEnd templateEnd templatesEnd childrenEnd kindEnd valueEnd tailRight layoutFault grammarLayout templatesLayout valueLayout deepest looped loopsBelow loopedBelow fewLoops templateLimits templatesLimits valueLimits elementNamed grammarNames typeNamed typeNames formNamed nodeNamed templateNames templatesNames rangeRight classBounds grammarClasses asksClass asksNonterminal asksRepetition asksItem positions textClass isYesNo itemType fieldTypes typeAlong pathType argumentsFit site suitsForm suits sites sitesOf sitesBelow misfit bodySite only declaredType templatesTyping typed hasForm hasType paired typedOf typedBelow mistyped valueTyping start andThen valueAlong pathValue pathValues write inOrder withChild pieces visitForm counted reached visit walk answer streamKind bytesOf layoutOf limitsOf placed over try accept setRefusal checkRefusal scratchNeeded evaluateRefusal limitNumber check left kept walked unlessRefused input evaluate packRefusal unpackRefusal written pack unpack
+unfolding flatten head size utf8 inUnits class range production keyword lexeme repetition textType listType template parameter node build place
+    expand for sequence path text list exampleGrammar templatesWith exampleTemplates endlessTemplates exampleValue case cases evaluated stated
+    Faults.need Faults.both Faults.every Faults.tree Faults.onFound Faults.exists Faults.onlyIf Faults.at
+    Records.base Records.byteOf Records.word Records.kindOf Records.fieldA Records.fieldB Records.fieldC Records.fieldD Records.recordCount
+    Records.recordsFrom Records.units Records.textOf Records.paddingOf Records.zeros Records.heads Records.after Records.row Records.things
+    Records.ofKind Records.nth Records.numbered
+    Blocks.fnvStart Blocks.multiplied Blocks.fnv1a Blocks.word32 Blocks.sound Blocks.streamLength Blocks.block Blocks.blockRight Blocks.streamBlocks
+    Blocks.bytes32 Blocks.checked Blocks.filled Blocks.packedBlock Blocks.packedBlocks packed
+    Lexeme.between Lexeme.inside Lexeme.firstByte Lexeme.laterByte Lexeme.nextByte Lexeme.decode Lexeme.decoded Lexeme.charactersOf Lexeme.lowest
+    Lexeme.highest Lexeme.ranges Lexeme.inSome Lexeme.allInSome Lexeme.admits Lexeme.isLexeme
+    Grammar.elementSize Grammar.productionSize Grammar.grammarSize Grammar.grammarThings Grammar.classes Grammar.productions Grammar.class
+    Grammar.production Grammar.elementNumbered Grammar.elementAt Grammar.elementHeads Grammar.elements Grammar.hasProduction Grammar.nonterminalExists
+    Templates.templatesSize Templates.templatesThings Templates.types Templates.templates Templates.type Templates.template Templates.fieldHeads
+    Templates.typeNumbered Templates.typeAt Templates.typeOf Templates.parameterHeads Templates.parameters Templates.body Templates.formNumbered
+    Templates.formOf Templates.nodes Templates.paths Templates.path Templates.first Templates.nodesOf Templates.nodesBelow Templates.variable
+    Templates.fieldNumbers
+    Value.valueSize Value.children Value.valuesBelow Value.asText Value.asList
+    Layout.thenRead Layout.inRow Layout.whileKind Layout.textEnd Layout.rangeEnd Layout.classEnd Layout.elementEnd Layout.productionEnd
+    Layout.grammarEnd Layout.namingEnd Layout.typeFormEnd Layout.typeEnd Layout.pathEnd Layout.formEnd Layout.sized Layout.nodeEnd Layout.templateEnd
+    Layout.templatesEnd Layout.childrenEnd Layout.kindEnd Layout.valueEnd Layout.tailRight Layout.layoutFault Layout.grammarLayout
+    Layout.templatesLayout Layout.valueLayout
+    Limits.deepest Limits.looped Limits.loopsBelow Limits.loopedBelow Limits.fewLoops Limits.templateLimits Limits.templatesLimits Limits.valueLimits
+    Names.elementNamed Names.grammarNames Names.typeNamed Names.typeNames Names.formNamed Names.nodeNamed Names.templateNames Names.templatesNames
+    Classes.rangeRight Classes.classBounds Classes.grammarClasses
+    Typing.asksClass Typing.asksNonterminal Typing.asksRepetition Typing.asksItem Typing.positions Typing.textClass Typing.itemType Typing.typeAlong
+    Typing.pathType Typing.argumentsFit Typing.site Typing.suitsForm Typing.suits Typing.sites Typing.sitesOf Typing.sitesBelow Typing.misfit
+    Typing.bodySite Typing.only Typing.declaredType Typing.templatesTyping Typing.typed Typing.hasForm Typing.hasType Typing.typedOf Typing.typedBelow
+    Typing.mistyped Typing.valueTyping
+    Walk.start Walk.andThen Walk.valueAlong Walk.pathValue Walk.pathValues Walk.write Walk.inOrder Walk.withChild Walk.pieces Walk.visitForm
+    Walk.counted Walk.reached Walk.visit Walk.walk
+    answer Answers.streamKind Answers.bytesOf Answers.layoutOf Answers.limitsOf Answers.placed Answers.over Answers.try Answers.accept
+    Answers.setRefusal Answers.scratchNeeded Answers.evaluateRefusal Answers.limitNumber Answers.left Answers.kept Answers.walked
+    Answers.unlessRefused Answers.input evaluate
 cases-hold = refl
