@@ -22,7 +22,7 @@ use Rattle.rules.specs.Typing
 use Rattle.rules.specs.Walk
 use Rattle.rules.specs.Answers
 use Rattle.rules.specs.Blocks.{packed}
-use Rattle.rules.specs.Answers.{answer, evaluate}
+use Rattle.rules.specs.Answers.{answer, scratchNeeded, evaluate}
 use Rattle.rules.specs.declared.Answer.{Answer}
 
 -- Records are made from what the paper says of them; counts and sizes are computed.
@@ -178,10 +178,10 @@ cases =
     ∷ case endlessTemplates exampleValue 200 65_536 (answer 10 2 4 200 0) ""
     ∷ []
 
--- the evaluate call on packed streams, an output of zeros and 4,800 numbers of scratch; the text is the first bytes of the output
+-- the evaluate call on packed streams, an output of zeros and the scratch that 9 asks for; the text is the first bytes of the output
 unfoldable pub evaluated : Case → Answer × List ℕ
 evaluated c =
-    let o = evaluate (packed 1 exampleGrammar) (packed 2 (c .templates)) (packed 3 (c .value)) (c .fuel) (replicate (c .room) 0) (replicate 4_800 0) in
+    let o = evaluate (packed 1 exampleGrammar) (packed 2 (c .templates)) (packed 3 (c .value)) (c .fuel) (replicate (c .room) 0) (replicate scratchNeeded 0) in
     (o .result, take (o .result .bytes) (o .output))
 
 unfoldable pub stated : Case → Answer × List ℕ
@@ -220,6 +220,6 @@ unfolding flatten head size utf8 inUnits class range production keyword lexeme r
     Walk.start Walk.andThen Walk.valueAlong Walk.pathValue Walk.pathValues Walk.write Walk.inOrder Walk.withChild Walk.pieces Walk.visitForm
     Walk.counted Walk.reached Walk.visit Walk.walk
     answer Answers.streamKind Answers.bytesOf Answers.layoutOf Answers.limitsOf Answers.placed Answers.over Answers.try Answers.accept
-    Answers.setRefusal Answers.scratchNeeded Answers.evaluateRefusal Answers.limitNumber Answers.left Answers.kept Answers.walked
+    Answers.setRefusal scratchNeeded Answers.evaluateRefusal Answers.limitNumber Answers.left Answers.kept Answers.walked
     Answers.unlessRefused Answers.input evaluate
 cases-hold = refl
