@@ -1,11 +1,16 @@
 -- The check is 32-bit FNV-1a as it is published: "for each byte, xor, then multiply by 16777619 modulo 2^32".
-use mathlib.Core.Path.{_≡_, ap, ap₂, sym, _∙_}
+use mathlib.Core.Path.{_≡_, refl, ap, ap₂, sym, _∙_}
 use Prim.Native.Nat.{ℕ, _+_, _*_, _/_, _%_, _<_}
 use mathlib.Core.List.{List, _∷_}
 use native.Mathlib.Nat.{mod-lt, zero-add}
 use lib.Bits.{bitXor, xor-comm, xor-block, xor-zero-l}
 use lib.Pow.{split, pow-pos}
-use Rattle.rules.specs.Blocks.{multiplied, fnv1a}
+use Rattle.rules.specs.Blocks.{fnvStart, multiplied, fnv1a}
+
+-- "start 2166136261"
+pub published-start : fnvStart ≡ 2166136261
+unfolding fnvStart
+published-start = refl
 
 -- the definition has the byte first in the xor; the published step has the number so far first
 pub published : (h b : ℕ) (bs : List ℕ) → fnv1a h (b ∷ bs) ≡ fnv1a (bitXor h b * 16777619 % 4294967296) bs
