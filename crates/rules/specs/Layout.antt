@@ -95,7 +95,7 @@ unfoldable pub nodeEnd : List ℕ → ℕ → ℕ → Option ℕ
 nodeEnd t zero p = none
 nodeEnd t (suc k) p = thenRead (onlyIf (eqb (kindOf t p) 5) p) (λ p. sized t p (formEnd t (formOf t p) (nodeEnd t k) p))
 
--- "3 template: a parameters, b nonterminal, c size; then 4 parameter: type b; then one body node"
+-- "3 template ..: a parameters, b nonterminal, c size; then 4 parameter: type b; then one body node"
 unfoldable pub templateEnd : List ℕ → ℕ → Option ℕ
 templateEnd t p =
     thenRead (onlyIf (eqb (fieldD t p) 0) p)

@@ -13,9 +13,9 @@ use Rattle.theorems.specs.Begins.{written}
 use Rattle.theorems.specs.Visits.{LevelsOf, WritesOf, InStep, walk-both}
 
 -- the state that an end has, done or ended by one of 10 to 12
-pub data EndsWith (s : State) : End → Type 0 where
-  when-done : EndsWith s (done s)
-  when-ended : (l : Limit) (p : ℕ) → EndsWith s (ended l p s)
+pub data StateOf (s : State) : End → Type 0 where
+  when-done : StateOf s (done s)
+  when-ended : (l : Limit) (p : ℕ) → StateOf s (ended l p s)
 
 -- an end that is done in a state of Q, or ended at a node in a state of L, or stuck
 pub data Leaves (Q : State → Type 0) (L : Limit → ℕ → State → Type 0) : End → Type 0 where
@@ -58,18 +58,18 @@ pub record Within (i : Input) (s : State) : Type 0 where
   pub few-steps : s .steps ≤ i .fuel
   pub few-bytes : length (s .text) ≤ i .room
 
--- that a limit was met, at a node and with the steps and the text so far
-pub data Met (i : Input) (p : ℕ) (s : State) : Limit → Type 0 where
+-- that a limit strikes, at a node and with the steps and the text so far
+pub data Struck (i : Input) (p : ℕ) (s : State) : Limit → Type 0 where
   -- 10: "A node is reached with all fuel (32 bits) used; it isn't counted as a step."
-  all-used : (d : ℕ) (env : List ℕ) → LevelsOf i d p env → d ≤ 201 → s .steps ≡ i .fuel → Met i p s fuel-spent
+  all-used : (d : ℕ) (env : List ℕ) → LevelsOf i d p env → d ≤ 201 → s .steps ≡ i .fuel → Struck i p s fuel-spent
   -- 11: "A node is reached at depth 201"
-  at-201 : (env : List ℕ) → LevelsOf i 201 p env → Met i p s too-deep
+  at-201 : (env : List ℕ) → LevelsOf i 201 p env → Struck i p s too-deep
   -- 12: "A keyword or lexeme passes the end of the output."
-  passes : (d : ℕ) (env x : List ℕ) → LevelsOf i d p env → d ≤ 200 → WritesOf i p env x → i .room < length (s .text) + length x → Met i p s output-full
+  passes : (d : ℕ) (env x : List ℕ) → LevelsOf i d p env → d ≤ 200 → WritesOf i p env x → i .room < length (s .text) + length x → Struck i p s output-full
 
 -- how a walk ends: within its limits, and by none that it did not meet
 abbrev Bounded : Input → End → Type 0
-Bounded i = Leaves (Within i) (λ l p s. Within i s × Met i p s l)
+Bounded i = Leaves (Within i) (λ l p s. Within i s × Struck i p s l)
 
 bounded-kept : (i : Input) → InStep i (i .fuel) (i .room) (λ s e e′. Within i s → Bounded i e)
 unfolding counted
@@ -92,20 +92,20 @@ walk-bounded : (i : Input) → Bounded i (walk i)
 unfolding start
 walk-bounded i = walk-both i (i .fuel) (i .room) _ (bounded-kept i) (record { few-steps = omega arith; few-bytes = omega arith })
 
-left-within : {i : Input} {s : State} {e : End} → Bounded i e → EndsWith s e → Within i s
+left-within : {i : Input} {s : State} {e : End} → Bounded i e → StateOf s e → Within i s
 left-within (at-done s w) when-done = w
 left-within (at-limit l p s h) (when-ended l′ p′) = h .0
 
 -- "One that passes the end of the output is 12."
-pub written-fits : (i : Input) (s : State) → EndsWith s (walk i) → length (s .text) ≤ i .room
+pub written-fits : (i : Input) (s : State) → StateOf s (walk i) → length (s .text) ≤ i .room
 written-fits i s h = left-within (walk-bounded i) h .few-bytes
 
-pub steps-fit : (i : Input) (s : State) → EndsWith s (walk i) → s .steps ≤ i .fuel
+pub steps-fit : (i : Input) (s : State) → StateOf s (walk i) → s .steps ≤ i .fuel
 steps-fit i s h = left-within (walk-bounded i) h .few-steps
 
-left-met : {i : Input} {l : Limit} {p : ℕ} {s : State} → Bounded i (ended l p s) → Met i p s l
-left-met (at-limit l p s h) = h .1
+left-struck : {i : Input} {l : Limit} {p : ℕ} {s : State} → Bounded i (ended l p s) → Struck i p s l
+left-struck (at-limit l p s h) = h .1
 
--- A limit ends a walk only where it is met: no walk stops early.
-pub limits-bind : (i : Input) (l : Limit) (p : ℕ) (s : State) → walk i ≡ ended l p s → Met i p s l
-limits-bind i l p s e = left-met (subst (Bounded i) e (walk-bounded i))
+-- A limit ends a walk only where it is met. (Where the walk then is, with which text and steps: `limits-find` of `Comes`.)
+pub limits-bind : (i : Input) (l : Limit) (p : ℕ) (s : State) → walk i ≡ ended l p s → Struck i p s l
+limits-bind i l p s e = left-struck (subst (Bounded i) e (walk-bounded i))

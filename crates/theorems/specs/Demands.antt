@@ -13,7 +13,7 @@ use Rattle.theorems.specs.Evaluation.{EvaluatesSet}
 use Rattle.theorems.specs.Packing.{blockCount, fillCount, fill-small, RoundTrip, unpack-of-pack}
 use Rattle.theorems.specs.Unpacked.{RecordsUnpacked, records-unpacked}
 use Rattle.theorems.specs.Kept.{Kept, textLeft, refusals-keep}
-use Rattle.theorems.specs.AsWalked.{AnswersAsWalk, answers-of-accepted, text-exactly, Begun, text-begun}
+use Rattle.theorems.specs.EvaluateCall.{AnswersAsWalk, answers-of-accepted, text-exactly, Begun, text-begun}
 use Rattle.theorems.specs.InOrder.{CheckInOrder, check-in-order, EvaluateInOrder, evaluate-in-order}
 
 -- 1. "A caller who lends any grammar, template set, record, scratch and output buffer, of any bytes and lengths, gets either a finished text or one numbered

@@ -142,7 +142,7 @@ module _ (i : Input) (go : ℕ → List ℕ → State → End) (below : ByRules 
   form-evaluated Sequence p env s s′ f e = wrote-step _ _ s s′ (items-evaluated env _ (counted s) s′ e) λ x n. sequence f
   form-evaluated Unknown p env s s′ f e = absurd (let z : _≡_ {A = ℕ} 0 1 = cc in omega arith)
 
-visit-evaluated : (i : Input) (k : ℕ) → ByRules i (visit i k)
+pub visit-evaluated : (i : Input) (k : ℕ) → ByRules i (visit i k)
 unfolding visit
 visit-evaluated i zero p env s s′ e = absurd (let z : _≡_ {A = ℕ} 0 1 = cc (reached-done _ p _ s s′ e) in omega arith)
 visit-evaluated i (suc k) p env s s′ e =
@@ -170,7 +170,7 @@ abbrev adding : State → List ℕ → ℕ → State
 adding s x n = record { steps = s .steps + n; text = s .text ++ x }
 
 begins-adding : (s : State) (x : List ℕ) (n : ℕ) → Begins s (adding s x n)
-begins-adding s x n = record { rest = x; text-begins = refl; steps-first = omega arith }
+begins-adding s x n = record { rest = x; text-begins = refl; steps-at-most = omega arith }
 
 -- adding a text and steps, and then more
 adding-more : (s : State) (x y : List ℕ) (m n : ℕ) → adding (adding s x m) y n ≡ adding s (x ++ y) (m + n)
@@ -198,7 +198,7 @@ module _ (i : Input) where
 
       go : {e : End} → Gives i (adding s x m) e → Gives i (adding (adding s x m) y n) (andThen e next)
       go whole = k (adding s x m)
-      go (fuel-short p s₁ b u l) = fuel-short p s₁ (begins-then b more) u (let c = more .steps-first in omega arith)
+      go (fuel-short p s₁ b u l) = fuel-short p s₁ (begins-then b more) u (let c = more .steps-at-most in omega arith)
       go (levels-short p s₁ b) = levels-short p s₁ (begins-then b more)
       go (room-short p s₁ b l) = room-short p s₁ (begins-then b more) (let c = begins-length more in omega arith)
 

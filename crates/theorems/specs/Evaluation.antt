@@ -45,7 +45,7 @@ mutual
   pub data Builds (g t v : List ℕ) : List ℕ → List Element → List ℕ → List ℕ → ℕ → Type 0 where
     -- nothing is left to build; children that no element takes, of which a typed build has none, give no text
     no-element : {env cs : List ℕ} → Builds g t v env [] cs [] 0
-    -- 4: "For a keyword kw, the premise ψ = kw"
+    -- 4: "For a keyword kw, the premise ψᵢ = kw"
     own-bytes : {env cs w y : List ℕ} {es : List Element} {n : ℕ} → Builds g t v env es cs y n → Builds g t v env (keyword w ∷ es) cs (w ++ y) n
     -- 1 to 3: "For a nonterminal", "For a Kleene closure", whose list is the sequence at c, "For a morphem class"
     next-child : {env cs x y : List ℕ} {e : Element} {at : Position} {c m n : ℕ} {es : List Element} → Asks e at

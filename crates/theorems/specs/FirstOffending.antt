@@ -10,7 +10,7 @@ use lib.ListN.{length}
 use lib.Dec.{leb, ltb}
 use borrow.Author.Tests.{leb-false, lt-leb, ltb-false, le-ltb}
 use Rattle.rules.specs.Faults.{need, every, tree, onFound, exists, at}
-use Rattle.rules.specs.Records.{fieldA, fieldB, fieldC, fieldD, row, nth, numbered}
+use Rattle.rules.specs.Records.{fieldA, fieldB, fieldC, row, nth, numbered}
 use Rattle.rules.specs.Blocks.{streamLength, blockRight, streamBlocks}
 use Rattle.rules.specs.Lexeme.{lowest, highest, ranges}
 use Rattle.rules.specs.Grammar.{elementSize, classes, productions, elementAt, elementHeads, nonterminalExists}
@@ -25,9 +25,10 @@ use Rattle.rules.specs.Answers
 use Rattle.rules.specs.Answers.{Stream, bytesOf, layoutOf, limitsOf}
 use Rattle.laws.specs.Faults.{In, here, later, Below, exists-iff}
 use Rattle.theorems.specs.Streams.{WellSized, length-exactly, block-exactly, row-in, in-row}
-use Rattle.theorems.specs.LaidOut.{InRow, no-thing, one-thing, GrammarLaid, NamingAt, TypeAt, TemplateAt, TemplatesLaid, ValueLaid}
+use Rattle.theorems.specs.LaidOut.{InRow, no-thing, one-thing, GrammarLaid, TypeAt, TemplateAt, TemplatesLaid, ValueLaid}
 use Rattle.theorems.specs.Heads.{element-size, element-grows}
 use Rattle.theorems.specs.LayoutExactly.{grammar-laid-exactly, templates-laid-exactly, value-laid-exactly}
+use Rattle.theorems.specs.Follows.{fields-row}
 use Rattle.theorems.specs.Around.{around-exactly}
 use Rattle.theorems.specs.LimitsExactly.{looped-below, below-looped, limits-exactly, not-deep, nonterminal-iff, element-names, type-names, node-names, numbered-in}
 use Rattle.theorems.specs.Judgement.{Declared}
@@ -191,12 +192,6 @@ type-unnamed g t n p q (inr (i, b)) = by-field q i (ltb-false _ _ b)
 unnamed-type : (g t : List ℕ) (n p q : ℕ) → TypeUnnamed g t n p q → TypeIn g t n p q
 unnamed-type g t n p q (by-type b) = inl (refl, fails-iff _ (type-names g t (typeAt t p)) .1 b)
 unnamed-type g t n p q (by-field f i l) = inr (i, le-ltb _ _ l)
-
-fields-row : {t : List ℕ} {p q : ℕ} → TypeAt t p q → InRow (NamingAt t 2) (fieldD t p) (p + 1) q
-fields-row (TypeAt.a-text p k a c d) = rw d (no-thing (p + 1))
-fields-row (TypeAt.a-yes-no p k a b c d) = rw d (no-thing (p + 1))
-fields-row (TypeAt.a-list p k a c d) = rw d (no-thing (p + 1))
-fields-row (TypeAt.a-record p q k a b c fs) = fs
 
 least-type : (g t : List ℕ) (n p q : ℕ) → TypeAt t p q → Least (TypeUnnamed g t n p) p q (typeNames g t (n, p))
 unfolding typeNames fieldHeads

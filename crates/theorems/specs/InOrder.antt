@@ -20,16 +20,16 @@ use Rattle.theorems.specs.Offences.{Offence}
 use Rattle.theorems.specs.Refusals.{Refusal, Refuses, check-refuses, evaluate-refuses}
 use Rattle.theorems.specs.FirstRefused.{Before, Names, to-7, first-offending-check, first-offending-evaluate}
 use Rattle.theorems.specs.Kept.{unrefused-as-walked}
-use Rattle.theorems.specs.AsWalked.{walked-number}
+use Rattle.theorems.specs.EvaluateCall.{walked-number}
 
 -- "in this order, each over grammar, templates, value before the next", and in a stream the first head: by number, stream kind and place
-abbrev pub Sooner : ℕ → ℕ → ℕ → ℕ → ℕ → ℕ → Type 0
-Sooner m j q n k p = (m < n) ⊎ ((m ≡ n) × ((j < k) ⊎ ((j ≡ k) × (q < p))))
+abbrev pub Sooner : ℕ × ℕ × ℕ → ℕ × ℕ × ℕ → Type 0
+Sooner x y = (x .0 < y .0) ⊎ ((x .0 ≡ y .0) × ((x .1 < y .1) ⊎ ((x .1 ≡ y .1) × (x .2 < y .2))))
 
 -- the first offence of all
 pub record FirstOffence (Off : ℕ → ℕ → ℕ → Type 0) (n k p : ℕ) : Type 0 where
   pub offends : Off n k p
-  pub none-sooner : (m j q : ℕ) → Sooner m j q n k p → Off m j q → ⊥
+  pub none-sooner : (m j q : ℕ) → Sooner (m, j, q) (n, k, p) → Off m j q → ⊥
 
 -- of two numbers
 data Order (a b : ℕ) : Type 0 where
@@ -45,7 +45,7 @@ order a b = go (ltb a b) (ltb b a) refl refl
     go false true e f = more (ltb-true b a f)
     go false false e f = same (let l : b ≤ a = ltb-false a b e in let m : a ≤ b = ltb-false b a f in omega arith)
 
-same-unless : (m j q n k p : ℕ) → (Sooner m j q n k p → ⊥) → (Sooner n k p m j q → ⊥) → (m ≡ n) × (j ≡ k) × (q ≡ p)
+same-unless : (m j q n k p : ℕ) → (Sooner (m, j, q) (n, k, p) → ⊥) → (Sooner (n, k, p) (m, j, q) → ⊥) → (m ≡ n) × (j ≡ k) × (q ≡ p)
 same-unless m j q n k p h h′ = number (order m n)
   where
     place : m ≡ n → j ≡ k → Order q p → (m ≡ n) × (j ≡ k) × (q ≡ p)
@@ -93,7 +93,7 @@ module _ (Off : ℕ → ℕ → ℕ → Type 0) where
   none-exactly none h = (λ e n k p o. h .none-offends e (answer n k p 0 0) o, λ n. refl)
   none-exactly (some a) h = (λ e. absurd (Option·some-ne-none a e), λ n. absurd (n (a .number) (a .kind) (a .place) (h .first-offends a refl .0)))
 
--- a call that answers a refusal, or what it answers where there is none: five zeros, or by a number outside 1 to 9
+-- a call answers the refusal b exactly when the order of the checks gives b, b not being what it answers otherwise
 found-exactly : (o : Option Answer) (a b : Answer) → (a ≡ b → ⊥) → (onFound o a (λ x. x) ≡ b) ↔ (o ≡ some b)
 unfolding onFound
 found-exactly none a b n = (λ e. absurd (n e), λ e. absurd (Option·none-ne-some b e))

@@ -13,7 +13,7 @@ use Rattle.laws.specs.Faults.{placed-iff, try-iff}
 use Rattle.theorems.specs.Refusals.{Refusal, evaluate-refuses}
 use Rattle.theorems.specs.Accepted.{set-none}
 use Rattle.theorems.specs.Sound.{WellTyped, never-stuck}
-use Rattle.theorems.specs.Bounds.{EndsWith, when-done, when-ended, written-fits}
+use Rattle.theorems.specs.Bounds.{StateOf, when-done, when-ended, written-fits}
 
 -- "output and scratch keep their bytes"
 pub record Untouched (out scratch : List ℕ) (o : Outcome) : Type 0 where
@@ -56,7 +56,7 @@ left-produced a s out scratch h = record {
   scratch-zero = refl;
 }
 
-walked-as : (e : End) (out scratch : List ℕ) → (e ≡ stuck → ⊥) → ((s : State) → EndsWith s e → length (s .text) ≤ length out)
+walked-as : (e : End) (out scratch : List ℕ) → (e ≡ stuck → ⊥) → ((s : State) → StateOf s e → length (s .text) ≤ length out)
     → AsWalked e out scratch (walked e out scratch)
 unfolding walked left
 walked-as (done s) out scratch n fits = finished s refl refl (left-produced _ s out scratch (fits s when-done))

@@ -5,6 +5,7 @@ pub mod Heads
 pub mod LayoutExactly
 pub mod Least
 pub mod Ranges
+pub mod Follows
 pub mod Around
 pub mod LimitsExactly
 pub mod HeadByHead
@@ -31,10 +32,11 @@ pub mod OneLine
 pub mod Ends
 pub mod Evaluation
 pub mod EvaluatesExactly
+pub mod Comes
 pub mod EvaluatesOne
 pub mod Sound
 pub mod Kept
-pub mod AsWalked
+pub mod EvaluateCall
 pub mod InOrder
 pub mod Demands
 pub mod Packing

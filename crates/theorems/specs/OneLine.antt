@@ -10,8 +10,8 @@ use lib.Dec.{leb, ltb}
 use borrow.Author.Tests.{leb-true, leb-false, ltb-true, ltb-false}
 use Rattle.rules.specs.Walk.{Input, State, Limit, fuel-spent, too-deep, output-full, End, done, ended, stuck, andThen, write, counted, reached, walk}
 use Rattle.theorems.specs.Begins.{Begins, begins-itself, begins-then, begins-written, begins-counted, written}
-use Rattle.theorems.specs.Visits.{limitedBy, WritesOf, InStep, walk-both}
-use Rattle.theorems.specs.Bounds.{EndsWith, when-done, when-ended, Leaves, at-done, at-limit, at-stuck, then-leaves, write-leaves, reached-leaves}
+use Rattle.theorems.specs.Visits.{limitedBy, LevelsOf, WritesOf, InStep, walk-both}
+use Rattle.theorems.specs.Bounds.{StateOf, when-done, when-ended, Leaves, at-done, at-limit, at-stuck, then-leaves, write-leaves, reached-leaves}
 
 -- whatever state an end has, s begins it
 abbrev Past : State → End → Type 0
@@ -28,19 +28,19 @@ past-then next h k = then-leaves next h (λ s₁ b. past-more b (k s₁))
 -- A limit stops one of two walks, with this fuel and room, at the node p. The other has more: it counts the node as a step, or writes the piece
 -- that had no room, and goes further. A node that is 201 deep stops both.
 pub data Further (i : Input) (fuel room fuel′ room′ p : ℕ) (s : State) : Limit → State → Type 0 where
-  counts : fuel ≤ s .steps → s .steps < fuel′ → Further i fuel room fuel′ room′ p s fuel-spent (counted s)
-  writes : (env x : List ℕ) → WritesOf i p env x → room < length (s .text) + length x → length (s .text) + length x ≤ room′
+  counts : (d : ℕ) (env : List ℕ) → LevelsOf i d p env → fuel ≤ s .steps → s .steps < fuel′ → Further i fuel room fuel′ room′ p s fuel-spent (counted s)
+  writes : (d : ℕ) (env x : List ℕ) → LevelsOf i d p env → WritesOf i p env x → room < length (s .text) + length x → length (s .text) + length x ≤ room′
       → Further i fuel room fuel′ room′ p s output-full (written s x)
 
 further-begins : {i : Input} {fuel room fuel′ room′ p : ℕ} {s s₁ : State} {l : Limit} → Further i fuel room fuel′ room′ p s l s₁ → Begins s s₁
-further-begins {s} (counts a b) = begins-counted s
-further-begins {s} (writes env x w a b) = begins-written s x
+further-begins {s} (counts d env at a b) = begins-counted s
+further-begins {s} (writes d env x at w a b) = begins-written s x
 
 -- who has at least as much does not stop first
 not-less : {i : Input} {fuel room fuel′ room′ p : ℕ} {s s₁ : State} {l : Limit} → fuel′ ≤ fuel → room′ ≤ room
     → Further i fuel room fuel′ room′ p s l s₁ → ⊥
-not-less f r (counts a b) = omega arith
-not-less f r (writes env x w a b) = omega arith
+not-less f r (counts d env at a b) = omega arith
+not-less f r (writes d env x at w a b) = omega arith
 
 module _ (i : Input) (fuel room : ℕ) where
   -- Both walks come to the same end; or the one has stopped, and the other goes further.
@@ -65,31 +65,31 @@ module _ (i : Input) (fuel room : ℕ) where
   write-past : (room p : ℕ) (x : List ℕ) (s : State) → Past s (write room p x s)
   write-past room p x s = write-leaves room p x s (λ fits. begins-written s x) (λ past. begins-itself s)
 
-  write-line : {p : ℕ} {env : List ℕ} (x : List ℕ) → WritesOf i p env x → (s : State) → Line (write (i .room) p x s) (write room p x s)
+  write-line : {d p : ℕ} {env : List ℕ} (x : List ℕ) → LevelsOf i d p env → WritesOf i p env x → (s : State) → Line (write (i .room) p x s) (write room p x s)
   unfolding write
-  write-line {p} {env} x w s = go (leb (length (s .text) + length x) (i .room)) (leb (length (s .text) + length x) room) refl refl
+  write-line {d} {p} {env} x at w s = go (leb (length (s .text) + length x) (i .room)) (leb (length (s .text) + length x) room) refl refl
     where
       go : (b b′ : Bool) → leb (length (s .text) + length x) (i .room) ≡ b → leb (length (s .text) + length x) room ≡ b′
           → Line (cond b (done (written s x)) (ended output-full p s)) (cond b′ (done (written s x)) (ended output-full p s))
       go true true e e′ = alike _
       go true false e e′ =
-          second-stops output-full p s _ _ (writes env x w (leb-false _ _ e′) (leb-true _ _ e)) (at-done _ (begins-itself (written s x)))
+          second-stops output-full p s _ _ (writes d env x at w (leb-false _ _ e′) (leb-true _ _ e)) (at-done _ (begins-itself (written s x)))
       go false true e e′ =
-          first-stops output-full p s _ _ (writes env x w (leb-false _ _ e) (leb-true _ _ e′)) (at-done _ (begins-itself (written s x)))
+          first-stops output-full p s _ _ (writes d env x at w (leb-false _ _ e) (leb-true _ _ e′)) (at-done _ (begins-itself (written s x)))
       go false false e e′ = alike _
 
   reached-past : (fuel p : ℕ) (next : State → End) → ((s : State) → Past s (next s)) → (s : State) → Past s (reached (ltb (s .steps) fuel) p next s)
   reached-past fuel p next k s = reached-leaves fuel p next s (λ left. past-more (begins-counted s) (k (counted s))) (λ used. begins-itself s)
 
-  reached-line : (p : ℕ) (next next′ : State → End) → ((s : State) → OnLine s (next s) (next′ s)) → (s : State)
+  reached-line : {d p : ℕ} {env : List ℕ} (next next′ : State → End) → LevelsOf i d p env → ((s : State) → OnLine s (next s) (next′ s)) → (s : State)
       → Line (reached (ltb (s .steps) (i .fuel)) p next s) (reached (ltb (s .steps) fuel) p next′ s)
   unfolding reached
-  reached-line p next next′ k s = go (ltb (s .steps) (i .fuel)) (ltb (s .steps) fuel) refl refl
+  reached-line {d} {p} {env} next next′ at k s = go (ltb (s .steps) (i .fuel)) (ltb (s .steps) fuel) refl refl
     where
       go : (b b′ : Bool) → ltb (s .steps) (i .fuel) ≡ b → ltb (s .steps) fuel ≡ b′ → Line (reached b p next s) (reached b′ p next′ s)
       go true true e e′ = k (counted s) .line
-      go true false e e′ = second-stops fuel-spent p s _ _ (counts (ltb-false _ _ e′) (ltb-true _ _ e)) (k (counted s) .first-past)
-      go false true e e′ = first-stops fuel-spent p s _ _ (counts (ltb-false _ _ e) (ltb-true _ _ e′)) (k (counted s) .second-past)
+      go true false e e′ = second-stops fuel-spent p s _ _ (counts d env at (ltb-false _ _ e′) (ltb-true _ _ e)) (k (counted s) .first-past)
+      go false true e e′ = first-stops fuel-spent p s _ _ (counts d env at (ltb-false _ _ e) (ltb-true _ _ e′)) (k (counted s) .second-past)
       go false false e e′ = alike _
 
   line-kept : InStep i fuel room OnLine
@@ -102,9 +102,9 @@ module _ (i : Input) (fuel room : ℕ) where
       second-past = past-then next′ (h .second-past) (λ s₁. k s₁ .second-past);
     };
     writing = λ {d} {p} x at shallow piece s.
-        record { line = write-line x piece s; first-past = write-past (i .room) p x s; second-past = write-past room p x s };
+        record { line = write-line x at piece s; first-past = write-past (i .room) p x s; second-past = write-past room p x s };
     reaching = λ {d} {p} next next′ at shallow k s. record {
-      line = reached-line p next next′ k s;
+      line = reached-line next next′ at k s;
       first-past = reached-past (i .fuel) p next (λ s₁. k s₁ .first-past) s;
       second-past = reached-past fuel p next′ (λ s₁. k s₁ .second-past) s;
     };
@@ -114,16 +114,21 @@ module _ (i : Input) (fuel room : ℕ) where
   walks-line : Line (walk i) (walk (limitedBy i fuel room))
   walks-line = walk-both i fuel room OnLine line-kept .line
 
-past-begins : {s s′ : State} {e : End} → Past s e → EndsWith s′ e → Begins s s′
+past-begins : {s s′ : State} {e : End} → Past s e → StateOf s′ e → Begins s s′
 past-begins (at-done s b) when-done = b
 past-begins (at-limit l p s b) (when-ended l′ p′) = b
 
-same-end : {s s′ : State} {e : End} → EndsWith s e → EndsWith s′ e → Begins s s′
+same-end : {s s′ : State} {e : End} → StateOf s e → StateOf s′ e → Begins s s′
 same-end {s} when-done when-done = begins-itself s
 same-end {s} (when-ended l p) (when-ended l′ p′) = begins-itself s
 
+-- where a limit ended the one walk, the other ends alike, or goes on past the state to which it has gone further
+pub data Onward (i : Input) (fuel room : ℕ) (l : Limit) (p : ℕ) (s : State) : End → Type 0 where
+  ends-alike : Onward i fuel room l p s (ended l p s)
+  goes-on : (s₁ : State) (e : End) → Further i (i .fuel) (i .room) fuel room p s l s₁ → ((s′ : State) → StateOf s′ e → Begins s₁ s′) → Onward i fuel room l p s e
+
 module _ {i : Input} {fuel room : ℕ} where
-  line-begins : {s s′ : State} {e e′ : End} → Line i fuel room e e′ → EndsWith s e → EndsWith s′ e′ → Begins s s′ ⊎ Begins s′ s
+  line-begins : {s s′ : State} {e e′ : End} → Line i fuel room e e′ → StateOf s e → StateOf s′ e′ → Begins s s′ ⊎ Begins s′ s
   line-begins (alike e) a b = inl (same-end a b)
   line-begins (first-stops l p s s₁ e f h) (when-ended l′ p′) b = inl (begins-then (further-begins f) (past-begins h b))
   line-begins (second-stops l p s s₁ e f h) a (when-ended l′ p′) = inr (begins-then (further-begins f) (past-begins h a))
@@ -132,22 +137,20 @@ module _ {i : Input} {fuel room : ℕ} where
   line-finishes f r (alike e) = refl
   line-finishes f r (second-stops l p s s₁ e less h) = absurd (not-less f r less)
 
-  line-further : {l : Limit} {p : ℕ} {s : State} {e′ : End} → i .fuel ≤ fuel → i .room ≤ room → Line i fuel room (ended l p s) e′
-      → (e′ ≡ ended l p s) ⊎ ((s₁ : State) × Further i (i .fuel) (i .room) fuel room p s l s₁ × ((s′ : State) → EndsWith s′ e′ → Begins s₁ s′))
-  line-further f r (alike e) = inl refl
-  line-further f r (first-stops l p s s₁ e more h) = inr (s₁, more, λ s′ b. past-begins h b)
+  line-further : {l : Limit} {p : ℕ} {s : State} {e′ : End} → i .fuel ≤ fuel → i .room ≤ room → Line i fuel room (ended l p s) e′ → Onward i fuel room l p s e′
+  line-further f r (alike e) = ends-alike
+  line-further f r (first-stops l p s s₁ e more h) = goes-on s₁ e more (λ s′ b. past-begins h b)
   line-further f r (second-stops l p s s₁ e less h) = absurd (not-less f r less)
 
 -- A walk, and another of the same set and value with other fuel and room, neither of them stuck:
 pub record OneLine (i : Input) (fuel room : ℕ) : Type 0 where
   -- of one of the two the text begins the other's, and the steps are at most the other's
-  pub one-begins : (s s′ : State) → EndsWith s (walk i) → EndsWith s′ (walk (limitedBy i fuel room)) → Begins s s′ ⊎ Begins s′ s
+  pub one-begins : (s s′ : State) → StateOf s (walk i) → StateOf s′ (walk (limitedBy i fuel room)) → Begins s s′ ⊎ Begins s′ s
   -- where the second has at least as much fuel and room: if the first finishes, it finishes alike, with the same steps and the same text;
   pub finishes-alike : i .fuel ≤ fuel → i .room ≤ room → (s : State) → walk i ≡ done s → walk (limitedBy i fuel room) ≡ done s
   -- if a limit ends the first, it ends the second alike, or the second goes further
   pub goes-further : i .fuel ≤ fuel → i .room ≤ room → (l : Limit) (p : ℕ) (s : State) → walk i ≡ ended l p s
-      → (walk (limitedBy i fuel room) ≡ ended l p s)
-      ⊎ ((s₁ : State) × Further i (i .fuel) (i .room) fuel room p s l s₁ × ((s′ : State) → EndsWith s′ (walk (limitedBy i fuel room)) → Begins s₁ s′))
+      → Onward i fuel room l p s (walk (limitedBy i fuel room))
 
 pub one-line : (i : Input) (fuel room : ℕ) → OneLine i fuel room
 one-line i fuel room = record {

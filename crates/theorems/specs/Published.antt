@@ -1,16 +1,11 @@
 -- The check is 32-bit FNV-1a as it is published: "for each byte, xor, then multiply by 16777619 modulo 2^32".
 use mathlib.Core.Path.{_≡_, refl, ap, ap₂, sym, _∙_}
 use Prim.Native.Nat.{ℕ, _+_, _*_, _/_, _%_, _<_}
-use mathlib.Core.List.{List, _∷_}
+use mathlib.Core.List.{List, [], _∷_}
 use native.Mathlib.Nat.{mod-lt, zero-add}
 use lib.Bits.{bitXor, xor-comm, xor-block, xor-zero-l}
 use lib.Pow.{split, pow-pos}
 use Rattle.rules.specs.Blocks.{fnvStart, multiplied, fnv1a}
-
--- "start 2166136261"
-pub published-start : fnvStart ≡ 2166136261
-unfolding fnvStart
-published-start = refl
 
 -- the definition has the byte first in the xor; the published step has the number so far first
 pub published : (h b : ℕ) (bs : List ℕ) → fnv1a h (b ∷ bs) ≡ fnv1a (bitXor h b * 16777619 % 4294967296) bs
@@ -23,3 +18,9 @@ xor-byte h b l =
     ap₂ bitXor (sym (zero-add b)) (sym (split h 8))
     ∙ xor-block 8 0 (h / 256) b (h % 256) l (mod-lt h (pow-pos 8))
     ∙ ap (λ (x : ℕ). x * 256 + bitXor b (h % 256)) (xor-zero-l (h / 256))
+
+-- "published values: empty 0x811c9dc5, "a" 0xe40c292c, "foobar" 0xbf9cf968"
+pub published-values : (fnv1a fnvStart [] ≡ 0x811c9dc5) × (fnv1a fnvStart (97 ∷ []) ≡ 0xe40c292c)
+    × (fnv1a fnvStart (102 ∷ 111 ∷ 111 ∷ 98 ∷ 97 ∷ 114 ∷ []) ≡ 0xbf9cf968)
+unfolding fnvStart multiplied fnv1a
+published-values = (refl, refl, refl)

@@ -80,7 +80,7 @@ pub template-rows : {t : List ℕ} → WellSized t → (h : TemplatesLaid t) →
 template-rows {t} w h = rw (templates-are t w h) (rows-heads (templatesSize t) (λ p q. template-size) (h .templates))
 
 -- Nodes
-nodes-row : {t : List ℕ} {n p q : ℕ} → NodesAt t n p q → InRow (NodeAt t) n p q
+pub nodes-row : {t : List ℕ} {n p q : ℕ} → NodesAt t n p q → InRow (NodeAt t) n p q
 nodes-row (no-node p) = no-thing p
 nodes-row (one-node n p q r a as′) = one-thing n p q r a (nodes-row as′)
 
@@ -111,7 +111,7 @@ nodes-standing t = record {
 }
 
 -- Values
-values-row : {v : List ℕ} {n p q : ℕ} → ValuesAt v n p q → InRow (ValueAt v) n p q
+pub values-row : {v : List ℕ} {n p q : ℕ} → ValuesAt v n p q → InRow (ValueAt v) n p q
 values-row (no-value p) = no-thing p
 values-row (one-value n p q r a as′) = one-thing n p q r a (values-row as′)
 

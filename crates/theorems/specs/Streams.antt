@@ -1,12 +1,13 @@
 -- Refusals 1 and 2 as statements, and that the checks find no fault exactly where they hold.
-use mathlib.Core.Path.{_≡_, refl, subst}
+use mathlib.Core.Path.{_≡_, refl, subst, _∙_}
 use mathlib.Core.Logic.{_↔_}
-use Prim.Native.Nat.{ℕ, zero, suc, _+_, _/_, _%_, _≤_, _<_}
+use Prim.Native.Nat.{ℕ, zero, suc, _+_, _*_, _/_, _%_, _≤_, _<_}
 use mathlib.Core.List.{List}
 use mathlib.Core.Bool.{Bool, true, false}
 use mathlib.Core.Option.{none}
 use native.Mathlib.Omega.{arith}
-use lib.ListN.{length, getD, take}
+use lib.ListN.{length, getD, take, drop}
+use lib.Seq.{getD-take, getD-drop}
 use lib.Dec.{eqb}
 use borrow.Author.Tests.{eqb-true, eqb-false}
 use Rattle.rules.specs.Records.{word, row, heads}
@@ -27,7 +28,7 @@ length-exactly s = (
   λ w. need-iff {A = ℕ} _ 0 .1 (and-iff _ _ .1 (leb-iff _ _ .1 (w .some-bytes), and-iff _ _ .1 (leb-iff _ _ .1 (w .at-most), eqb-iff _ _ .1 (w .whole-blocks)))),
 )
 
--- 2: "A block has a wrong number, kind, byte 3 or check." Block n of a stream of a kind has none of these wrong:
+-- 2: "A block has a wrong number, kind, byte 3 or check". Block n of a stream of a kind has none of these wrong:
 pub record RightBlock (kind : ℕ) (s : List ℕ) (n : ℕ) : Type 0 where
   pub number-right : word (block s n) 0 ≡ n
   pub kind-right : getD (block s n) 2 0 ≡ kind
@@ -41,6 +42,15 @@ block-exactly kind s n = (
       record { number-right = eqb-iff _ _ .0 (a .0); kind-right = eqb-iff _ _ .0 (b .0); byte3-right = eqb-iff _ _ .0 (c .0); check-right = eqb-iff _ _ .0 (c .1) },
   λ r. and-iff _ _ .1 (eqb-iff _ _ .1 (r .number-right), and-iff _ _ .1 (eqb-iff _ _ .1 (r .kind-right), and-iff _ _ .1 (eqb-iff _ _ .1 (r .byte3-right), eqb-iff _ _ .1 (r .check-right)))),
 )
+
+-- "A stream is 1 to 128 blocks of 512 bytes": byte x of block n. "Bytes 508-511: 32-bit FNV-1a of bytes 0-507, little-endian"
+pub block-byte : (s : List ℕ) (n x : ℕ) → x < 512 → getD (block s n) x 0 ≡ getD s (512 * n + x) 0
+unfolding block
+block-byte s n x l = getD-take 512 (drop (512 * n) s) x 0 l ∙ getD-drop (512 * n) s x 0
+
+pub check-bytes : (b : List ℕ) → word32 b 508 ≡ getD b 508 0 + 256 * getD b 509 0 + 65536 * getD b 510 0 + 16777216 * getD b 511 0
+unfolding word32 word
+check-bytes b = omega arith
 
 -- the numbers in a row
 pub row-in : (k p n : ℕ) → p ≤ n → n < p + k → In n (row k p)

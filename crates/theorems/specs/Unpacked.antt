@@ -36,6 +36,8 @@ pub record ReadAt (s : List ℕ) (i : ℕ) (u : List ℕ) (at : ℕ) : Type 0 wh
 -- the records of a stream are its payload: all of them laid end to end; n of them from i on, cut short where the stream ends; each by itself
 pub record RecordsUnpacked (s : List ℕ) : Type 0 where
   pub end-to-end : recordsFrom s (recordCount s) 0 ≡ unpacked s
+  -- "Bytes 4-507: payload": byte x of block b's
+  pub payload-bytes : (b x : ℕ) → x < 504 → getD (unpacked s) (504 * b + x) 0 ≡ getD s (512 * b + 4 + x) 0
   pub eight-each : length (unpacked s) ≡ 8 * recordCount s
   pub in-a-row : (n i : ℕ) → recordsFrom s n i ≡ take (8 * n) (drop (8 * i) (unpacked s))
   pub each : (i : ℕ) → ReadAt s i (unpacked s) (8 * i)
@@ -81,6 +83,10 @@ module _ (s : List ℕ) (w : length s % 512 ≡ 0) where
   unpacked-length : length (unpacked s) ≡ 8 * recordCount s
   unfolding unpacked recordCount
   unpacked-length = payloads-length (length s / 512) s (omega arith) ∙ omega arith
+
+  bytes-of-payload : (b x : ℕ) → x < 504 → getD (unpacked s) (504 * b + x) 0 ≡ getD s (512 * b + 4 + x) 0
+  unfolding unpacked
+  bytes-of-payload b x l = payload-byte (length s / 512) b x s (omega arith) l
 
   -- byte j of record i, which is record i % 63 of block i / 63
   record-byte : (i j : ℕ) → j < 8 → getD s (base i + j) 0 ≡ getD (unpacked s) (8 * i + j) 0
@@ -153,4 +159,4 @@ module _ (s : List ℕ) (w : length s % 512 ≡ 0) where
 pub records-unpacked : (s : List ℕ) → WellSized s → RecordsUnpacked s
 records-unpacked s h =
     let w = h .whole-blocks in
-    record { end-to-end = records-end-to-end s w; eight-each = unpacked-length s w; in-a-row = records-in-a-row s w; each = read-at s w }
+    record { end-to-end = records-end-to-end s w; payload-bytes = bytes-of-payload s w; eight-each = unpacked-length s w; in-a-row = records-in-a-row s w; each = read-at s w }

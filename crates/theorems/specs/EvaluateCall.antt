@@ -101,7 +101,7 @@ module _ {e : End} {out scratch : List ℕ} {o : Outcome} where
 pub record Begun (fuel room : ℕ) (x : List ℕ) (n : ℕ) (o : Outcome) : Type 0 where
   pub rest : List ℕ
   pub text-begins : x ≡ textLeft o ++ rest
-  pub steps-first : o .result .steps ≤ n
+  pub steps-at-most : o .result .steps ≤ n
   pub fuel-short : o .result .number ≡ 10 → fuel < n
   pub room-short : o .result .number ≡ 12 → room < length x
 
@@ -120,11 +120,11 @@ limited-begun {i} {x = x} {n = n} {o} (limited l p s h r q) z w =
     let (b, f, c) = short (subst (Gives i _) h w) in
     let e : textLeft o ≡ s .text = text-produced (ap (λ (a : Answer). a .bytes) r) q in
     let d : o .result .steps ≡ s .steps = ap (λ (a : Answer). a .steps) r in
-    let m : s .steps ≤ n = b .steps-first in
+    let m : s .steps ≤ n = b .steps-at-most in
     record {
       rest = b .rest;
       text-begins = b .text-begins ∙ ap (λ (a : List ℕ). a ++ b .rest) (sym e);
-      steps-first = omega arith;
+      steps-at-most = omega arith;
       fuel-short = λ j. f (sym (numbered r) ∙ j);
       room-short = λ j. c (sym (numbered r) ∙ j);
     }
