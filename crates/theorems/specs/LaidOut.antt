@@ -1,9 +1,9 @@
 -- Layout as a relation, in the words of section "Records": which records lay out a thing from p up to q.
 use mathlib.Core.Path.{_≡_}
 use Prim.Native.Nat.{ℕ, suc, _+_, _-_, _≤_, _<_}
-use mathlib.Core.Bool.{true}
 use mathlib.Core.List.{List}
-use Rattle.rules.specs.Records.{recordCount, byteOf, kindOf, fieldA, fieldB, fieldC, fieldD, units, paddingOf, zeros}
+use lib.ListN.{getD}
+use Rattle.rules.specs.Records.{recordCount, byteOf, kindOf, fieldA, fieldB, fieldC, fieldD, units, paddingOf}
 
 -- so many things in a row from p up to q
 pub data InRow (Thing : ℕ → ℕ → Type 0) : ℕ → ℕ → ℕ → Type 0 where
@@ -17,7 +17,7 @@ pub data Numbered (Thing : ℕ → ℕ → ℕ → Type 0) : ℕ → ℕ → ℕ
 
 -- "the last zero-padded": every byte of the text's units past the text
 abbrev pub Padded : List ℕ → ℕ → Type 0
-Padded s p = zeros (paddingOf s p) ≡ true
+Padded s p = (i : ℕ) → getD (paddingOf s p) i 0 ≡ 0
 
 -- "After the last thing come zero records only, fewer than 63."
 pub record Tail (s : List ℕ) (p : ℕ) : Type 0 where

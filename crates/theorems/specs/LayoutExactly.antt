@@ -12,7 +12,7 @@ use lib.Seq.{getD-take, getD-drop}
 use lib.Dec.{eqb}
 use borrow.Author.Tests.{eqb-true, eqb-false, eq-eqb, ne-eqb}
 use Rattle.rules.specs.Faults.{onFound, onlyIf}
-use Rattle.rules.specs.Records.{base, recordCount, byteOf, kindOf, fieldA, fieldB, fieldC, fieldD, recordsFrom, units, zeros}
+use Rattle.rules.specs.Records.{base, recordCount, byteOf, kindOf, fieldA, fieldB, fieldC, fieldD, recordsFrom, paddingOf, units, zeros}
 use Rattle.rules.specs.Templates.{formNumbered, formOf}
 use Rattle.rules.specs.Layout.{thenRead, inRow, whileKind, textEnd, rangeEnd, classEnd, elementEnd, productionEnd, grammarEnd, namingEnd, typeFormEnd, typeEnd, pathEnd, formEnd, sized, nodeEnd, templateEnd, templatesEnd, childrenEnd, kindEnd, valueEnd, tailRight, layoutFault, grammarLayout, templatesLayout, valueLayout}
 use Rattle.laws.specs.Faults.{need-iff, onFound-true, only-if-iff, and-iff, eqb-iff, leb-iff}
@@ -184,7 +184,10 @@ class-exactly g n p q = (
 -- a text's end
 text-exactly : (s : List ℕ) (p q : ℕ) → (textEnd s p ≡ some q) ↔ (Padded s p × (p + 1 + units (fieldB s p) ≡ q))
 unfolding textEnd
-text-exactly s p q = only-if-iff _ _ _
+text-exactly s p q = (
+  λ e. let h = only-if-iff (zeros (paddingOf s p)) _ q .0 e in (zeros-at _ (h .0), h .1),
+  λ h. only-if-iff _ _ q .1 (at-zeros _ (h .0), h .1),
+)
 
 element-from : (g : List ℕ) (p q : ℕ) → elementEnd g p ≡ some q → ElementAt g p q
 unfolding elementEnd
