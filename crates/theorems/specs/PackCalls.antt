@@ -1,20 +1,23 @@
 -- What packing, unpacking and the single-block call answer and leave, in every case.
 use mathlib.Core.Path.{_≡_, refl, sym, _∙_}
 use mathlib.Core.Logic.{_↔_}
-use Prim.Native.Nat.{ℕ, _*_, _%_, _≤_, _<_}
-use mathlib.Core.List.{List, [], _++_}
+use Prim.Native.Nat.{ℕ, zero, suc, _-_, _*_, _/_, _%_, _≤_, _<_}
+use mathlib.Core.List.{List, [], _∷_, _++_}
 use mathlib.Core.Bool.{Bool, true, false, cond, _&&_, false≢true}
 use mathlib.Core.Option.{Option, none, some}
+use native.Mathlib.Omega.{arith}
 use lib.ListN.{length, take, drop, getD, replicate}
 use lib.Dec.{eqb, leb}
 use borrow.Author.Tests.{leb-true, leb-false}
 use Rattle.rules.specs.Faults.{need, both}
-use Rattle.rules.specs.Blocks.{fnvStart, fnv1a, word32, sound, isKind, blockPayload, streamLength, streamBlocks, packed, payloadLength, unpacked}
+use Rattle.rules.specs.Blocks.{fnvStart, fnv1a, word32, sound, isKind, blockPayload, streamLength, streamBlocks, bytes32, checked, filled, packedBlock, packedBlocks, packed, payloadLength, unpacked}
 use Rattle.rules.specs.Answers.{answer, placed, try, accept, packRefusal, unpackRefusal, Written, written, pack, unpack}
 use Rattle.rules.specs.declared.Answer.{Answer}
-use Rattle.laws.specs.Faults.{need-iff, and-iff, eqb-iff, leb-iff}
+use Rattle.laws.specs.Faults.{In, here, later, need-iff, and-iff, eqb-iff, leb-iff}
 use Rattle.theorems.specs.Streams.{WellSized, length-exactly, blocks-exactly}
 use Rattle.theorems.specs.Accepted.{RightBlocks}
+use Rattle.theorems.specs.Least.{in-none}
+use Rattle.theorems.specs.HeadByHead.{in-cons}
 use Rattle.theorems.specs.Offences.{WrongBlock}
 use Rattle.theorems.specs.FirstOffending.{first-block}
 use Rattle.theorems.specs.Packing.{blockCount, fillCount, packed-length, packed-meets-neither, unpacked-packed}
@@ -30,8 +33,13 @@ pub record Packable (payload : List ℕ) : Type 0 where
   pub at-most : length payload ≤ 64512
   pub whole-records : length payload % 8 ≡ 0
 
+-- entries that are bytes
+abbrev pub Bytes : List ℕ → Type 0
+Bytes s = (x : ℕ) → In x s → x < 256
+
 -- the stream of a kind that a payload is packed into: right blocks, "zero-filled at the end"
 pub record PackedAs (kind : ℕ) (payload s : List ℕ) : Type 0 where
+  pub bytes-only : Bytes payload → Bytes s
   pub so-many-blocks : length s ≡ 512 * blockCount payload
   pub right-blocks : RightBlocks kind s
   pub same-payload : unpacked s ≡ payload ++ replicate (fillCount payload) 0
@@ -106,9 +114,54 @@ packable-test payload = (
   λ p. and-iff _ _ .1 (leb-iff _ _ .1 (p .at-least), and-iff _ _ .1 (leb-iff _ _ .1 (p .at-most), eqb-iff _ _ .1 (p .whole-records))),
 )
 
-packed-as : (kind : ℕ) (payload : List ℕ) → Packable payload → PackedAs kind payload (packed kind payload)
-unfolding payloadLength
-packed-as kind payload h = record {
+-- packing makes bytes of bytes
+bytes-append : (xs ys : List ℕ) → Bytes xs → Bytes ys → Bytes (xs ++ ys)
+bytes-append [] ys a b y i = b y i
+bytes-append (x ∷ xs) ys a b y i = in-cons (λ (z : ℕ). z < 256) (a x (here xs)) (bytes-append xs ys (λ z j. a z (later x xs j)) b) i
+
+bytes-take : (n : ℕ) (xs : List ℕ) → Bytes xs → Bytes (take n xs)
+bytes-take zero xs a y i = absurd (in-none i)
+bytes-take (suc n) [] a y i = absurd (in-none i)
+bytes-take (suc n) (x ∷ xs) a y i = in-cons (λ (z : ℕ). z < 256) (a x (here xs)) (bytes-take n xs (λ z j. a z (later x xs j))) i
+
+bytes-drop : (n : ℕ) (xs : List ℕ) → Bytes xs → Bytes (drop n xs)
+bytes-drop zero xs a y i = a y i
+bytes-drop (suc n) [] a y i = absurd (in-none i)
+bytes-drop (suc n) (x ∷ xs) a y i = bytes-drop n xs (λ z j. a z (later x xs j)) y i
+
+zero-bytes : (n : ℕ) → Bytes (replicate n 0)
+zero-bytes zero y i = absurd (in-none i)
+zero-bytes (suc n) y i = in-cons (λ (z : ℕ). z < 256) (omega arith) (zero-bytes n) i
+
+one-byte : (x : ℕ) (xs : List ℕ) → x < 256 → Bytes xs → Bytes (x ∷ xs)
+one-byte x xs l a y i = in-cons (λ (z : ℕ). z < 256) l a i
+
+no-byte : Bytes []
+no-byte y i = absurd (in-none i)
+
+digit-byte : (x : ℕ) (xs : List ℕ) → Bytes xs → Bytes (x % 256 ∷ xs)
+digit-byte x xs a = one-byte (x % 256) xs (omega arith) a
+
+four-bytes : (n : ℕ) → Bytes (bytes32 n)
+unfolding bytes32
+four-bytes n = digit-byte n _ (digit-byte (n / 256) _ (digit-byte (n / 65536) _ (digit-byte (n / 16777216) _ no-byte)))
+
+block-bytes : (kind n : ℕ) (payload : List ℕ) → kind < 256 → Bytes payload → Bytes (packedBlock kind n payload)
+unfolding packedBlock checked filled
+block-bytes kind n payload l a =
+    let fill = bytes-append payload (replicate (504 - length payload) 0) a (zero-bytes (504 - length payload)) in
+    bytes-append _ _ (digit-byte n _ (digit-byte (n / 256) _ (one-byte kind _ l (one-byte 0 _ (omega arith) fill)))) (four-bytes _)
+
+blocks-bytes : (kind k n : ℕ) (payload : List ℕ) → kind < 256 → Bytes payload → Bytes (packedBlocks kind k n payload)
+unfolding packedBlocks
+blocks-bytes kind zero n payload l a = no-byte
+blocks-bytes kind (suc k) n payload l a =
+    bytes-append _ _ (block-bytes kind n _ l (bytes-take 504 payload a)) (blocks-bytes kind k (suc n) _ l (bytes-drop 504 payload a))
+
+packed-as : (kind : ℕ) (payload : List ℕ) → Packable payload → StreamKind kind → PackedAs kind payload (packed kind payload)
+unfolding payloadLength packed
+packed-as kind payload h k = record {
+  bytes-only = blocks-bytes kind _ 0 payload (let m = k .to-3 in omega arith);
   so-many-blocks = packed-length kind payload;
   right-blocks = blocks-exactly kind _ .0 (packed-meets-neither kind payload (need-iff {A = ℕ} _ 0 .1 (packable-test payload .1 h)) .1);
   same-payload = unpacked-packed kind payload;
@@ -120,7 +173,7 @@ pack-answers kind payload out =
     try-need (Packs kind payload out) 1 _ _ _ out
     (λ e. let h = packable-test payload .0 e in try-need (Packs kind payload out) 2 _ _ _ out
     (λ f. let k = kind-exactly kind .0 f in try-need (Packs kind payload out) 12 _ _ _ out
-    (λ d. packs (packed kind payload) h k (packed-as kind payload h) (leb-true _ _ d) (wrote-all (λ _. packed kind payload) out))
+    (λ d. packs (packed kind payload) h k (packed-as kind payload h k) (leb-true _ _ d) (wrote-all (λ _. packed kind payload) out))
     (λ d. no-room h k (rw (← packed-length kind payload) (leb-false _ _ d)) (refused-by 12 0 out)))
     (λ f. wrong-kind h (fails (kind-exactly kind) f) (refused-by 2 0 out)))
     (λ e. wrong-length (fails (packable-test payload) e) (refused-by 1 0 out))
