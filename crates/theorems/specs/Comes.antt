@@ -22,6 +22,7 @@ use Rattle.rules.specs.declared.Form.the-variants.{Build, Literal, Place, Expan
 use Rattle.rules.specs.declared.Position.{Position}
 use Rattle.theorems.specs.Children.{Asks, asks-class, asks-nonterminal, asks-repetition}
 use Rattle.theorems.specs.Finds.{Finds, FindsAll, text-is, yes-is, no-is, list-is, finds-exactly, finds-all-exactly}
+use Rattle.theorems.specs.Ends.{write-done}
 use Rattle.theorems.specs.Evaluation.{Evaluates}
 use Rattle.theorems.specs.EvaluatesExactly.{visit-evaluated}
 
@@ -120,16 +121,6 @@ after-text {s} {s₂ = s₂} {x} {y} {n} a b = subst (λ (m : ℕ). After s (x +
 module _ (i : Input) where
   open Input i using (grammar as g, templates as t, value as v)
 
-  write-fair : (p : ℕ) (x : List ℕ) (s : State) → (i .room < length (s .text) + length x → Found i p s output-full)
-      → {next : State → End} → ((s₁ : State) → After s x 0 s₁ → Fair i (next s₁)) → Fair i (andThen (write (i .room) p x s) next)
-  unfolding write andThen
-  write-fair p x s f {next} h = go (leb (length (s .text) + length x) (i .room)) refl
-    where
-      go : (b : Bool) → leb (length (s .text) + length x) (i .room) ≡ b
-          → Fair i (andThen (cond b (done (record { steps = s .steps; text = s .text ++ x })) (ended output-full p s)) next)
-      go true e = h _ (record { text-more = refl; steps-more = sym (add-zero (s .steps)) })
-      go false e = is-ended output-full p s (f (leb-false _ _ e))
-
   write-alone : (p : ℕ) (x : List ℕ) (s : State) → (i .room < length (s .text) + length x → Found i p s output-full) → Fair i (write (i .room) p x s)
   unfolding write
   write-alone p x s f = go (leb (length (s .text) + length x) (i .room)) refl
@@ -138,6 +129,12 @@ module _ (i : Input) where
           → Fair i (cond b (done (record { steps = s .steps; text = s .text ++ x })) (ended output-full p s))
       go true e = is-done _
       go false e = is-ended output-full p s (f (leb-false _ _ e))
+
+  write-fair : (p : ℕ) (x : List ℕ) (s : State) → (i .room < length (s .text) + length x → Found i p s output-full)
+      → {next : State → End} → ((s₁ : State) → After s x 0 s₁ → Fair i (next s₁)) → Fair i (andThen (write (i .room) p x s) next)
+  write-fair p x s f {next} h =
+      then-fair (write (i .room) p x s) next (write-alone p x s f) λ s₁ e.
+      let w = write-done (i .room) p x s s₁ e in h s₁ (record { text-more = w .0; steps-more = w .1 ∙ sym (add-zero (s .steps)) })
 
   module _ (k : ℕ) where
     -- from s on, each child that a build comes to is visited so, and each keyword that has no room is found so
