@@ -22,9 +22,10 @@ use Rattle.layout.specs.Heads.{mostClasses, mostProductions, LaidGrammar, LaidT
 use Rattle.layout.specs.declared.heads.Counts.{Counts}
 use Rattle.typing.specs.Asks.{TemplatesAsk, ValueAsks}
 use Rattle.walk.specs.Asks.{sources, Walkable}
+use Rattle.feed.specs.declared.verdict.Verdict.{Verdict}
 use Rattle.feed.specs.declared.verdict.Verdict.the-variants.{Refused, Passed}
 use Rattle.feed.specs.Verdict.{verdictOf, streamsRefusal, setJudgement, judgement}
-use Rattle.feed.specs.Asks.{ChildRoom, Tabled, Judgeable, SetAsks, SetJudged, JudgeAsks, CheckAsks, EvaluateAsks}
+use Rattle.feed.specs.Asks.{ChildRoom, Tabled, Judgeable, SetAsks, SetJudged, JudgeAsks, HeadsAsk, HeadsJudged, CheckAsks, EvaluateAsks}
 use Rattle.feed.proofs.OrderLaws.{two-laid, three-laid, set-alone, value-refused, value-passed}
 use Rattle.feed.proofs.EndLaws.{paths-fit}
 
@@ -59,6 +60,17 @@ module _ (g t v firsts places heads : List ℕ) (passed : streamsRefusal (Answer
   pub large-evaluate : length heads ≡ 8064 → EvaluateAsks g t v firsts places heads
   large-evaluate e = let h = few-records t (three-laid g t v passed .1 .length-right) in record { passed = passed; room = omega arith; children = table }
 
+-- what judging asks, in a check and in an evaluate call
+pub check-judges : (g t of-g heads : List ℕ) → CheckAsks g t heads → length of-g ≡ 512 → HeadsAsk g t g of-g heads
+check-judges g t of-g heads a e =
+    let l = two-laid g t (a .passed) in
+    record { grammar-laid = l .0; templates-laid = l .1; value-sized = l .0 .length-right; grammar-room = omega arith; templates-room = a .room }
+
+pub evaluate-judges : (g t v firsts places of-g heads : List ℕ) → EvaluateAsks g t v firsts places heads → length of-g ≡ 512 → HeadsAsk g t v of-g heads
+evaluate-judges g t v firsts places of-g heads a e =
+    let l = three-laid g t v (a .passed) in
+    record { grammar-laid = l .0; templates-laid = l .1; value-sized = l .2; grammar-room = omega arith; templates-room = a .room }
+
 -- the parts of the tables that were filled
 module _ (g t of-g of-t of-g₀ of-t₀ : List ℕ) (m n : Counts) (lg : LaidGrammar g) (lt : LaidTemplates t)
     (a : Tables mostClasses mostProductions (classes g) (productions g) of-g₀ of-g m) (b : Tables (recordCount t) (recordCount t) (types t) (templates t) of-t₀ of-t n) where
@@ -71,6 +83,17 @@ module _ (g t of-g of-t of-g₀ of-t₀ : List ℕ) (m n : Counts) (lg : LaidGra
     types-are = b .first-are;
     templates-are = b .second-are;
     few-classes = let f = a .few in simp length-take (omega arith);
+  }
+
+  pub heads-judged : (v : List ℕ) (valued : Bool) (r : Verdict) → verdictOf r ≡ judgement g t v valued
+      → HeadsJudged g t v valued of-g of-t (record { verdict = r; classes = m .first; productions = m .first + m .second; types = n .first; templates = n .first + n .second })
+  heads-judged v valued r e = record {
+    is = e;
+    tabled = tabled;
+    productions-behind = omega arith;
+    templates-behind = omega arith;
+    in-grammar = a .fit;
+    in-templates = b .fit;
   }
 
 -- the sets

@@ -1,6 +1,7 @@
 -- What the parts of a call are lent, and what they promise.
-use Prim.Native.Nat.{ℕ, _*_, _≤_}
+use Prim.Native.Nat.{ℕ, _+_, _*_, _≤_}
 use mathlib.Core.Path.{_≡_}
+use mathlib.Core.Bool.{Bool}
 use mathlib.Core.List.{List, [], _∷_}
 use mathlib.Core.Option.{Option, none}
 use lib.ListN.{length}
@@ -12,9 +13,11 @@ use Rattle.rules.specs.Answers
 use Rattle.rules.specs.Answers.{grammar, value, accept}
 use Rattle.records.specs.Children.{Children}
 use Rattle.lexeme.specs.Sets.{LexemesReady}
+use Rattle.layout.specs.Heads.{part, mostClasses, mostProductions, LaidGrammar, LaidTemplates}
+use Rattle.feed.specs.declared.set.Judged.{Judged}
 use Rattle.feed.specs.declared.verdict.Verdict.{Verdict}
 use Rattle.feed.specs.declared.verdict.Verdict.the-variants.{Passed}
-use Rattle.feed.specs.Verdict.{verdictOf, streamsRefusal, setJudgement}
+use Rattle.feed.specs.Verdict.{verdictOf, streamsRefusal, setJudgement, judgement}
 
 -- the two rows of a table have room for the children of a value of right length
 pub record ChildRoom (v firsts places : List ℕ) : Type 0 where
@@ -54,6 +57,23 @@ pub record JudgeAsks (g t v cs ps us ts sets : List ℕ) : Type 0 where
 pub record SetJudged (g t : List ℕ) (value : Option ℕ) (cs sets : List ℕ) (r : Verdict) : Type 0 where
   pub is : verdictOf r ≡ setJudgement g t value accept
   pub compiled : r ≡ Passed → LexemesReady g cs sets
+
+-- streams that are laid out, with a value of right length, and tables with room for the heads of all four kinds
+pub record HeadsAsk (g t v of-g of-t : List ℕ) : Type 0 where
+  pub grammar-laid : LaidGrammar g
+  pub templates-laid : LaidTemplates t
+  pub value-sized : streamLength v ≡ none
+  pub grammar-room : mostClasses + mostProductions ≤ length of-g
+  pub templates-room : recordCount t ≤ length of-t
+
+-- the verdict is that of 4 to 8, and the heads of each kind stand in their table, up to its end
+pub record HeadsJudged (g t v : List ℕ) (valued : Bool) (of-g of-t : List ℕ) (r : Judged) : Type 0 where
+  pub is : verdictOf (r .verdict) ≡ judgement g t v valued
+  pub tabled : Tabled g t (part 0 (r .classes) of-g) (part (r .classes) (r .productions) of-g) (part 0 (r .types) of-t) (part (r .types) (r .templates) of-t)
+  pub productions-behind : r .classes ≤ r .productions
+  pub templates-behind : r .types ≤ r .templates
+  pub in-grammar : r .productions ≤ length of-g
+  pub in-templates : r .templates ≤ length of-t
 
 -- 1 to 3 let the streams through, and there is room for the heads of the templates' stream
 pub record CheckAsks (g t heads : List ℕ) : Type 0 where

@@ -10,8 +10,6 @@ mod set;
 mod streams;
 mod verdict;
 
-use layout::heads::grammar_heads;
-use layout::heads::templates_heads;
 use rules::Answer;
 use set::judge;
 pub use stream::block::block_payload;
@@ -45,18 +43,9 @@ fn check_set(g: &[u8], t: &[u8], heads: &mut [u16]) -> Answer
     ensures { λ r. ⌜ r ≡ check (now (g .entry)) (now (t .entry)) ⌝ }
 {
     let mut of_g = [0u16; GRAMMAR_HEADS];
-    let in_g = grammar_heads(g, &mut of_g);
-    let in_t = templates_heads(t, heads);
-    let classes = in_g.first;
-    let productions = classes + in_g.second;
-    let types = in_t.first;
-    let templates = types + in_t.second;
-    let all = &of_g[..];
-    let cs = &all[0..classes];
-    let ps = &all[classes..productions];
-    let us = &heads[0..types];
-    let ts = &heads[types..templates];
-    if let Verdict::Refused(number, kind, place) = judge(g, t, g, false, cs, ps, us, ts) {
+    let judged = judge(g, t, g, false, &mut of_g, heads);
+    let verdict = judged.verdict;
+    if let Verdict::Refused(number, kind, place) = verdict {
         return refused(number, kind, place);
     }
     accepted()
@@ -94,23 +83,21 @@ fn evaluate_set(
     ensures { λ r. ⌜ outcome r (now (out .exit)) (now (scratch .exit)) ≡ evaluate (now (g .entry)) (now (t .entry)) (now (v .entry)) fuel (now (out .entry)) (now (scratch .entry)) ⌝ }
 {
     let mut of_g = [0u16; GRAMMAR_HEADS];
-    let in_g = grammar_heads(g, &mut of_g);
-    let in_t = templates_heads(t, heads);
-    let classes = in_g.first;
-    let productions = classes + in_g.second;
-    let types = in_t.first;
-    let templates = types + in_t.second;
-    let all = &of_g[..];
-    let cs = &all[0..classes];
-    let ps = &all[classes..productions];
-    let us = &heads[0..types];
-    let ts = &heads[types..templates];
-    if let Verdict::Refused(number, kind, place) = judge(g, t, v, true, cs, ps, us, ts) {
+    let judged = judge(g, t, v, true, &mut of_g, heads);
+    let verdict = judged.verdict;
+    if let Verdict::Refused(number, kind, place) = verdict {
         return refused(number, kind, place);
     }
     if scratch.len() < SCRATCH {
         return refused(9, 0, 0);
     }
+    let classes = judged.classes;
+    let productions = judged.productions;
+    let types = judged.types;
+    let templates = judged.templates;
+    let all = &of_g[..];
+    let ps = &all[classes..productions];
+    let ts = &heads[types..templates];
     ended(run(g, t, v, ps, ts, firsts, places, fuel, out, scratch))
 }
 

@@ -1,4 +1,4 @@
-// Refusals 4 to 8, over the tables of heads.
+// Refusals 4 to 8, and the tables of heads that they go by.
 ghost use mathlib.Core.Path.{_≡_};
 ghost use mathlib.Core.Bool.{true, cond};
 ghost use mathlib.Core.Option.{none};
@@ -7,11 +7,13 @@ ghost use Rattle.rules.specs.Blocks.{streamLength};
 ghost use Rattle.rules.specs.Limits.{valueLimits};
 ghost use Rattle.rules.specs.Names.{grammarNames, templatesNames};
 ghost use Rattle.stream.specs.Fault.{faultOf};
-ghost use Rattle.feed.specs.Asks.{Tabled, Judgeable, SetAsks, SetJudged, JudgeAsks};
+ghost use Rattle.feed.specs.Asks.{Tabled, Judgeable, SetAsks, SetJudged, JudgeAsks, HeadsAsk, HeadsJudged};
 ghost use Rattle.feed.specs.Verdict.{offenceOf, verdictOf, firstOf, judgement};
 use crate::verdict::Offence;
 use crate::verdict::Verdict;
 use crate::verdict::first;
+use layout::heads::grammar_heads;
+use layout::heads::templates_heads;
 use lexeme::sets::SMALL_TABLE;
 use lexeme::sets::TABLE;
 use lexeme::sets::class_sets;
@@ -24,6 +26,15 @@ use limits::value::value_limits;
 use stream::Fault;
 use typing::templates::templates_typing;
 use typing::value::value_typing;
+
+// What refusals 4 to 8 say, and where the heads of each kind end in their table: productions stand behind classes, templates behind types.
+pub(crate) struct Judged {
+    pub verdict: Verdict,
+    pub classes: usize,
+    pub productions: usize,
+    pub types: usize,
+    pub templates: usize,
+}
 
 // Refusal 5 of both streams. (The nonterminals are marked on this function's own stack, which is free again for the typing.)
 fn judge_names(
@@ -122,9 +133,8 @@ fn judge_over(
     Verdict::Passed
 }
 
-// 4 to 7 of a grammar and a template set that 1 to 3 let through, and 4 and 8 of a value if one comes with them. The table of class sets lies on
-// this function's own stack, so that it is gone when the walk starts. Small grammars, which are most, take a small one, which is sooner cleared.
-pub(crate) fn judge(
+// The same with a table of class sets of its own. Small grammars, which are most, take a small one, which is sooner cleared.
+fn judge_tabled(
     g: &[u8],
     t: &[u8],
     v: &[u8],
@@ -163,4 +173,37 @@ pub(crate) fn judge(
         templates,
         &mut sets,
     )
+}
+
+// 4 to 7 of a grammar and a template set that 1 to 3 let through, and 4 and 8 of a value if one comes with them. The heads go into tables that are
+// lent. The class sets lie on this function's stack, and are gone when the walk starts: check and evaluate both judge by it, and it is too large
+// for the compiler to put it into either.
+pub(crate) fn judge(
+    g: &[u8],
+    t: &[u8],
+    v: &[u8],
+    valued: bool,
+    gheads: &mut [u16],
+    theads: &mut [u16],
+) -> Judged
+    requires { ⌜ HeadsAsk (now g) (now t) (now v) (now gheads) (now theads) ⌝ }
+    ensures { λ r. ⌜ HeadsJudged (now (g .entry)) (now (t .entry)) (now (v .entry)) valued (now (gheads .exit)) (now (theads .exit)) r ⌝ }
+{
+    let in_g = grammar_heads(g, gheads);
+    let in_t = templates_heads(t, theads);
+    let classes = in_g.first;
+    let productions = classes + in_g.second;
+    let types = in_t.first;
+    let templates = types + in_t.second;
+    let cs = &gheads[0..classes];
+    let ps = &gheads[classes..productions];
+    let us = &theads[0..types];
+    let ts = &theads[types..templates];
+    Judged {
+        verdict: judge_tabled(g, t, v, valued, cs, ps, us, ts),
+        classes: classes,
+        productions: productions,
+        types: types,
+        templates: templates,
+    }
 }

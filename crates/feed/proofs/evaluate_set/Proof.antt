@@ -1,38 +1,42 @@
-use native.Mathlib.Omega.{arith}
-use Rattle.laws.specs.Reads.{few-records}
 use Rattle.feed.proofs.OrderLaws.{refuses, passes, three-laid, judged-set, evaluate-refused, evaluate-scratch, none-refuses}
-use Rattle.feed.proofs.SetLaws.{tabled, walk-asks}
+use Rattle.feed.proofs.SetLaws.{evaluate-judges, walk-asks}
 use Rattle.feed.proofs.EndLaws.{evaluate-walks, answered}
 use borrow.Author.Needs.{needs}
 use Rattle.feed.proofs.evaluate_set.Statement.{statement}
 use Rattle.feed.proofs.evaluate_set.Tie as tie
 
-slice-aggregate-grammar-heads : tie.Need-slice-aggregate-grammar-heads
-slice-aggregate-grammar-heads c = search needs
+slice-aggregate-judge : tie.Need-slice-aggregate-judge
+slice-aggregate-judge c = search needs
 
-grammar-heads-requires : tie.Need-grammar-heads-requires
-grammar-heads-requires c κs = (three-laid _ _ _ (c .before .before .before .before .before .before .before .before .before .pre .passed) .0, search needs)
+judge-requires : tie.Need-judge-requires
+judge-requires c κs = evaluate-judges _ _ _ _ _ _ _ (c .before .before .before .before .before .before .before .before .before .before .pre) (search needs)
 
-templates-heads-requires : tie.Need-templates-heads-requires
-templates-heads-requires c κs = (three-laid _ _ _ (c .before .before .before .before .before .before .before .before .before .before .before .before .pre .passed) .1, c .before .before .before .before .before .before .before .before .before .before .before .before .pre .room)
+enum-known-verdict : tie.Need-enum-known-verdict
+enum-known-verdict c = search needs
 
-add-productions : tie.Need-add-productions
-add-productions c = search needs
+refused-requires : tie.Need-refused-requires
+refused-requires c κs = search needs
 
-add-templates : tie.Need-add-templates
-add-templates c = search needs
+same-length : tie.Need-same-length
+same-length c = search needs
+
+returns : tie.Need-returns
+returns c = answered _ _ _ _ _ (c .refused .ensures) (evaluate-refused _ _ _ _ _ _ _ (c .before .before .before .before .before .before .before .before .before .before .before .before .before .before .before .before .before .before .pre .passed) (refuses _ _ _ _ _ (c .before .before .before .before .before .before .before .judge .ensures .is) (c .before .before .verdict .given .1)))
+
+enum-told : tie.Need-enum-told
+enum-told c = search needs
+
+refused-requires-2 : tie.Need-refused-requires-2
+refused-requires-2 c κs = search needs
+
+same-length-2 : tie.Need-same-length-2
+same-length-2 c = search needs
+
+returns-2 : tie.Need-returns-2
+returns-2 c = answered _ _ _ _ _ (c .refused2 .ensures) (evaluate-scratch _ _ _ _ _ _ (c .before .before .before .before .before .before .before .before .before .before .before .before .before .before .before .before .before .before .pre .passed) (passes _ _ (c .before .before .before .before .before .before .before .judge .ensures .is) (c .before .before .enum-told .given .1)) (c .before .if1 .taken))
 
 slice-aggregate-all : tie.Need-slice-aggregate-all
 slice-aggregate-all c = search needs
-
-sub-cs : tie.Need-sub-cs
-sub-cs c = search needs
-
-part-cs-start : tie.Need-part-cs-start
-part-cs-start c = search needs
-
-part-cs-end : tie.Need-part-cs-end
-part-cs-end c = search needs
 
 mul-ps : tie.Need-mul-ps
 mul-ps c = search needs
@@ -46,17 +50,8 @@ part-ps-start c = search needs
 part-ps-end : tie.Need-part-ps-end
 part-ps-end c = search needs
 
-sub-us : tie.Need-sub-us
-sub-us c = search needs
-
-part-us-start : tie.Need-part-us-start
-part-us-start c = search needs
-
-part-us-end : tie.Need-part-us-end
-part-us-end c = search needs
-
 mul-ts : tie.Need-mul-ts
-mul-ts c = record { fits = omega (arith, c .before .before .before .before .before .before .before .before .before .templates-heads .ensures .few, few-records _ (three-laid _ _ _ (c .before .before .before .before .before .before .before .before .before .before .before .before .before .before .before .before .before .before .before .before .before .before .pre .passed) .1 .length-right)) }
+mul-ts c = search needs
 
 sub-ts : tie.Need-sub-ts
 sub-ts c = search needs
@@ -67,41 +62,14 @@ part-ts-start c = search needs
 part-ts-end : tie.Need-part-ts-end
 part-ts-end c = search needs
 
-judge-requires : tie.Need-judge-requires
-judge-requires c κs = record { tabled = tabled _ _ _ _ _ _ _ _ (three-laid _ _ _ (c .before .before .before .before .before .before .before .before .before .before .before .before .before .before .before .before .before .before .before .before .before .before .before .pre .passed) .0) (three-laid _ _ _ (c .before .before .before .before .before .before .before .before .before .before .before .before .before .before .before .before .before .before .before .before .before .before .before .pre .passed) .1) (c .before .before .before .before .before .before .before .before .before .before .before .before .before .grammar-heads .ensures) (c .before .before .before .before .before .before .before .before .before .before .templates-heads .ensures); value-sized = three-laid _ _ _ (c .before .before .before .before .before .before .before .before .before .before .before .before .before .before .before .before .before .before .before .before .before .before .before .pre .passed) .2 }
-
-enum-known-number : tie.Need-enum-known-number
-enum-known-number c = search needs
-
-refused-requires : tie.Need-refused-requires
-refused-requires c κs = search needs
-
-same-length : tie.Need-same-length
-same-length c = search needs
-
-returns : tie.Need-returns
-returns c = answered _ _ _ _ _ (c .refused .ensures) (evaluate-refused _ _ _ _ _ _ _ (c .before .before .before .before .before .before .before .before .before .before .before .before .before .before .before .before .before .before .before .before .before .before .before .before .before .before .before .before .pre .passed) (refuses _ _ _ _ _ (c .before .before .before .before .judge .ensures) (c .before .before .number .given .1)))
-
-enum-told : tie.Need-enum-told
-enum-told c = search needs
-
-refused-requires-2 : tie.Need-refused-requires-2
-refused-requires-2 c κs = search needs
-
-same-length-2 : tie.Need-same-length-2
-same-length-2 c = search needs
-
-returns-2 : tie.Need-returns-2
-returns-2 c = answered _ _ _ _ _ (c .refused2 .ensures) (evaluate-scratch _ _ _ _ _ _ (c .before .before .before .before .before .before .before .before .before .before .before .before .before .before .before .before .before .before .before .before .before .before .before .before .before .before .before .before .pre .passed) (passes _ _ (c .before .before .before .before .judge .ensures) (c .before .before .enum-told .given .1)) (c .before .if1 .taken))
-
 run-requires : tie.Need-run-requires
-run-requires c κs = walk-asks _ _ _ _ _ _ _ _ _ _ (tabled _ _ _ _ _ _ _ _ (three-laid _ _ _ (c .before .before .before .before .before .before .before .before .before .before .before .before .before .before .before .before .before .before .before .before .before .before .before .before .before .before .before .before .before .pre .passed) .0) (three-laid _ _ _ (c .before .before .before .before .before .before .before .before .before .before .before .before .before .before .before .before .before .before .before .before .before .before .before .before .before .before .before .before .before .pre .passed) .1) (c .before .before .before .before .before .before .before .before .before .before .before .before .before .before .before .before .before .before .before .grammar-heads .ensures) (c .before .before .before .before .before .before .before .before .before .before .before .before .before .before .before .before .templates-heads .ensures)) (judged-set _ _ _ (passes _ _ (c .before .before .before .before .before .judge .ensures) (c .before .before .before .enum-told .given .1)) .0) (judged-set _ _ _ (passes _ _ (c .before .before .before .before .before .judge .ensures) (c .before .before .before .enum-told .given .1)) .1) (three-laid _ _ _ (c .before .before .before .before .before .before .before .before .before .before .before .before .before .before .before .before .before .before .before .before .before .before .before .before .before .before .before .before .before .pre .passed) .2) (c .before .before .before .before .before .before .before .before .before .before .before .before .before .before .before .before .before .before .before .before .before .before .before .before .before .before .before .before .before .pre .children) (c .before .before .if1 .left)
+run-requires c κs = walk-asks _ _ _ _ _ _ _ _ _ _ (c .before .before .before .before .before .before .before .before .before .before .before .before .judge .ensures .tabled) (judged-set _ _ _ (passes _ _ (c .before .before .before .before .before .before .before .before .before .before .before .before .judge .ensures .is) (c .before .before .before .before .before .before .before .enum-told .given .1)) .0) (judged-set _ _ _ (passes _ _ (c .before .before .before .before .before .before .before .before .before .before .before .before .judge .ensures .is) (c .before .before .before .before .before .before .before .enum-told .given .1)) .1) (three-laid _ _ _ (c .before .before .before .before .before .before .before .before .before .before .before .before .before .before .before .before .before .before .before .before .before .before .before .pre .passed) .2) (c .before .before .before .before .before .before .before .before .before .before .before .before .before .before .before .before .before .before .before .before .before .before .before .pre .children) (c .before .before .before .before .before .before .if1 .left)
 
 ended-requires : tie.Need-ended-requires
 ended-requires c κs = search needs
 
 same-length-3 : tie.Need-same-length-3
-same-length-3 c = c .before .before .before .before .before .before .before .before .before .before .before .before .before .before .before .before .before .before .before .before .before .before .templates-heads .kept .1 .0
+same-length-3 c = search needs
 
 same-length-4 : tie.Need-same-length-4
 same-length-4 c = search needs
@@ -110,34 +78,15 @@ same-length-5 : tie.Need-same-length-5
 same-length-5 c = search needs
 
 returns-3 : tie.Need-returns-3
-returns-3 c = answered _ _ _ _ _ (c .ended .ensures) (evaluate-walks _ _ _ _ _ _ _ _ _ (none-refuses _ _ _ _ (c .before .before .before .before .before .before .before .before .before .before .before .before .before .before .before .before .before .before .before .before .before .before .before .before .before .before .before .before .before .before .before .before .before .before .before .pre .passed) (passes _ _ (c .before .before .before .before .before .before .before .before .before .before .before .judge .ensures) (c .before .before .before .before .before .before .before .before .before .enum-told .given .1)) (c .before .before .before .before .before .before .before .before .if1 .left)) (search needs) (c .before .before .before .before .before .run .ensures))
+returns-3 c = answered _ _ _ _ _ (c .ended .ensures) (evaluate-walks _ _ _ _ _ _ _ _ _ (none-refuses _ _ _ _ (c .before .before .before .before .before .before .before .before .before .before .before .before .before .before .before .before .before .before .before .before .before .before .before .before .before .before .before .before .before .pre .passed) (passes _ _ (c .before .before .before .before .before .before .before .before .before .before .before .before .before .before .before .before .before .before .judge .ensures .is) (c .before .before .before .before .before .before .before .before .before .before .before .before .before .enum-told .given .1)) (c .before .before .before .before .before .before .before .before .before .before .before .before .if1 .left)) (search needs) (c .before .before .before .before .before .run .ensures))
 
 pub evaluate-set-spec : {M : Type 1} → statement M
 evaluate-set-spec =
     tie.close
     (tie.spec
-    slice-aggregate-grammar-heads
-    grammar-heads-requires
-    templates-heads-requires
-    add-productions
-    add-templates
-    slice-aggregate-all
-    sub-cs
-    part-cs-start
-    part-cs-end
-    mul-ps
-    sub-ps
-    part-ps-start
-    part-ps-end
-    sub-us
-    part-us-start
-    part-us-end
-    mul-ts
-    sub-ts
-    part-ts-start
-    part-ts-end
+    slice-aggregate-judge
     judge-requires
-    enum-known-number
+    enum-known-verdict
     refused-requires
     same-length
     returns
@@ -145,6 +94,15 @@ evaluate-set-spec =
     refused-requires-2
     same-length-2
     returns-2
+    slice-aggregate-all
+    mul-ps
+    sub-ps
+    part-ps-start
+    part-ps-end
+    mul-ts
+    sub-ts
+    part-ts-start
+    part-ts-end
     run-requires
     ended-requires
     same-length-3
