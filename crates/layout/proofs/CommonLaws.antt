@@ -11,7 +11,7 @@ use lib.Seq.{getD-take, getD-drop, drop-append-add, drop-nil}
 use lib.Pow.{shr-shr}
 use lib.Dec.{eqb, ltb}
 use borrow.Author.Tests.{eq-eqb, ne-eqb, eqb-true, eqb-false, ltb-true, ltb-false, lt-ltb, le-ltb, le-leb, lt-leb}
-use Rattle.rules.specs.Records.{base, byteOf, fieldB, recordCount, recordsFrom, units, paddingOf, zeros}
+use Rattle.rules.specs.Records.{base, byteOf, recordCount, recordsFrom, units, paddingOf, zeros}
 use Rattle.rules.specs.Layout.{tailRight}
 use Rattle.stream.specs.declared.record.Record.{Record}
 use Rattle.stream.specs.declared.record.Place.{Place}
@@ -198,14 +198,12 @@ unfolding recordsFrom recordBytes
 records-length s zero p = omega arith
 records-length s (suc n) p = simp length-append (omega (arith, at-most-eight s p, records-length s n (suc p)))
 
-module _ (s : List ℕ) (p b : ℕ) (e : b ≡ fieldB s p) where
-  pub padding-none : b % 8 ≡ 0 → true ≡ zeros (paddingOf s p)
+module _ (s : List ℕ) (p b : ℕ) where
+  pub padding-none : b % 8 ≡ 0 → true ≡ zeros (paddingOf s b p)
   unfolding paddingOf units zeros
-  padding-none z =
-      rw (← e)
-      (rw (drop-of-length-le (recordsFrom s ((b + 7) / 8) (p + 1)) {i = b} (omega (arith, records-length s ((b + 7) / 8) (p + 1)))))
+  padding-none z = rw (drop-of-length-le (recordsFrom s ((b + 7) / 8) (p + 1)) {i = b} (omega (arith, records-length s ((b + 7) / 8) (p + 1))))
 
-  pub padding-is : (n : ℕ) → n ≡ units b → (u : Record) → Fetched s (p + n) u → (b % 8 ≡ 0 → ⊥) → zeros (drop (b % 8) (bytesOf u)) ≡ zeros (paddingOf s p)
+  pub padding-is : (n : ℕ) → n ≡ units b → (u : Record) → Fetched s (p + n) u → (b % 8 ≡ 0 → ⊥) → zeros (drop (b % 8) (bytesOf u)) ≡ zeros (paddingOf s b p)
   unfolding paddingOf units
   padding-is n is u f z =
       let m : ℕ = n - 1 in
@@ -217,7 +215,6 @@ module _ (s : List ℕ) (p b : ℕ) (e : b ≡ fieldB s p) where
       ∙ sym (last-record s m (b % 8) (p + 1))
       ∙ ap (λ (k : ℕ). zeros (drop k (recordsFrom s (suc m) (p + 1)))) (sym y)
       ∙ ap (λ (m : ℕ). zeros (drop b (recordsFrom s m (p + 1)))) (sym x ∙ is)
-      ∙ ap (λ (b : ℕ). zeros (drop b (recordsFrom s ((b + 7) / 8) (p + 1)))) e
 
 -- The records after the last thing, by the tests of the code
 

@@ -1,9 +1,9 @@
 -- Steps of the check of a grammar's layout, in the shape of the code.
 use Prim.Native.Nat.{ℕ, zero, suc, _+_, _-_, _/_, _<_, _≤_}
 use mathlib.Core.Path.{_≡_, refl, sym, _∙_, ap}
-use mathlib.Core.Bool.{Bool, true, false, cond, _&&_}
+use mathlib.Core.Bool.{Bool, true, false, _&&_, _||_}
 use mathlib.Core.List.{List}
-use mathlib.Core.Option.{Option, none, some, Option·some-injective}
+use mathlib.Core.Option.{Option, none, some}
 use native.Mathlib.Omega.{arith}
 use native.Mathlib.Numerals.{add-one}
 use native.Mathlib.Nat.{sub-zero, add-assoc}
@@ -11,8 +11,8 @@ use borrow.Author.Tests.{eq-eqb, ne-eqb, eqb-true}
 use lib.Dec.{eqb, leb}
 use Rattle.rules.specs.Faults.{need, onFound, onlyIf}
 use Rattle.rules.specs.Blocks.{streamLength}
-use Rattle.rules.specs.Records.{recordCount, byteOf, kindOf, fieldA, fieldB, fieldC, fieldD, paddingOf, zeros, units}
-use Rattle.rules.specs.Grammar.{elementSize}
+use Rattle.rules.specs.Records.{recordCount, byteOf, kindOf, fieldA, fieldC, fieldD, paddingOf, zeros, units}
+use Rattle.rules.specs.Grammar.{textLength}
 use Rattle.rules.specs.Layout.{thenRead, inRow, whileKind, textEnd, rangeEnd, classEnd, elementEnd, productionEnd, grammarEnd, tailRight, layoutFault, grammarLayout}
 use Rattle.stream.specs.Record.{Fetched}
 use Rattle.stream.specs.declared.record.Record.{Record}
@@ -124,8 +124,8 @@ module _ {g : List ℕ} {p : ℕ} {r : Record} (f : Fetched g p r) where
   unfolding productionEnd thenRead onFound onlyIf
   production-elements n o a c h = rw (eq-eqb _ _ (sym (f .a) ∙ a), eq-eqb _ _ (sym (f .c) ∙ c), ← f .d) h
 
-  -- an element: its head, and then a keyword's text
-  head-is : elementHead r ≡ (eqb (kindOf g p) 4 && (leb (fieldA g p) 3 && (eqb (fieldC g p) 0 && eqb (fieldD g p) 0)))
+  -- an element: its head, and then its text
+  head-is : elementHead r ≡ (eqb (kindOf g p) 4 && (leb (fieldA g p) 4 && ((eqb (fieldA g p) 4 || eqb (fieldC g p) 0) && eqb (fieldD g p) 0)))
   unfolding elementHead
   head-is = rw (f .kind, f .a, f .c, f .d)
 
@@ -133,20 +133,15 @@ module _ {g : List ℕ} {p : ℕ} {r : Record} (f : Fetched g p r) where
   unfolding elementEnd thenRead onFound onlyIf
   element-broken h = rw (sym head-is ∙ h)
 
-  -- where it ends, by its size n
-  module _ {n : ℕ} (s : n ≡ elementSize g p) (h : elementHead r ≡ true) where
-    pub element-name : (r .a ≡ 0 → ⊥) → elementEnd g p ≡ some (p + n)
-    unfolding elementEnd elementSize thenRead onFound onlyIf
-    element-name a = rw (sym head-is ∙ h, s, ne-eqb _ _ (λ e. a (f .a ∙ e)))
+  -- where it ends, by the n bytes of its text
+  module _ {n : ℕ} {b : Bool} (t : n ≡ textLength g p) (h : elementHead r ≡ true) (z : b ≡ zeros (paddingOf g n p)) where
+    pub element-unpadded : b ≡ false → elementEnd g p ≡ none
+    unfolding elementEnd textEnd thenRead onFound onlyIf
+    element-unpadded e = rw (sym head-is ∙ h, ← t, ← z, e)
 
-    module _ {b : Bool} (a : r .a ≡ 0) (z : b ≡ zeros (paddingOf g p)) where
-      pub element-unpadded : b ≡ false → elementEnd g p ≡ none
-      unfolding elementEnd textEnd thenRead onFound onlyIf
-      element-unpadded e = rw (sym head-is ∙ h, eq-eqb _ _ (sym (f .a) ∙ a), ← z, e)
-
-      pub element-text : b ≡ true → elementEnd g p ≡ some (p + n)
-      unfolding elementEnd textEnd elementSize thenRead onFound onlyIf
-      element-text e = rw (sym head-is ∙ h, s, eq-eqb _ _ (sym (f .a) ∙ a), ← z, e, add-assoc)
+    pub element-padded : b ≡ true → (m : ℕ) → m ≡ units n → elementEnd g p ≡ some (p + 1 + m)
+    unfolding elementEnd textEnd thenRead onFound onlyIf
+    element-padded e m u = rw (sym head-is ∙ h, ← t, ← z, e, u)
 
   pub element-near : streamLength g ≡ none → elementHead r ≡ true → p < mostRecords
   unfolding elementHead
@@ -156,13 +151,10 @@ module _ {g : List ℕ} {p : ℕ} {r : Record} (f : Fetched g p r) where
 element-grows : (g : List ℕ) (p q : ℕ) → elementEnd g p ≡ some q → p < q
 unfolding elementEnd textEnd
 element-grows g p q e =
-    let h = then-some _ _ q e in
+    let h = then-some _ (textEnd g (textLength g p)) q e in
     let z : p ≡ h .0 = only-some _ p (h .0) (h .1) .1 in
-    go (h .0) (eqb (fieldA g (h .0)) 0) (h .2) z
-  where
-    go : (r : ℕ) (b : Bool) → cond b (onlyIf (zeros (paddingOf g r)) (r + 1 + units (fieldB g r))) (some (r + 1)) ≡ some q → p ≡ r → p < q
-    go r true i z = let y = only-some _ _ q i .1 in omega arith
-    go r false i z = let y : r + 1 ≡ q = Option·some-injective _ q i in omega arith
+    let y = only-some _ (h .0 + 1 + units (textLength g p)) q (h .2) .1 in
+    omega arith
 
 pub elements-grow : (g : List ℕ) (n p q : ℕ) → inRow (elementEnd g) n (p + 1) ≡ some q → p < q
 elements-grow g n p q e = let l = in-row-grows (elementEnd g) (element-grows g) n (p + 1) q e in omega arith

@@ -35,8 +35,8 @@ path-ends t p q e = only-some _ (p + 1) q e .1
 text-grows : (s : List ℕ) (p q : ℕ) → textHead s p ≡ some q → p < q
 unfolding textEnd textHead
 text-grows s p q e =
-    let h = then-some (textEnd s p) (λ q. onlyIf (eqb (p + valueSize s p) q) q) q e in
-    omega (arith, only-some (zeros (paddingOf s p)) (p + 1 + units (fieldB s p)) (h .0) (h .1) .1, only-some (eqb (p + valueSize s p) (h .0)) (h .0) q (h .2) .1)
+    let h = then-some (textEnd s (fieldB s p) p) (λ q. onlyIf (eqb (p + valueSize s p) q) q) q e in
+    omega (arith, only-some (zeros (paddingOf s (fieldB s p) p)) (p + 1 + units (fieldB s p)) (h .0) (h .1) .1, only-some (eqb (p + valueSize s p) (h .0)) (h .0) q (h .2) .1)
 
 -- Heads go forward
 
@@ -123,10 +123,10 @@ closed-twice (some q) z = go (eqb z q) refl
 
 -- a text after a test
 text-split : (s : List ℕ) (one : ℕ → Option ℕ) (b : Bool) (p : ℕ)
-    → thenRead (onlyIf b p) (λ q. thenRead (textEnd s q) (closed (p + valueSize s p))) ≡ whole (thenRead (onlyIf b p) (textHead s)) one 0 (p + valueSize s p)
+    → thenRead (onlyIf b p) (λ q. thenRead (textEnd s (fieldB s p) q) (closed (p + valueSize s p))) ≡ whole (thenRead (onlyIf b p) (textHead s)) one 0 (p + valueSize s p)
 unfolding textHead closed
 text-split s one b p =
-    after-test b p p _ (λ r. thenRead (textHead s r) (closed (p + valueSize s p))) (λ e. closed-twice (textEnd s p) (p + valueSize s p))
+    after-test b p p _ (λ r. thenRead (textHead s r) (closed (p + valueSize s p))) (λ e. closed-twice (textEnd s (fieldB s p) p) (p + valueSize s p))
     ∙ sym (then-then (onlyIf b p) (textHead s) (closed (p + valueSize s p)))
     ∙ whole-leaf (thenRead (onlyIf b p) (textHead s)) one (p + valueSize s p)
 
@@ -144,7 +144,7 @@ form-split : (t : List ℕ) (f : Form) (node : ℕ → Option ℕ) (p : ℕ)
     → thenRead (formEnd t f node p) (closed (p + valueSize t p)) ≡ whole (formHead t f p) node (formBelow t f p) (p + valueSize t p)
 unfolding formEnd formHead formBelow whole pathHead
 form-split t Build node p = sym (some-then (some (p + 1)) (λ q. thenRead (inRow node (fieldD t p) q) (closed (p + valueSize t p))) (p + 1) refl)
-form-split t Literal node p = then-then (onlyIf (eqb (fieldD t p) 0) p) (textEnd t) (closed (p + valueSize t p)) ∙ text-split t node (eqb (fieldD t p) 0) p
+form-split t Literal node p = then-then (onlyIf (eqb (fieldD t p) 0) p) (textEnd t (fieldB t p)) (closed (p + valueSize t p)) ∙ text-split t node (eqb (fieldD t p) 0) p
 form-split t Place node p = whole-leaf _ node (p + valueSize t p)
 form-split t Expand node p = whole-leaf _ node (p + valueSize t p)
 form-split t If node p = path-split t node 2 p
@@ -188,7 +188,7 @@ module _ (v : List ℕ) (value : ℕ → Option ℕ) (p : ℕ) where
   kind-split zero e = sym (whole-none value 0 (p + valueSize v p))
   kind-split (suc zero) e =
       after-test (eqb (fieldA v p) 0 && eqb (fieldD v p) 0) p p _ _
-      (λ h. ap (λ (z : ℕ). thenRead (textEnd v p) (closed z)) (size-field v p 1 e refl))
+      (λ h. ap (λ (z : ℕ). thenRead (textEnd v (fieldB v p) p) (closed z)) (size-field v p 1 e refl))
       ∙ text-split v value (eqb (fieldA v p) 0 && eqb (fieldD v p) 0) p
   kind-split (suc (suc zero)) e = leaf-split _ ∙ ap (whole (kindHead v 2 p) value 0) (sym (size-one v p e))
   kind-split (suc (suc (suc zero))) e = children-split (size-field v p 3 e refl)

@@ -64,21 +64,21 @@ not-closed true x z e = rw e
 not-closed false x z e = refl
 
 module _ (s : List ℕ) (p b size n : ℕ) (eb : b ≡ fieldB s p) (es : size ≡ valueSize s p) (en : n ≡ units b) where
-  text-end : (z : Bool) → z ≡ zeros (paddingOf s p) → textEnd s p ≡ onlyIf z (p + 1 + n)
+  text-end : (z : Bool) → z ≡ zeros (paddingOf s b p) → textEnd s (fieldB s p) p ≡ onlyIf z (p + 1 + n)
   unfolding textEnd
   text-end z e = rw (e, en, eb)
 
   pub text-size : (size ≡ 1 + n → ⊥) → textHead s p ≡ none
   unfolding textHead
   text-size l =
-      rw (text-end (zeros (paddingOf s p)) refl)
-      (not-closed (zeros (paddingOf s p)) (p + 1 + n) (p + valueSize s p) (ne-eqb _ _ (λ (e : p + valueSize s p ≡ p + 1 + n). l (omega arith))))
+      rw (text-end (zeros (paddingOf s b p)) refl)
+      (not-closed (zeros (paddingOf s b p)) (p + 1 + n) (p + valueSize s p) (ne-eqb _ _ (λ (e : p + valueSize s p ≡ p + 1 + n). l (omega arith))))
 
-  pub text-unpadded : false ≡ zeros (paddingOf s p) → textHead s p ≡ none
+  pub text-unpadded : false ≡ zeros (paddingOf s b p) → textHead s p ≡ none
   unfolding textHead thenRead onFound onlyIf
   text-unpadded z = rw (text-end false z)
 
-  pub text-right : size ≡ 1 + n → true ≡ zeros (paddingOf s p) → textHead s p ≡ some (p + size)
+  pub text-right : size ≡ 1 + n → true ≡ zeros (paddingOf s b p) → textHead s p ≡ some (p + size)
   unfolding textHead thenRead onFound onlyIf
   text-right l z =
       let e : p + 1 + n ≡ p + size = omega arith in

@@ -1,6 +1,6 @@
 -- The place after a thing, as the code answers it.
 use Prim.Native.Nat.{ℕ}
-use mathlib.Core.Bool.{Bool, _&&_}
+use mathlib.Core.Bool.{Bool, _&&_, _||_}
 use mathlib.Core.Option.{Option, none, some}
 use lib.Dec.{eqb, leb}
 use Rattle.stream.specs.declared.record.Record.{Record}
@@ -13,4 +13,4 @@ endOf Broken = none
 
 -- the first test of `elementEnd`: what an element's head says of itself
 unfoldable pub elementHead : Record → Bool
-elementHead e = eqb (e .kind) 4 && (leb (e .a) 3 && (eqb (e .c) 0 && eqb (e .d) 0))
+elementHead e = eqb (e .kind) 4 && (leb (e .a) 4 && ((eqb (e .a) 4 || eqb (e .c) 0) && eqb (e .d) 0))

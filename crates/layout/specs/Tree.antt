@@ -44,7 +44,7 @@ module _ (headEnd : ℕ → Option ℕ) (size below : ℕ → ℕ) where
 
 -- a head's text, whose end is also where the head ends by its size
 unfoldable pub textHead : List ℕ → ℕ → Option ℕ
-textHead s p = thenRead (textEnd s p) (λ q. onlyIf (eqb (p + valueSize s p) q) q)
+textHead s p = thenRead (textEnd s (fieldB s p) p) (λ q. onlyIf (eqb (p + valueSize s p) q) q)
 
 -- a path after a head that says nothing else
 unfoldable pub pathHead : List ℕ → ℕ → Option ℕ

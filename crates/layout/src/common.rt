@@ -4,7 +4,7 @@ ghost use mathlib.Core.Option.{none};
 ghost use Prim.Native.Nat.{_+_, _-_, _≤_, _<_, _^_};
 ghost use lib.ListN.{drop};
 ghost use Rattle.rules.specs.Blocks.{streamLength};
-ghost use Rattle.rules.specs.Records.{recordCount, fieldB, recordsFrom, paddingOf, zeros};
+ghost use Rattle.rules.specs.Records.{recordCount, recordsFrom, paddingOf, zeros};
 ghost use Rattle.rules.specs.Layout.{tailRight};
 ghost use Rattle.layout.specs.Common.{bytesOf, numberOf};
 use records::element::units;
@@ -49,7 +49,7 @@ pub fn zero_from(r: Record, j: usize) -> bool
 pub fn padded(s: &[u8], p: usize, b: u16) -> bool
     requires { ⌜ streamLength (now s) ≡ none ⌝ }
     requires { ⌜ p < 2 ^ 32 ⌝ }
-    ensures { λ z. ⌜ (b ≡ fieldB (now (s .entry)) p → z ≡ zeros (paddingOf (now (s .entry)) p)) ⌝ }
+    ensures { λ z. ⌜ z ≡ zeros (paddingOf (now (s .entry)) b p) ⌝ }
 {
     let over = b as usize % 8;
     if over == 0 {

@@ -9,7 +9,8 @@ ghost use Rattle.rules.specs.Layout.{inRow, whileKind, rangeEnd, classEnd, elem
 ghost use Rattle.layout.specs.Grammar.{endOf, elementHead};
 use crate::common::padded;
 use crate::common::tail_right;
-use records::element::size_of;
+use records::element::text_length;
+use records::element::units;
 use stream::record::Record;
 use stream::record::fetch;
 
@@ -63,23 +64,25 @@ fn class_row(g: &[u8]) -> End
     }
 }
 
-// What an element's head says of itself: its kind, one of four forms, and c and d unused.
+// What an element's head says of itself: its kind, one of five forms, c unused by the first four, and d unused.
 fn is_element(e: Record) -> bool
     ensures { λ r. ⌜ r ≡ elementHead e ⌝ }
 {
     if e.kind != 4 {
         return false;
     }
-    if 3 < e.a {
+    if 4 < e.a {
         return false;
     }
-    if e.c != 0 {
-        return false;
+    if e.a != 4 {
+        if e.c != 0 {
+            return false;
+        }
     }
     e.d == 0
 }
 
-// The element at record p: one record, and after a keyword's its text, of which only the padding is looked at.
+// The element at record p: one record, and after it its text, of which only the padding is looked at.
 fn element_end(g: &[u8], p: usize) -> End
     requires { ⌜ streamLength (now g) ≡ none ⌝ }
     ensures { λ r. ⌜ endOf r ≡ elementEnd (now (g .entry)) p ⌝ }
@@ -88,12 +91,9 @@ fn element_end(g: &[u8], p: usize) -> End
     if !is_element(e) {
         return End::Broken;
     }
-    let end = p + size_of(e);
-    if e.a != 0 {
-        return End::At(end);
-    }
-    if padded(g, p, e.b) {
-        End::At(end)
+    let text = text_length(e);
+    if padded(g, p, text) {
+        End::At(p + 1 + units(text as usize))
     } else {
         End::Broken
     }

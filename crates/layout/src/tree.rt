@@ -3,7 +3,7 @@
 // by their sizes, where it ends itself. Here is what both share; their scans are `one_node` and `one_value`.
 ghost use mathlib.Core.Path.{_≡_};
 ghost use Prim.Native.Nat.{ℕ, _+_};
-ghost use Rattle.rules.specs.Records.{fieldB, units, paddingOf, zeros};
+ghost use Rattle.rules.specs.Records.{units, paddingOf, zeros};
 ghost use Rattle.rules.specs.Value.{valueSize};
 ghost use Rattle.stream.specs.Record.{Fetched, placeOf};
 ghost use Rattle.layout.specs.Tree.{chain, textHead, Headed, Chains, LiesIn, HeadIn};
@@ -48,7 +48,7 @@ pub fn chained(s: &[u8], n: usize, p: usize, at: Place, e: usize) -> bool
 // The padding of the text of b bytes after the head at a place, where its last unit lies in the stream.
 fn padded_in(s: &[u8], at: Place, b: u16) -> bool
     requires { ⌜ LiesIn (now s) at (1 + units b) ⌝ }
-    ensures { λ z. ⌜ ((p : ℕ) → at ≡ placeOf p → b ≡ fieldB (now (s .entry)) p → z ≡ zeros (paddingOf (now (s .entry)) p)) ⌝ }
+    ensures { λ z. ⌜ ((p : ℕ) → at ≡ placeOf p → z ≡ zeros (paddingOf (now (s .entry)) b p)) ⌝ }
 {
     let over = b as usize % 8;
     if over == 0 {

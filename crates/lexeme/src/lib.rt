@@ -3,7 +3,7 @@ ghost use mathlib.Core.Path.{_≡_};
 ghost use mathlib.Core.Option.{none, some};
 ghost use Prim.Native.Nat.{ℕ};
 ghost use Rattle.rules.specs.Blocks.{streamLength};
-ghost use Rattle.rules.specs.Records.{textOf};
+ghost use Rattle.rules.specs.Records.{fieldB, textOf};
 ghost use Rattle.rules.specs.Grammar.{class};
 ghost use Rattle.rules.specs.Lexeme.{isLexeme};
 ghost use Rattle.stream.specs.Text.{textIn};
@@ -15,13 +15,13 @@ mod runs;
 mod scan;
 pub mod sets;
 
-use records::text::text_of;
 use runs::run_from;
 use scan::between;
 use scan::scan_part;
 use sets::SET;
 use stream::record::fetch;
 use stream::text::Text;
+use stream::text::text_after;
 use stream::text::text_part;
 use stream::text::text_rest;
 
@@ -87,12 +87,12 @@ pub fn admits(g: &[u8], classes: &[u16], sets: &[u16], c: u16, s: &[u8], t: Text
     admits_text(g, classes[n], &sets[from..to], sets, s, t)
 }
 
-// Whether the text of the head at record i of s is a lexeme of class c.
+// Whether the text of the head at record i of s, of as many bytes as its field b says, is a lexeme of class c.
 pub fn is_lexeme(g: &[u8], classes: &[u16], sets: &[u16], c: u16, s: &[u8], i: usize) -> bool
     requires { ⌜ LexemesReady (now g) (now classes) (now sets) ⌝ }
     requires { ⌜ streamLength (now s) ≡ none ⌝ }
-    ensures { λ r. ⌜ r ≡ isLexeme (now (g .entry)) c (textOf (now (s .entry)) i) ⌝ }
+    ensures { λ r. ⌜ r ≡ isLexeme (now (g .entry)) c (textOf (now (s .entry)) (fieldB (now (s .entry)) i) i) ⌝ }
 {
     let head = fetch(s, i);
-    admits(g, classes, sets, c, s, text_of(s, i, head))
+    admits(g, classes, sets, c, s, text_after(s, i, head.b as usize))
 }

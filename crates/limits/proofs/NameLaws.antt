@@ -1,5 +1,5 @@
 -- Names by number: what exists is below the length of its table. What elements, types and nodes name.
-use Prim.Native.Nat.{ℕ, zero, suc, _≤_, _<_, zero-le}
+use Prim.Native.Nat.{ℕ, zero, suc, _-_, _≤_, _<_, zero-le}
 use mathlib.Core.Path.{_≡_, refl, sym, _∙_}
 use mathlib.Core.List.{List, [], _∷_}
 use mathlib.Core.Bool.{true, false}
@@ -56,26 +56,36 @@ module _ (t : List ℕ) (q b n : ℕ) (hb : b ≡ fieldB t q) where
   pub parameter-right : n ≡ length (types t) → b < n → exists (type t (fieldB t q)) ≡ true
   parameter-right h l = sym (type-there t (fieldB t q) n h) ∙ field-earlier l
 
--- an element by its number a: a keyword, a class, or a nonterminal
-named-other : (g : List ℕ) (a e : ℕ) → (a ≡ 0 → ⊥) → (a ≡ 1 → ⊥) → nonterminalExists g (fieldB g e) ≡ elementNamed g (elementNumbered g a e)
+-- an element by its number a: a class, a nonterminal, or another, which names nothing
+named-nonterminal : (g : List ℕ) (a e : ℕ) → 2 ≤ a → a < 5 → nonterminalExists g (fieldB g e) ≡ elementNamed g (elementNumbered g a e)
 unfolding elementNamed elementNumbered
-named-other g zero e h k = absurd (h refl)
-named-other g (suc zero) e h k = absurd (k refl)
-named-other g (suc (suc zero)) e h k = refl
-named-other g (suc (suc (suc a))) e h k = refl
+named-nonterminal g zero e h k = absurd (omega arith)
+named-nonterminal g (suc zero) e h k = absurd (omega arith)
+named-nonterminal g (suc (suc zero)) e h k = refl
+named-nonterminal g (suc (suc (suc zero))) e h k = refl
+named-nonterminal g (suc (suc (suc (suc zero)))) e h k = refl
+named-nonterminal g (suc (suc (suc (suc (suc a))))) e h k = absurd (omega arith)
+
+named-nothing : (g : List ℕ) (a n e : ℕ) → a ≡ suc (suc (suc (suc (suc n)))) → true ≡ elementNamed g (elementNumbered g a e)
+unfolding elementNamed elementNumbered
+named-nothing g a n e h = sym (rw h)
 
 module _ (g : List ℕ) (e : ℕ) (x : Record) (h : Fetched g e x) where
-  pub element-keyword : x .a ≡ 0 → true ≡ elementNamed g (elementAt g e)
+  pub element-keyword : x .a < 1 → true ≡ elementNamed g (elementAt g e)
   unfolding elementNamed elementAt elementNumbered
-  element-keyword k = sym (rw (← h .a, k))
+  element-keyword l = let z : x .a ≡ 0 = omega arith in sym (rw (← h .a, z))
 
   pub element-class : x .a ≡ 1 → exists (class g (x .b)) ≡ elementNamed g (elementAt g e)
   unfolding elementNamed elementAt elementNumbered
   element-class k = sym (rw (← h .a, k, ← h .b))
 
-  pub element-other : (x .a ≡ 0 → ⊥) → (x .a ≡ 1 → ⊥) → nonterminalExists g (x .b) ≡ elementNamed g (elementAt g e)
+  pub element-nonterminal : 1 ≤ x .a → (x .a ≡ 1 → ⊥) → x .a < 5 → nonterminalExists g (x .b) ≡ elementNamed g (elementAt g e)
   unfolding elementAt
-  element-other k l = rw (h .b, ← h .a) (named-other g (x .a) e k l)
+  element-nonterminal s k l = rw (h .b, ← h .a) (named-nonterminal g (x .a) e (omega arith) l)
+
+  pub element-unknown : 5 ≤ x .a → true ≡ elementNamed g (elementAt g e)
+  unfolding elementAt
+  element-unknown l = rw (← h .a) (named-nothing g (x .a) (x .a - 5) e (omega arith))
 
 -- a type by its number a: of a text, of a list, or another
 pub type-text : (g t : List ℕ) (p b : ℕ) → fieldA t p ≡ 0 → b ≡ fieldB t p → exists (class g b) ≡ typeNamed g t (typeAt t p)

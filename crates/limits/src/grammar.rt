@@ -12,7 +12,8 @@ use stream::Fault;
 use stream::record::Record;
 use stream::record::fetch;
 
-// Whether what the element at e names exists: a class, or a nonterminal. A keyword names nothing.
+// Whether what the element at e names exists: a class, or a nonterminal. A keyword names nothing, and neither does an element whose form there
+// isn't.
 fn is_named(
     g: &[u8],
     e: usize,
@@ -24,13 +25,11 @@ fn is_named(
     ensures { λ r. ⌜ r ≡ elementNamed (now (g .entry)) (elementAt (now (g .entry)) e) ⌝ }
 {
     let a = element.a;
-    if a == 0 {
-        return true;
+    match a {
+        1 => (element.b as usize) < classes,
+        2..=4 => is_marked(nonterminals, element.b),
+        _ => true,
     }
-    if a == 1 {
-        return (element.b as usize) < classes;
-    }
-    is_marked(nonterminals, element.b)
 }
 
 // The elements of the production at p.

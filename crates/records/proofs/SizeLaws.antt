@@ -1,19 +1,17 @@
 -- The sizes of values and elements, and the ends of ranges, from their records.
-use Prim.Native.Nat.{ℕ, _+_, _*_, _/_, _%_, _≤_, _<_}
-use mathlib.Core.Path.{_≡_, refl, sym, ap, _∙_}
+use Prim.Native.Nat.{ℕ, _+_, _*_, _%_, _<_}
+use mathlib.Core.Path.{_≡_, sym, _∙_}
 use mathlib.Core.List.{List}
-use mathlib.Core.Bool.{cond}
 use native.Mathlib.Omega.{arith}
-use lib.Dec.{eqb}
 use borrow.Author.Tests.{eq-eqb, ne-eqb}
-use Rattle.rules.specs.Records.{kindOf, fieldA, fieldB, fieldC, units}
-use Rattle.rules.specs.Grammar.{elementSize}
+use Rattle.rules.specs.Records.{kindOf, fieldA, units}
+use Rattle.rules.specs.Grammar.{textLength, elementSize}
 use Rattle.rules.specs.Value.{valueSize}
 use Rattle.rules.specs.Lexeme.{lowest, highest}
 use Rattle.stream.specs.Record.{Fetched}
 use Rattle.stream.specs.declared.record.Record.{Record}
 use Rattle.stream.proofs.RecordLaws.{eight-bytes}
-use Rattle.records.specs.Sizes.{ValueSize, ElementSize}
+use Rattle.records.specs.Sizes.{ValueSize, TextLength, ElementSize}
 
 pub size-yes-no : (r : Record) → r .kind ≡ 2 → ValueSize r 1
 unfolding valueSize
@@ -23,13 +21,22 @@ pub size-field : (r : Record) → (r .kind ≡ 2 → ⊥) → r .c < 65536 → V
 unfolding valueSize
 size-field r e l = record { is = λ v w f. f .c ∙ sym (rw (ne-eqb (kindOf v w) 2 (λ h. e (f .kind ∙ h)))); small = l }
 
-pub size-element : (r : Record) → (r .a ≡ 0 → ⊥) → ElementSize r 1
-unfolding elementSize
-size-element r e = record { is = λ g p f. sym (rw (ne-eqb (fieldA g p) 0 (λ h. e (f .a ∙ h)))); small = omega arith }
+-- the text of an element, by its form, and so its size
+pub keyword-text : (r : Record) → r .a ≡ 0 → TextLength r (r .b)
+unfolding textLength
+keyword-text r e = record { is = λ g p f. rw (eq-eqb (fieldA g p) 0 (sym (f .a) ∙ e)) (f .b) }
 
-pub size-keyword : (r : Record) (n : ℕ) → r .a ≡ 0 → r .b < 65536 → n ≡ units (r .b) → ElementSize r (1 + n)
+pub separator-text : (r : Record) → r .a ≡ 4 → TextLength r (r .c)
+unfolding textLength
+separator-text r e = record { is = λ g p f. let h : fieldA g p ≡ 4 = sym (f .a) ∙ e in rw h (f .c) }
+
+pub no-text : (r : Record) → (r .a ≡ 0 → ⊥) → (r .a ≡ 4 → ⊥) → TextLength r 0
+unfolding textLength
+no-text r e h = record { is = λ g p f. rw (ne-eqb (fieldA g p) 0 (λ k. e (f .a ∙ k)), ne-eqb (fieldA g p) 4 (λ k. h (f .a ∙ k))) }
+
+pub element-size : (r : Record) (m n : ℕ) → TextLength r m → m < 65536 → n ≡ units m → ElementSize r (1 + n)
 unfolding elementSize units
-size-keyword r n e l h = record { is = λ g p f. rw (eq-eqb (fieldA g p) 0 (sym (f .a) ∙ e), ← f .b, h); small = omega arith }
+element-size r m n t l h = record { is = λ g p f. rw (← t .is g p f, h); small = omega arith }
 
 -- both ends of a range
 pub range-low : (g : List ℕ) (i : ℕ) (r : Record) → Fetched g i r → r .a + 256 * r .b ≡ lowest g i

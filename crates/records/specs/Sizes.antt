@@ -2,7 +2,9 @@
 use Prim.Native.Nat.{ℕ, _≤_, _<_}
 use mathlib.Core.Path.{_≡_}
 use mathlib.Core.List.{List}
-use Rattle.rules.specs.Grammar.{elementSize}
+use mathlib.Core.Bool.{Bool, true, cond}
+use lib.Dec.{eqb}
+use Rattle.rules.specs.Grammar.{textLength, elementSize}
 use Rattle.rules.specs.Value.{valueSize}
 use Rattle.stream.specs.Record.{Fetched}
 use Rattle.stream.specs.declared.record.Record.{Record}
@@ -11,6 +13,14 @@ use Rattle.stream.specs.declared.record.Record.{Record}
 pub record ValueSize (r : Record) (n : ℕ) : Type 0 where
   pub is : (v : List ℕ) (w : ℕ) → Fetched v w r → n ≡ valueSize v w
   pub small : n < 65536
+
+-- n bytes of text follow the element whose record is r
+pub record TextLength (r : Record) (n : ℕ) : Type 0 where
+  pub is : (g : List ℕ) (e : ℕ) → Fetched g e r → n ≡ textLength g e
+
+-- the forms of a repetition
+unfoldable pub repeats : ℕ → Bool
+repeats a = cond (eqb a 3) true (eqb a 4)
 
 -- n is the size of the element whose record is r
 pub record ElementSize (r : Record) (n : ℕ) : Type 0 where

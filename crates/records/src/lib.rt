@@ -4,5 +4,4 @@ pub mod element;
 pub mod node;
 pub mod path;
 pub mod range;
-pub mod text;
 pub mod value;

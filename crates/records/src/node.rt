@@ -2,6 +2,7 @@
 ghost use mathlib.Core.Path.{_≡_};
 ghost use mathlib.Core.Option.{none};
 ghost use Prim.Native.Nat.{_<_};
+ghost use lib.Dec.{eqb};
 ghost use Rattle.rules.specs.Blocks.{streamLength};
 ghost use Rattle.rules.specs.Records.{fieldC};
 ghost use Rattle.rules.specs.Templates.{formNumbered};
@@ -26,11 +27,24 @@ pub fn form_of(head: Record) -> Form
     }
 }
 
+// The node with this head is a for.
+pub fn is_for(head: Record) -> bool
+    ensures { λ r. ⌜ r ≡ eqb (head .a) 5 ⌝ }
+{
+    head.a == 5
+}
+
+// How many records the node with this head has.
+pub fn size_in(head: Record) -> usize
+    ensures { λ r. ⌜ (r ≡ head .c) × (r < 65536) ⌝ }
+{
+    head.c as usize
+}
+
 // How many records the node at p has: where it ends, the next one begins.
 pub fn size_at(t: &[u8], p: usize) -> usize
     requires { ⌜ streamLength (now t) ≡ none ⌝ }
     ensures { λ r. ⌜ (r ≡ fieldC (now (t .entry)) p) × (r < 65536) ⌝ }
 {
-    let head = fetch(t, p);
-    head.c as usize
+    size_in(fetch(t, p))
 }

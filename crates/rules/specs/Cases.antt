@@ -199,11 +199,11 @@ unfolding flatten head size utf8 inUnits class range production keyword lexeme r
     Blocks.bytes32 Blocks.checked Blocks.filled Blocks.packedBlock Blocks.packedBlocks packed
     Lexeme.between Lexeme.inside Lexeme.firstByte Lexeme.laterByte Lexeme.nextByte Lexeme.decode Lexeme.decoded Lexeme.charactersOf Lexeme.lowest
     Lexeme.highest Lexeme.ranges Lexeme.inSome Lexeme.allInSome Lexeme.admits Lexeme.isLexeme
-    Grammar.elementSize Grammar.productionSize Grammar.grammarSize Grammar.grammarThings Grammar.classes Grammar.productions Grammar.class
+    Grammar.textLength Grammar.elementSize Grammar.productionSize Grammar.grammarSize Grammar.grammarThings Grammar.classes Grammar.productions Grammar.class
     Grammar.production Grammar.elementNumbered Grammar.elementAt Grammar.elementHeads Grammar.elements Grammar.hasProduction Grammar.nonterminalExists
     Templates.templatesSize Templates.templatesThings Templates.types Templates.templates Templates.type Templates.template Templates.fieldHeads
     Templates.typeNumbered Templates.typeAt Templates.typeOf Templates.parameterHeads Templates.parameters Templates.body Templates.formNumbered
-    Templates.formOf Templates.nodes Templates.paths Templates.path Templates.first Templates.nodesOf Templates.nodesBelow Templates.variable
+    Templates.formOf Templates.isFor Templates.nodes Templates.paths Templates.path Templates.first Templates.nodesOf Templates.nodesBelow Templates.variable
     Templates.fieldNumbers
     Value.valueSize Value.children Value.valuesBelow Value.asText Value.asList
     Layout.thenRead Layout.inRow Layout.whileKind Layout.textEnd Layout.rangeEnd Layout.classEnd Layout.elementEnd Layout.productionEnd
@@ -217,8 +217,8 @@ unfolding flatten head size utf8 inUnits class range production keyword lexeme r
     Typing.pathType Typing.argumentsFit Typing.site Typing.suitsForm Typing.suits Typing.sites Typing.sitesOf Typing.sitesBelow Typing.misfit
     Typing.bodySite Typing.only Typing.declaredType Typing.templatesTyping Typing.typed Typing.hasForm Typing.hasType Typing.typedOf Typing.typedBelow
     Typing.mistyped Typing.valueTyping
-    Walk.start Walk.andThen Walk.valueAlong Walk.pathValue Walk.pathValues Walk.write Walk.inOrder Walk.withChild Walk.pieces Walk.visitForm
-    Walk.counted Walk.reached Walk.visit Walk.walk
+    Walk.start Walk.andThen Walk.valueAlong Walk.pathValue Walk.pathValues Walk.write Walk.withChild Walk.pieces Walk.filledBy Walk.separate
+    Walk.visitItem Walk.inOrder Walk.listed Walk.itemsOf Walk.visitIn Walk.visitForm Walk.counted Walk.reached Walk.visit Walk.walk
     answer Answers.streamKind Answers.bytesOf Answers.layoutOf Answers.limitsOf Answers.placed Answers.over Answers.try Answers.accept
     Answers.setRefusal scratchNeeded Answers.evaluateRefusal Answers.limitNumber Answers.left Answers.kept Answers.walked
     Answers.unlessRefused Answers.input evaluate

@@ -23,9 +23,14 @@ mutual
     own-bytes : (x : List ℕ) → Piece g (keyword x) x
     a-lexeme : (c : ℕ) (x : List ℕ) → isLexeme g c x ≡ true → Piece g (lexeme c) x
     derived : (n : ℕ) (x : List ℕ) → Derives g n x → Piece g (nonterminal n) x
-    repeated : (n : ℕ) (x : List ℕ) → Row g n x → Piece g (repetition n) x
+    repeated : (n : ℕ) (between x : List ℕ) → Row g n between x → Piece g (repetition n between) x
 
   -- "any number of texts in a row, none too, each derived by its nonterminal"
-  pub data Row (g : List ℕ) : ℕ → List ℕ → Type 0 where
-    no-text : (n : ℕ) → Row g n []
-    one-text : (n : ℕ) (x rest : List ℕ) → Derives g n x → Row g n rest → Row g n (x ++ rest)
+  pub data Row (g : List ℕ) : ℕ → List ℕ → List ℕ → Type 0 where
+    no-text : (n : ℕ) (between : List ℕ) → Row g n between []
+    some-texts : (n : ℕ) (between x : List ℕ) → Texts g n between x → Row g n between x
+
+  -- 02 a: "one separator between neighbours and none elsewhere"
+  pub data Texts (g : List ℕ) : ℕ → List ℕ → List ℕ → Type 0 where
+    last-text : (n : ℕ) (between x : List ℕ) → Derives g n x → Texts g n between x
+    next-text : (n : ℕ) (between x rest : List ℕ) → Derives g n x → Texts g n between rest → Texts g n between (x ++ between ++ rest)

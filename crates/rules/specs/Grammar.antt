@@ -4,11 +4,16 @@ use mathlib.Core.List.{List, [], _∷_, map}
 use mathlib.Core.Bool.{Bool, false, cond, _||_}
 use mathlib.Core.Option.{Option}
 use lib.Dec.{eqb}
-use Rattle.rules.specs.Records.{recordCount, kindOf, fieldA, fieldB, fieldD, units, textOf, heads, after, things, ofKind, nth}
+use Rattle.rules.specs.Records.{recordCount, kindOf, fieldA, fieldB, fieldC, fieldD, units, textOf, heads, after, things, ofKind, nth}
+
+-- "0 keyword (b bytes of text follow)"; 02 a: "4 is a repetition of nonterminal b with c bytes of separator text after the record": how many
+-- bytes of text follow an element
+unfoldable pub textLength : List ℕ → ℕ → ℕ
+textLength g e = cond (eqb (fieldA g e) 0) (fieldB g e) (cond (eqb (fieldA g e) 4) (fieldC g e) 0)
 
 -- the records of an element, of a production (its elements follow it), of a class (its ranges follow it)
 unfoldable pub elementSize : List ℕ → ℕ → ℕ
-elementSize g e = 1 + cond (eqb (fieldA g e) 0) (units (fieldB g e)) 0
+elementSize g e = 1 + units (textLength g e)
 
 unfoldable pub productionSize : List ℕ → ℕ → ℕ
 productionSize g p = after (elementSize g) (fieldD g p) (p + 1) - p
@@ -32,19 +37,23 @@ class g n = nth (classes g) n
 unfoldable pub production : List ℕ → ℕ → Option ℕ
 production g n = nth (productions g) n
 
--- "4 element: a = 0 keyword (b bytes of text follow), 1 class b, 2 nonterminal b, 3 repetition of nonterminal b"
+-- "4 element: a = 0 keyword (b bytes of text follow), 1 class b, 2 nonterminal b, 3 repetition of nonterminal b"; 02 a: "4 is a repetition of
+-- nonterminal b with c bytes of separator text after the record". A repetition has its separator, which is empty where the element has none.
+-- A form that there isn't is none of these; layout admits no number above 4.
 pub data Element : Type 0 where
   keyword : List ℕ → Element
   lexeme : ℕ → Element
   nonterminal : ℕ → Element
-  repetition : ℕ → Element
+  repetition : ℕ → List ℕ → Element
+  unknown : Element
 
--- (layout admits no number above 3)
 unfoldable pub elementNumbered : List ℕ → ℕ → ℕ → Element
-elementNumbered g zero e = keyword (textOf g e)
+elementNumbered g zero e = keyword (textOf g (fieldB g e) e)
 elementNumbered g (suc zero) e = lexeme (fieldB g e)
 elementNumbered g (suc (suc zero)) e = nonterminal (fieldB g e)
-elementNumbered g (suc (suc (suc a))) e = repetition (fieldB g e)
+elementNumbered g (suc (suc (suc zero))) e = repetition (fieldB g e) []
+elementNumbered g (suc (suc (suc (suc zero)))) e = repetition (fieldB g e) (textOf g (fieldC g e) e)
+elementNumbered g (suc (suc (suc (suc (suc a))))) e = unknown
 
 unfoldable pub elementAt : List ℕ → ℕ → Element
 elementAt g e = elementNumbered g (fieldA g e) e

@@ -1,12 +1,13 @@
 -- Layout, section "Records" and refusal 3; "Unused fields are zero." Each definition reads the records of one thing from p on and answers the place after it, if they lay one out.
 use Prim.Native.Nat.{ℕ, zero, suc, _+_, _-_}
 use mathlib.Core.List.{List}
-use mathlib.Core.Bool.{Bool, true, false, cond, _&&_}
+use mathlib.Core.Bool.{Bool, true, false, _&&_, _||_}
 use mathlib.Core.Option.{Option, none, some}
 use lib.ListN.{drop}
 use lib.Dec.{eqb, leb, ltb}
 use Rattle.rules.specs.Faults.{need, onFound, onlyIf}
 use Rattle.rules.specs.Records.{recordCount, byteOf, kindOf, fieldA, fieldB, fieldC, fieldD, recordsFrom, units, paddingOf, zeros}
+use Rattle.rules.specs.Grammar.{textLength}
 use Rattle.rules.specs.Templates.{formOf}
 use Rattle.rules.specs.declared.Form.{Form}
 use Rattle.rules.specs.declared.Form.the-variants.{Build, Literal, Place, Expand, If, For, Sequence, Unknown}
@@ -24,9 +25,9 @@ whileKind s kind one zero n p = some p
 whileKind s kind one (suc k) n p =
     elim (eqb (kindOf s p) kind) [ true ↦ thenRead (one n p) (whileKind s kind one k (suc n)) | false ↦ some p ]
 
--- "Text follows its head in units of 8 bytes, the last zero-padded": the place after the text of the head at p
-unfoldable pub textEnd : List ℕ → ℕ → Option ℕ
-textEnd s p = onlyIf (zeros (paddingOf s p)) (p + 1 + units (fieldB s p))
+-- "Text follows its head in units of 8 bytes, the last zero-padded": the place after the text of n bytes of the head at p
+unfoldable pub textEnd : List ℕ → ℕ → ℕ → Option ℕ
+textEnd s n p = onlyIf (zeros (paddingOf s n p)) (p + 1 + units n)
 
 -- Grammar. "2 range: bytes 1-3 lowest and 4-6 highest code point"; byte 7 is unused
 unfoldable pub rangeEnd : List ℕ → ℕ → Option ℕ
@@ -36,11 +37,12 @@ rangeEnd g p = onlyIf (eqb (kindOf g p) 2 && eqb (byteOf g p 7) 0) (p + 1)
 unfoldable pub classEnd : List ℕ → ℕ → ℕ → Option ℕ
 classEnd g n p = thenRead (onlyIf (eqb (fieldA g p) n) (p + 1)) (inRow (rangeEnd g) (fieldD g p))
 
--- "4 element: a = 0 keyword (b bytes of text follow), 1 class b, 2 nonterminal b, 3 repetition of nonterminal b"
+-- "4 element: a = 0 keyword (b bytes of text follow), 1 class b, 2 nonterminal b, 3 repetition of nonterminal b"; 02 a: "4 is a repetition of
+-- nonterminal b with c bytes of separator text after the record"; only it uses c
 unfoldable pub elementEnd : List ℕ → ℕ → Option ℕ
 elementEnd g p =
-    thenRead (onlyIf (eqb (kindOf g p) 4 && (leb (fieldA g p) 3 && (eqb (fieldC g p) 0 && eqb (fieldD g p) 0))) p)
-    (λ p. cond (eqb (fieldA g p) 0) (textEnd g p) (some (p + 1)))
+    thenRead (onlyIf (eqb (kindOf g p) 4 && (leb (fieldA g p) 4 && ((eqb (fieldA g p) 4 || eqb (fieldC g p) 0) && eqb (fieldD g p) 0))) p)
+    (textEnd g (textLength g p))
 
 -- "3 production: a number (from 0, consecutive, so at most 256 of them), b its nonterminal, d count of elements"
 unfoldable pub productionEnd : List ℕ → ℕ → ℕ → Option ℕ
@@ -78,7 +80,7 @@ pathEnd t p =
 -- 5 for (path, one node); 6 sequence (d nodes)": what stands below a node's head; `node` reads a node
 unfoldable pub formEnd : List ℕ → Form → (ℕ → Option ℕ) → ℕ → Option ℕ
 formEnd t Build node p = inRow node (fieldD t p) (p + 1)
-formEnd t Literal node p = thenRead (onlyIf (eqb (fieldD t p) 0) p) (textEnd t)
+formEnd t Literal node p = thenRead (onlyIf (eqb (fieldD t p) 0) p) (textEnd t (fieldB t p))
 formEnd t Place node p = thenRead (onlyIf (eqb (fieldB t p) 0 && eqb (fieldD t p) 0) (p + 1)) (pathEnd t)
 formEnd t Expand node p = inRow (pathEnd t) (fieldD t p) (p + 1)
 formEnd t If node p = thenRead (onlyIf (eqb (fieldB t p) 0 && eqb (fieldD t p) 0) (p + 1)) (λ q. thenRead (pathEnd t q) (inRow node 2))
@@ -114,7 +116,7 @@ childrenEnd v value p = thenRead (onlyIf (eqb (fieldA v p) 0 && eqb (fieldB v p)
 
 unfoldable pub kindEnd : List ℕ → ℕ → (ℕ → Option ℕ) → ℕ → Option ℕ
 kindEnd v zero value p = none
-kindEnd v (suc zero) value p = thenRead (onlyIf (eqb (fieldA v p) 0 && eqb (fieldD v p) 0) p) (λ p. sized v p (textEnd v p))
+kindEnd v (suc zero) value p = thenRead (onlyIf (eqb (fieldA v p) 0 && eqb (fieldD v p) 0) p) (λ p. sized v p (textEnd v (fieldB v p) p))
 kindEnd v (suc (suc zero)) value p =
     onlyIf (leb (fieldA v p) 1 && (eqb (fieldB v p) 0 && (eqb (fieldC v p) 0 && eqb (fieldD v p) 0))) (p + 1)
 kindEnd v (suc (suc (suc zero))) value p = childrenEnd v value p

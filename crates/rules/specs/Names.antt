@@ -6,7 +6,7 @@ use mathlib.Core.Option.{Option}
 use lib.Dec.{ltb}
 use Rattle.rules.specs.Faults.{need, both, every, tree, exists}
 use Rattle.rules.specs.Records.{fieldB, numbered}
-use Rattle.rules.specs.Grammar.{class, production, productions, Element, keyword, lexeme, nonterminal, repetition, elementAt, elementHeads, nonterminalExists}
+use Rattle.rules.specs.Grammar.{class, production, productions, Element, keyword, lexeme, nonterminal, repetition, unknown, elementAt, elementHeads, nonterminalExists}
 use Rattle.rules.specs.Templates.{TypeForm, text, yes-no, list, fields, no-type, type, types, typeAt, fieldHeads, template, templates, parameterHeads, body, formOf, nodesBelow}
 use Rattle.rules.specs.Limits.{deepest}
 use Rattle.rules.specs.declared.Form.{Form}
@@ -17,7 +17,8 @@ unfoldable pub elementNamed : List ℕ → Element → Bool
 elementNamed g (keyword x) = true
 elementNamed g (lexeme c) = exists (class g c)
 elementNamed g (nonterminal n) = nonterminalExists g n
-elementNamed g (repetition n) = nonterminalExists g n
+elementNamed g (repetition n x) = nonterminalExists g n
+elementNamed g unknown = true
 
 unfoldable pub grammarNames : List ℕ → Option ℕ
 grammarNames g = every (λ p. every (λ e. need (elementNamed g (elementAt g e)) e) (elementHeads g p)) (productions g)

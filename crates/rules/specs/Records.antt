@@ -42,16 +42,16 @@ unfoldable pub recordsFrom : List ℕ → ℕ → ℕ → List ℕ
 recordsFrom s zero i = []
 recordsFrom s (suc n) i = take 8 (drop (base i) s) ++ recordsFrom s n (suc i)
 
--- "Text follows its head in units of 8 bytes, the last zero-padded; length 0 has no unit": the units of n bytes; the text of b bytes
+-- "Text follows its head in units of 8 bytes, the last zero-padded; length 0 has no unit": the units of n bytes; the text of n bytes
 -- after the head at i, and its padding
 unfoldable pub units : ℕ → ℕ
 units n = (n + 7) / 8
 
-unfoldable pub textOf : List ℕ → ℕ → List ℕ
-textOf s i = take (fieldB s i) (recordsFrom s (units (fieldB s i)) (i + 1))
+unfoldable pub textOf : List ℕ → ℕ → ℕ → List ℕ
+textOf s n i = take n (recordsFrom s (units n) (i + 1))
 
-unfoldable pub paddingOf : List ℕ → ℕ → List ℕ
-paddingOf s i = drop (fieldB s i) (recordsFrom s (units (fieldB s i)) (i + 1))
+unfoldable pub paddingOf : List ℕ → ℕ → ℕ → List ℕ
+paddingOf s n i = drop n (recordsFrom s (units n) (i + 1))
 
 unfoldable pub zeros : List ℕ → Bool
 zeros [] = true

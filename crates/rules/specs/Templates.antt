@@ -1,7 +1,7 @@
 -- The templates' records, section "Records": types, then templates with their parameters and bodies; nodes and paths.
 use Prim.Native.Nat.{ℕ, zero, suc, _+_}
 use mathlib.Core.List.{List, [], _∷_, map}
-use mathlib.Core.Bool.{cond}
+use mathlib.Core.Bool.{Bool, true, false, cond}
 use mathlib.Core.Option.{Option}
 use lib.ListN.{take, drop}
 use lib.Dec.{eqb}
@@ -78,6 +78,16 @@ formNumbered (suc (suc (suc (suc (suc (suc (suc n))))))) = Unknown
 
 unfoldable pub formOf : List ℕ → ℕ → Form
 formOf t p = formNumbered (fieldA t p)
+
+unfoldable pub isFor : Form → Bool
+isFor Build = false
+isFor Literal = false
+isFor Place = false
+isFor Expand = false
+isFor If = false
+isFor For = true
+isFor Sequence = false
+isFor Unknown = false
 
 -- the d nodes of a build or a sequence; the d paths of an expand
 unfoldable pub nodes : List ℕ → ℕ → List ℕ

@@ -8,14 +8,14 @@ use lib.Dec.{eqb}
 use Rattle.rules.specs.Faults.{need, both, every, tree, onFound, exists, at}
 use Rattle.rules.specs.Records.{fieldB, fieldD, textOf, nth}
 use Rattle.rules.specs.Lexeme.{isLexeme}
-use Rattle.rules.specs.Grammar.{production, Element, keyword, lexeme, nonterminal, repetition, elements}
+use Rattle.rules.specs.Grammar.{production, Element, keyword, lexeme, nonterminal, repetition, unknown, elements}
 use Rattle.rules.specs.Templates.{TypeForm, text, yes-no, list, fields, no-type, typeOf, template, templates, parameters, body, formOf, nodes, paths, path, first, second, variable, fieldNumbers}
 use Rattle.rules.specs.Value.{asText, asYesNo, asList, asRecord}
 use Rattle.rules.specs.Limits.{deepest}
 use Rattle.rules.specs.declared.Form.{Form}
 use Rattle.rules.specs.declared.Form.the-variants.{Build, Literal, Place, Expand, If, For, Sequence, Unknown}
 use Rattle.rules.specs.declared.Position.{Position}
-use Rattle.rules.specs.declared.Position.the-variants.{Class, Nonterminal, Repetition, Item}
+use Rattle.rules.specs.declared.Position.the-variants.{Class, Nonterminal, Repetition, Item, Nothing}
 
 -- "Every position asks for a class, a nonterminal or a repetition": which one, if it does. An item of a sequence may be what its nonterminal asks for, or a for
 unfoldable pub asksClass : Position → Option ℕ
@@ -23,24 +23,28 @@ asksClass (Class c) = some c
 asksClass (Nonterminal n) = none
 asksClass (Repetition n) = none
 asksClass (Item n) = none
+asksClass Nothing = none
 
 unfoldable pub asksNonterminal : Position → Option ℕ
 asksNonterminal (Class c) = none
 asksNonterminal (Nonterminal n) = some n
 asksNonterminal (Repetition n) = none
 asksNonterminal (Item n) = some n
+asksNonterminal Nothing = none
 
 unfoldable pub asksRepetition : Position → Option ℕ
 asksRepetition (Class c) = none
 asksRepetition (Nonterminal n) = none
 asksRepetition (Repetition n) = some n
 asksRepetition (Item n) = none
+asksRepetition Nothing = none
 
 unfoldable pub asksItem : Position → Option ℕ
 asksItem (Class c) = none
 asksItem (Nonterminal n) = none
 asksItem (Repetition n) = none
 asksItem (Item n) = some n
+asksItem Nothing = none
 
 -- the positions of a production: "one per element that is no keyword"
 unfoldable pub positions : List Element → List Position
@@ -48,7 +52,8 @@ positions [] = []
 positions (keyword x ∷ es) = positions es
 positions (lexeme c ∷ es) = Class c ∷ positions es
 positions (nonterminal n ∷ es) = Nonterminal n ∷ positions es
-positions (repetition n ∷ es) = Repetition n ∷ positions es
+positions (repetition n x ∷ es) = Repetition n ∷ positions es
+positions (unknown ∷ es) = Nothing ∷ positions es
 
 -- a type's class if it is a text, its item type if a list, its fields' types if a record
 unfoldable pub textClass : TypeForm → Option ℕ
@@ -113,7 +118,7 @@ suitsForm g t Build x =
     onFound (asksNonterminal (x .position)) false λ n.
     onFound (production g (fieldB t (x .node))) false λ q.
     eqb (fieldB g q) n && eqb (length (positions (elements g q))) (fieldD t (x .node))
-suitsForm g t Literal x = onFound (asksClass (x .position)) false λ c. isLexeme g c (textOf t (x .node))
+suitsForm g t Literal x = onFound (asksClass (x .position)) false λ c. isLexeme g c (textOf t (fieldB t (x .node)) (x .node))
 suitsForm g t Place x =
     onFound (asksClass (x .position)) false λ c.
     onFound (pathType t (x .vars) (path (x .node))) false λ ty.

@@ -5,7 +5,7 @@ use mathlib.Core.Bool.{Bool, cond}
 use mathlib.Core.Option.{Option}
 use lib.Dec.{eqb, leb}
 use Rattle.rules.specs.Faults.{onlyIf}
-use Rattle.rules.specs.Records.{kindOf, fieldA, fieldC, fieldD, textOf, heads}
+use Rattle.rules.specs.Records.{kindOf, fieldA, fieldB, fieldC, fieldD, textOf, heads}
 
 -- a yes/no has no size field
 unfoldable pub valueSize : List ℕ → ℕ → ℕ
@@ -20,7 +20,7 @@ valuesBelow v w = cond (leb 3 (kindOf v w)) (children v w) []
 
 -- the value at w, if it is one of these: a text's bytes, whether a yes/no is yes, the items of a list, the fields of a record
 unfoldable pub asText : List ℕ → ℕ → Option (List ℕ)
-asText v w = onlyIf (eqb (kindOf v w) 1) (textOf v w)
+asText v w = onlyIf (eqb (kindOf v w) 1) (textOf v (fieldB v w) w)
 
 unfoldable pub asYesNo : List ℕ → ℕ → Option Bool
 asYesNo v w = onlyIf (eqb (kindOf v w) 2) (eqb (fieldA v w) 1)

@@ -7,8 +7,8 @@ use lib.ListN.{length}
 use lib.Dec.{leb, ltb}
 use Rattle.rules.specs.Faults.{onFound}
 use Rattle.rules.specs.Records.{fieldB, textOf, nth}
-use Rattle.rules.specs.Grammar.{production, Element, keyword, lexeme, nonterminal, repetition, elements}
-use Rattle.rules.specs.Templates.{template, body, formOf, nodes, paths, path, first, second, variable, fieldNumbers}
+use Rattle.rules.specs.Grammar.{production, Element, keyword, lexeme, nonterminal, repetition, unknown, elements}
+use Rattle.rules.specs.Templates.{template, body, formOf, isFor, nodes, paths, path, first, second, variable, fieldNumbers}
 use Rattle.rules.specs.Value.{asText, asYesNo, asList, asRecord}
 use Rattle.rules.specs.Limits.{deepest}
 use Rattle.rules.specs.declared.Form.{Form}
@@ -63,51 +63,97 @@ write room p x s =
     (done (record { steps = s .steps; text = s .text ++ x }))
     (ended output-full p s)
 
--- one after the other, in order
-unfoldable pub inOrder : (ℕ → State → End) → List ℕ → State → End
-inOrder visit [] s = done s
-inOrder visit (x ∷ xs) s = andThen (visit x s) (inOrder visit xs)
-
 -- "takes its elements in order: it writes a keyword, and visits the next child for any other"
 unfoldable pub withChild : (ℕ → State → End) → List ℕ → (List ℕ → State → End) → State → End
 withChild visit [] next s = stuck
 withChild visit (c ∷ cs) next s = andThen (visit c s) (next cs)
 
-unfoldable pub pieces : (List ℕ → State → End) → (ℕ → State → End) → List Element → List ℕ → State → End
+unfoldable pub pieces : (List ℕ → State → End) → (Element → ℕ → State → End) → List Element → List ℕ → State → End
 pieces put visit [] cs s = done s
 pieces put visit (keyword x ∷ es) cs s = andThen (put x s) (pieces put visit es cs)
-pieces put visit (lexeme c ∷ es) cs s = withChild visit cs (pieces put visit es) s
-pieces put visit (nonterminal n ∷ es) cs s = withChild visit cs (pieces put visit es) s
-pieces put visit (repetition n ∷ es) cs s = withChild visit cs (pieces put visit es) s
+pieces put visit (lexeme c ∷ es) cs s = withChild (visit (lexeme c)) cs (pieces put visit es) s
+pieces put visit (nonterminal n ∷ es) cs s = withChild (visit (nonterminal n)) cs (pieces put visit es) s
+pieces put visit (repetition n x ∷ es) cs s = withChild (visit (repetition n x)) cs (pieces put visit es) s
+pieces put visit (unknown ∷ es) cs s = withChild (visit unknown) cs (pieces put visit es) s
 
--- "the form decides"; `visit` visits a node one deeper, with its variables.
+-- A repetition that a sequence fills: the sequence's place, the nonterminal of its items, what stands between them
+pub record Filled : Type 0 where
+  pub sequence : ℕ
+  pub nonterminal : ℕ
+  pub separator : List ℕ
+
+-- What a visited node is handed: what its position asks for. That is an element's piece; of a for, which stands in a sequence, it is items for
+-- the repetition that the sequence fills, and so many came before.
+pub data Asked : Type 0 where
+  piece : Element → Asked
+  items : Filled → ℕ → Asked
+
+-- the repetition that the sequence at p fills, if its position asks for one
+unfoldable pub filledBy : ℕ → Asked → Option Filled
+filledBy p (piece (keyword x)) = none
+filledBy p (piece (lexeme c)) = none
+filledBy p (piece (nonterminal n)) = none
+filledBy p (piece (repetition n x)) = some (record { sequence = p; nonterminal = n; separator = x })
+filledBy p (piece unknown) = none
+filledBy p (items f n) = none
+
+-- 02 a: "The separator is written before every item but the first"; n came before this one. "where it passes the end, none of it is written and
+-- that is 12 with the sequence's place"
+unfoldable pub separate : ℕ → Filled → ℕ → State → End
+separate room f zero s = done s
+separate room f (suc n) s = write room (f .sequence) (f .separator) s
+
+-- `visit` visits an item: "It comes before the item's fuel and depth are tried"
+unfoldable pub visitItem : ℕ → (Asked → ℕ → List ℕ → State → End) → Filled → ℕ → ℕ → List ℕ → State → End
+visitItem room visit f n c env s = andThen (separate room f n s) (visit (piece (nonterminal (f .nonterminal))) c env)
+
+-- one after the other, in order, each with the number of items before it; `brings` says how many it brings itself
+unfoldable pub inOrder : (ℕ → ℕ) → (ℕ → ℕ → State → End) → ℕ → List ℕ → State → End
+inOrder brings visit n [] s = done s
+inOrder brings visit n (x ∷ xs) s = andThen (visit n x s) (inOrder brings visit (n + brings x) xs)
+
+-- the items of the list that the path of a for finds
+unfoldable pub listed : Input → List ℕ → ℕ → Option (List ℕ)
+listed i env p = onFound (pathValue (i .templates) (i .value) env (path p)) none (asList (i .value))
+
+-- "whether from a for, the sequence itself or several fors in a row"; "An item that writes nothing still counts; a for itself is none."
+unfoldable pub itemsOf : Input → List ℕ → ℕ → ℕ
+itemsOf i env c = cond (isFor (formOf (i .templates) c)) (onFound (listed i env c) 0 length) 1
+
+unfoldable pub visitIn : Input → (Asked → ℕ → List ℕ → State → End) → Filled → List ℕ → ℕ → ℕ → State → End
+visitIn i visit f env n c =
+    cond (isFor (formOf (i .templates) c)) (visit (items f n) c env) (visitItem (i .room) visit f n c env)
+
+-- "the form decides"; `visit` visits a node one deeper, with what its position asks for and its variables.
 -- "A build takes its elements in order". "A literal writes its text, a place the text that its path finds".
--- "An expand enters the body with a fresh set of variables, those that its paths find."
--- "An if visits only the branch taken, the first on yes (1)." "A for visits its body once for each item, in order, the item being one variable more."
--- "A sequence visits its items in order."
-unfoldable pub visitForm : Input → Form → (ℕ → List ℕ → State → End) → ℕ → List ℕ → State → End
-visitForm i Build visit p env s =
+-- "An expand enters the body with a fresh set of variables, those that its paths find."; "A body's position is its template's nonterminal".
+-- "An if visits only the branch taken, the first on yes (1)", "both branches in the same position".
+-- "A for visits its body once for each item, in order, the item being one variable more." "A sequence visits its items in order."
+unfoldable pub visitForm : Input → Form → (Asked → ℕ → List ℕ → State → End) → Asked → ℕ → List ℕ → State → End
+visitForm i Build visit a p env s =
     onFound (production (i .grammar) (fieldB (i .templates) p)) stuck λ q.
-    pieces (write (i .room) p) (λ c. visit c env) (elements (i .grammar) q) (nodes (i .templates) p) s
-visitForm i Literal visit p env s = write (i .room) p (textOf (i .templates) p) s
-visitForm i Place visit p env s =
+    pieces (write (i .room) p) (λ e c. visit (piece e) c env) (elements (i .grammar) q) (nodes (i .templates) p) s
+visitForm i Literal visit a p env s = write (i .room) p (textOf (i .templates) (fieldB (i .templates) p) p) s
+visitForm i Place visit a p env s =
     onFound (pathValue (i .templates) (i .value) env (path p)) stuck λ w.
     onFound (asText (i .value) w) stuck λ x.
     write (i .room) p x s
-visitForm i Expand visit p env s =
+visitForm i Expand visit a p env s =
     onFound (template (i .templates) (fieldB (i .templates) p)) stuck λ q.
     onFound (pathValues (i .templates) (i .value) env (paths (i .templates) p)) stuck λ ws.
-    visit (body (i .templates) q) ws s
-visitForm i If visit p env s =
+    visit (piece (nonterminal (fieldB (i .templates) q))) (body (i .templates) q) ws s
+visitForm i If visit a p env s =
     onFound (pathValue (i .templates) (i .value) env (path p)) stuck λ w.
     onFound (asYesNo (i .value) w) stuck λ yes?.
-    visit (cond yes? (first p) (second (i .templates) p)) env s
-visitForm i For visit p env s =
-    onFound (pathValue (i .templates) (i .value) env (path p)) stuck λ w.
-    onFound (asList (i .value) w) stuck λ ws.
-    inOrder (λ item. visit (first p) (env ++ item ∷ [])) ws s
-visitForm i Sequence visit p env s = inOrder (λ c. visit c env) (nodes (i .templates) p) s
-visitForm i Unknown visit p env s = stuck
+    visit a (cond yes? (first p) (second (i .templates) p)) env s
+visitForm i For visit (piece e) p env s = stuck
+visitForm i For visit (items f n) p env s =
+    onFound (listed i env p) stuck λ ws.
+    inOrder (λ w. 1) (λ m w. visitItem (i .room) visit f m (first p) (env ++ w ∷ [])) n ws s
+visitForm i Sequence visit a p env s =
+    onFound (filledBy p a) stuck λ f.
+    inOrder (itemsOf i env) (visitIn i visit f env) 0 (nodes (i .templates) p) s
+visitForm i Unknown visit a p env s = stuck
 
 -- "A node reached is tried for 10", and then "it isn't counted as a step"; else "A visit counts one step."
 unfoldable pub counted : State → State
@@ -118,10 +164,12 @@ reached true p next s = next (counted s)
 reached false p next s = ended fuel-spent p s
 
 -- "Then 11 is tried": k levels are left, this node's own among them; with none left it stands at depth 201, and "it is counted as a step"
-unfoldable pub visit : Input → ℕ → ℕ → List ℕ → State → End
-visit i zero p env s = reached (ltb (s .steps) (i .fuel)) p (ended too-deep p) s
-visit i (suc k) p env s = reached (ltb (s .steps) (i .fuel)) p (visitForm i (formOf (i .templates) p) (visit i k) p env) s
+unfoldable pub visit : Input → ℕ → Asked → ℕ → List ℕ → State → End
+visit i zero a p env s = reached (ltb (s .steps) (i .fuel)) p (ended too-deep p) s
+visit i (suc k) a p env s = reached (ltb (s .steps) (i .fuel)) p (visitForm i (formOf (i .templates) p) (visit i k) a p env) s
 
 -- "The walk starts with template 0's body and the value as its one variable."
 unfoldable pub walk : Input → End
-walk i = onFound (template (i .templates) 0) stuck λ q. visit i deepest (body (i .templates) q) (0 ∷ []) start
+walk i =
+    onFound (template (i .templates) 0) stuck λ q.
+    visit i deepest (piece (nonterminal (fieldB (i .templates) q))) (body (i .templates) q) (0 ∷ []) start

@@ -10,12 +10,14 @@ pub struct Answer {
 }
 
 // What a position asks for: a lexeme of a class, a text of a nonterminal or a repetition of one, by their numbers.
-// An item is what stands in a sequence: what its nonterminal asks for, or a for over such.
+// An item is what stands in a sequence: what its nonterminal asks for, or a for over such. Nothing is asked for by an element whose form there
+// isn't: no node suits it, and layout admits none.
 pub enum Position {
     Class(u16),
     Nonterminal(u16),
     Repetition(u16),
     Item(u16),
+    Nothing,
 }
 
 // The forms of a template node, in the order of their numbers from 0; a number above 6 is no form.

@@ -9,12 +9,12 @@ use lib.ListN.{length, take, drop, getD, length-append, length-take, length-drop
 use lib.Dec.{leb, ltb}
 use lib.Seq.{take-add, take-nil, drop-drop, drop-cons, take-length, take-all}
 use borrow.Author.Tests.{eq-eqb, ne-eqb, leb-true, leb-false, ltb-true, ltb-false}
-use Rattle.rules.specs.Records.{base, fieldB, recordCount, recordsFrom, units, textOf}
+use Rattle.rules.specs.Records.{base, recordCount, recordsFrom, units, textOf}
 use Rattle.stream.specs.declared.text.Text.{Text}
 use Rattle.stream.specs.declared.record.Place.{Place}
 use Rattle.stream.specs.Record.{placeOf}
 use Rattle.stream.proofs.RecordLaws.{place-is}
-use Rattle.stream.specs.Text.{onward, payloadFrom, textIn, textAfter, Begins, BeginsAt, room, partOf, Rest}
+use Rattle.stream.specs.Text.{onward, payloadFrom, textIn, Begins, BeginsAt, room, partOf, Rest}
 
 -- the next byte of payload: in the block, and past it
 onward-in : (at : ℕ) → 1 < room at → onward at ≡ at + 1
@@ -152,29 +152,22 @@ text-payload s n p =
     rw (records-payload s ((n + 7) / 8) p, e) (payload-take s n (8 * ((n + 7) / 8) - n) (base p))
 
 -- Where a text begins: after the head at i, which is given by the place of the record after it; a head past the end has none
-begins-at : (s : List ℕ) (p : Place) (i n : ℕ) → p ≡ placeOf (i + 1) → textIn s (record { at = p .at; left = n }) ≡ textAfter s i n
-unfolding textIn textAfter
+begins-at : (s : List ℕ) (p : Place) (i n : ℕ) → p ≡ placeOf (i + 1) → textIn s (record { at = p .at; left = n }) ≡ textOf s n i
+unfolding textIn textOf
 begins-at s p i n e = rw (place-is p (i + 1) e .0) (sym (text-payload s n (i + 1)))
 
 pub begins-from : (p : Place) (n : ℕ) → BeginsAt p n (record { at = p .at; left = n })
 begins-from p n = record { text = λ s i e. begins-at s p i n e; most = le-refl n }
 
-pub begins-after : (s : List ℕ) (p : Place) (i n : ℕ) (t : Text) → p ≡ placeOf (i + 1) → BeginsAt p n t → Begins s (textAfter s i n) n t
+pub begins-after : (s : List ℕ) (p : Place) (i n : ℕ) (t : Text) → p ≡ placeOf (i + 1) → BeginsAt p n t → Begins s (textOf s n i) n t
 begins-after s p i n t e b = record { text = b .text s i e; most = b .most }
 
-nothing : (s : List ℕ) (i n : ℕ) → length s / 8 ≤ i → textIn s (record { at = 0; left = 0 }) ≡ textAfter s i n
-unfolding textIn textAfter payloadFrom base
+nothing : (s : List ℕ) (i n : ℕ) → length s / 8 ≤ i → textIn s (record { at = 0; left = 0 }) ≡ textOf s n i
+unfolding textIn textOf payloadFrom base
 nothing s i n l = sym (text-payload s n (i + 1) ∙ payload-past s n (base (i + 1)) (omega arith))
 
-pub begins-past : (s : List ℕ) (i n : ℕ) → length s / 8 ≤ i → Begins s (textAfter s i n) n (record { at = 0; left = 0 })
+pub begins-past : (s : List ℕ) (i n : ℕ) → length s / 8 ≤ i → Begins s (textOf s n i) n (record { at = 0; left = 0 })
 begins-past s i n l = record { text = nothing s i n l; most = omega arith }
-
-text-of : (s : List ℕ) (i : ℕ) → textAfter s i (fieldB s i) ≡ textOf s i
-unfolding textAfter textOf
-text-of s i = refl
-
-pub begins-of : (s : List ℕ) (t : Text) (i n : ℕ) → n ≡ fieldB s i → n < 65536 → Begins s (textAfter s i n) n t → Begins s (textOf s i) 65535 t
-begins-of s t i n e l b = record { text = b .text ∙ ap (textAfter s i) e ∙ text-of s i; most = omega (arith, b .most) }
 
 -- The part of a text in one block, as the code takes it
 pub part-past : (s : List ℕ) (t : Text) → length s ≤ t .at → [] ≡ partOf s t
@@ -271,6 +264,6 @@ units-length s (suc k) p l =
     let b : length (recordsFrom s k (suc p)) ≡ 8 * k = units-length s k (suc p) (omega arith) in
     rw (length-append, a, b) (omega arith)
 
-pub text-whole : (s : List ℕ) (i n : ℕ) → i + 1 + units n ≤ recordCount s → length (textAfter s i n) ≡ n
-unfolding textAfter units recordCount
+pub text-whole : (s : List ℕ) (i n : ℕ) → i + 1 + units n ≤ recordCount s → length (textOf s n i) ≡ n
+unfolding textOf units recordCount
 text-whole s i n l = rw (length-take, units-length s ((n + 7) / 8) (i + 1) l) (omega arith)

@@ -5,7 +5,7 @@ use mathlib.Core.List.{List, [], _++_}
 use mathlib.Core.Bool.{cond}
 use lib.ListN.{length, take, drop}
 use lib.Dec.{eqb, leb}
-use Rattle.rules.specs.Records.{recordsFrom, units}
+use Rattle.rules.specs.Records.{textOf}
 use Rattle.stream.specs.declared.record.Place.{Place}
 use Rattle.stream.specs.declared.text.Text.{Text}
 use Rattle.stream.specs.Record.{placeOf}
@@ -23,10 +23,6 @@ payloadFrom s (suc n) at = take 1 (drop at s) ++ payloadFrom s n (onward at)
 unfoldable pub textIn : List ℕ → Text → List ℕ
 textIn s t = payloadFrom s (t .left) (t .at)
 
--- the n bytes of text after the head at i. `textOf s i` of crate rules is `textAfter s i (fieldB s i)`.
-unfoldable pub textAfter : List ℕ → ℕ → ℕ → List ℕ
-textAfter s i n = take n (recordsFrom s (units n) (i + 1))
-
 -- t is a text with these bytes, and at most n
 pub record Begins (s bytes : List ℕ) (n : ℕ) (t : Text) : Type 0 where
   pub text : textIn s t ≡ bytes
@@ -34,7 +30,7 @@ pub record Begins (s bytes : List ℕ) (n : ℕ) (t : Text) : Type 0 where
 
 -- t is the text of n bytes after whatever head stands before a place
 pub record BeginsAt (p : Place) (n : ℕ) (t : Text) : Type 0 where
-  pub text : (s : List ℕ) (i : ℕ) → p ≡ placeOf (i + 1) → textIn s t ≡ textAfter s i n
+  pub text : (s : List ℕ) (i : ℕ) → p ≡ placeOf (i + 1) → textIn s t ≡ textOf s n i
   pub most : t .left ≤ n
 
 -- how many bytes of payload a block has from an address on, as far as the check at its byte 508

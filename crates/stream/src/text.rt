@@ -3,7 +3,8 @@ ghost use mathlib.Core.Path.{_≡_};
 ghost use mathlib.Core.List.{_++_};
 ghost use Prim.Native.Nat.{min, _≤_, _<_, _^_};
 ghost use lib.ListN.{length, drop};
-ghost use Rattle.stream.specs.Text.{textIn, textAfter, Begins, BeginsAt, room, partOf, Rest, Copied};
+ghost use Rattle.rules.specs.Records.{textOf};
+ghost use Rattle.stream.specs.Text.{textIn, Begins, BeginsAt, room, partOf, Rest, Copied};
 use crate::copy::copy_into;
 use crate::record::Place;
 use crate::record::place_of;
@@ -16,7 +17,7 @@ pub struct Text {
 
 // The text of n bytes after the head at record i. A head past the end of the stream has none.
 pub fn text_after(s: &[u8], i: usize, n: usize) -> Text
-    ensures { λ t. ⌜ Begins (now (s .entry)) (textAfter (now (s .entry)) i n) n t ⌝ }
+    ensures { λ t. ⌜ Begins (now (s .entry)) (textOf (now (s .entry)) n i) n t ⌝ }
 {
     if s.len() / 8 <= i {
         return Text { at: 0, left: 0 };

@@ -8,7 +8,7 @@ use native.Mathlib.Omega.{arith}
 use lib.ListN.{length, length-append}
 use lib.Dec.{leb, ltb}
 use borrow.Author.Tests.{leb-true, leb-false, ltb-true, ltb-false}
-use Rattle.rules.specs.Walk.{Input, State, start, Limit, fuel-spent, too-deep, output-full, End, done, ended, stuck, andThen, write, counted, reached, walk}
+use Rattle.rules.specs.Walk.{Input, State, start, Limit, fuel-spent, too-deep, output-full, End, done, ended, stuck, andThen, write, counted, Asked, reached, walk}
 use Rattle.theorems.specs.Begins.{written}
 use Rattle.theorems.specs.Visits.{LevelsOf, WritesOf, InStep, walk-both}
 
@@ -61,11 +61,11 @@ pub record Within (i : Input) (s : State) : Type 0 where
 -- that a limit strikes, at a node and with the steps and the text so far
 pub data Struck (i : Input) (p : ℕ) (s : State) : Limit → Type 0 where
   -- 10: "A node is reached with all fuel (32 bits) used; it isn't counted as a step."
-  all-used : (d : ℕ) (env : List ℕ) → LevelsOf i d p env → d ≤ 201 → s .steps ≡ i .fuel → Struck i p s fuel-spent
+  all-used : (d : ℕ) (a : Asked) (env : List ℕ) → LevelsOf i d a p env → d ≤ 201 → s .steps ≡ i .fuel → Struck i p s fuel-spent
   -- 11: "A node is reached at depth 201"
-  at-201 : (env : List ℕ) → LevelsOf i 201 p env → Struck i p s too-deep
-  -- 12: "A keyword or lexeme passes the end of the output."
-  passes : (d : ℕ) (env x : List ℕ) → LevelsOf i d p env → d ≤ 200 → WritesOf i p env x → i .room < length (s .text) + length x → Struck i p s output-full
+  at-201 : (a : Asked) (env : List ℕ) → LevelsOf i 201 a p env → Struck i p s too-deep
+  -- 12: "A keyword or lexeme passes the end of the output."; a separator is a piece of its sequence: "that is 12 with the sequence's place"
+  passes : (d : ℕ) (a : Asked) (env x : List ℕ) → LevelsOf i d a p env → d ≤ 200 → WritesOf i a p env x → i .room < length (s .text) + length x → Struck i p s output-full
 
 -- how a walk ends: within its limits, and by none that it did not meet
 abbrev Bounded : Input → End → Type 0
@@ -77,15 +77,15 @@ bounded-kept i = record {
   nothing = λ s w. at-done s w;
   no-way = λ s w. at-stuck;
   one-then = λ next next′ h k w. then-leaves next (h w) k;
-  writing = λ {d} {p} {env} x at shallow piece s w.
+  writing = λ {d} {p} {a} {env} x at shallow piece s w.
       write-leaves (i .room) p x s
       (λ fits. record { few-steps = w .few-steps; few-bytes = rw length-append fits })
-      (λ past. (w, passes d env x at shallow piece past));
-  reaching = λ {d} {p} {env} next next′ at shallow k s w.
+      (λ past. (w, passes d a env x at shallow piece past));
+  reaching = λ {d} {p} {a} {env} next next′ at shallow k s w.
       reached-leaves (i .fuel) p next s
       (λ left. k _ (record { few-steps = left; few-bytes = w .few-bytes }))
-      (λ used. (w, all-used d env at shallow (let few = w .few-steps in omega arith)));
-  deep = λ {p} {env} at s w. at-limit too-deep p s (w, at-201 env at);
+      (λ used. (w, all-used d a env at shallow (let few = w .few-steps in omega arith)));
+  deep = λ {p} {a} {env} at s w. at-limit too-deep p s (w, at-201 a env at);
 }
 
 walk-bounded : (i : Input) → Bounded i (walk i)
@@ -106,6 +106,6 @@ steps-fit i s h = left-within (walk-bounded i) h .few-steps
 left-struck : {i : Input} {l : Limit} {p : ℕ} {s : State} → Bounded i (ended l p s) → Struck i p s l
 left-struck (at-limit l p s h) = h .1
 
--- A limit ends a walk only where it is met. (Where the walk then is, with which text and steps: `limits-find` of `Comes`.)
+-- A limit ends a walk only where it is met. (Where the walk then is, with which text and steps: `limits-find` of `LimitsFind`.)
 pub limits-bind : (i : Input) (l : Limit) (p : ℕ) (s : State) → walk i ≡ ended l p s → Struck i p s l
 limits-bind i l p s e = left-struck (subst (Bounded i) e (walk-bounded i))

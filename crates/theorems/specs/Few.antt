@@ -18,7 +18,7 @@ use Rattle.laws.specs.Faults.{In, here, later, nth-in, Below, itself, under}
 use Rattle.laws.specs.Lists.{length-map}
 use Rattle.laws.specs.Rows.{length-heads}
 use Rattle.theorems.specs.LimitsExactly.{TemplateWithin, limits-exactly}
-use Rattle.theorems.specs.Children.{OneEach, nothing-left, no-child-for, one-child-for, ChildFor, this-child, past-keyword, past-child}
+use Rattle.theorems.specs.Children.{Asks, OneEach, nothing-left, no-child-for, one-child-for, ChildFor, this-child, past-keyword, past-child}
 use Rattle.theorems.specs.Judgement.{Arguments, no-argument, an-argument}
 use Rattle.theorems.specs.OwnRule.{Fits, a-build, a-literal, a-place, an-expand, an-if, a-for, a-sequence, ChildNode, build-child, first-branch, second-branch, loop-body, sequence-item, Stands, the-body, below}
 use Rattle.theorems.specs.HeadByHead.{in-cons}
@@ -30,15 +30,15 @@ use Rattle.theorems.specs.Least.{in-none}
 abbrev ChildSomehow : List ℕ → List ℕ → List ℕ → ℕ → Position → ℕ → Type 0
 ChildSomehow g t vars p at c = (vars′ : List ℕ) × (at′ : Position) × ChildNode g t vars p at vars′ c at′
 
-each-child : {es : List Element} {cs : List ℕ} {c : ℕ} → OneEach es cs → In c cs → (at : Position) × ChildFor es cs at c
+each-child : {es : List Element} {cs : List ℕ} {c : ℕ} → OneEach es cs → In c cs → (e : Element) × (at : Position) × ChildFor es cs e c × Asks e at
 each-child nothing-left i = elim i [ ]
-each-child (no-child-for x es cs o) i = let (at, k) = each-child o i in (at, past-keyword x at _ es cs k)
-each-child (one-child-for e at c es cs a o) (here ds) = (at, this-child e at c es cs a)
-each-child (one-child-for e at c es cs a o) (later d ds i) = let (at′, k) = each-child o i in (at′, past-child e at′ at _ c es cs a k)
+each-child (no-child-for x es cs o) i = let (e, at, k, a) = each-child o i in (e, at, past-keyword x e _ es cs k, a)
+each-child (one-child-for e at c es cs a o) (here ds) = (e, at, this-child e at c es cs a, a)
+each-child (one-child-for e at c es cs a o) (later d ds i) = let (e′, at′, k, b) = each-child o i in (e′, at′, past-child e′ e at _ c es cs a k, b)
 
 fits-below : {g t vars : List ℕ} {p c : ℕ} {at : Position} → Fits g t vars p at → In c (nodesBelow t p) → ChildSomehow g t vars p at c
 unfolding nodesBelow nodesOf
-fits-below {vars = vars} (a-build at q f e a o) i = let (at′, k) = each-child o (rw f at i) in (vars, at′, build-child at at′ q _ f e k)
+fits-below {vars = vars} (a-build at q f e a o) i = let (el, at′, k, b) = each-child o (rw f at i) in (vars, at′, build-child at at′ el q _ f e k b)
 fits-below (a-literal c f l) i = absurd (in-none (rw f at i))
 fits-below (a-place c ty f h e) i = absurd (in-none (rw f at i))
 fits-below (an-expand at q f e a as′) i = absurd (in-none (rw f at i))

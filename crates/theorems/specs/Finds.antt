@@ -8,7 +8,7 @@ use mathlib.Core.Option.{some, Option·some-injective}
 use lib.Dec.{eqb}
 use borrow.Author.Tests.{eqb-false, ne-eqb}
 use Rattle.rules.specs.Faults.{onFound, onlyIf}
-use Rattle.rules.specs.Records.{kindOf, fieldA, textOf, nth}
+use Rattle.rules.specs.Records.{kindOf, fieldA, fieldB, textOf, nth}
 use Rattle.rules.specs.Templates.{variable, fieldNumbers}
 use Rattle.rules.specs.Value.{children, asText, asYesNo, asList, asRecord}
 use Rattle.rules.specs.Walk.{valueAlong, pathValue, pathValues}
@@ -45,9 +45,9 @@ eqb-fails : (a b : ℕ) → (eqb a b ≡ false) ↔ (a ≡ b → ⊥)
 eqb-fails a b = (eqb-false a b, ne-eqb a b)
 
 module _ (v : List ℕ) (w : ℕ) where
-  pub text-is : (x : List ℕ) → (asText v w ≡ some x) ↔ ((kindOf v w ≡ 1) × (textOf v w ≡ x))
+  pub text-is : (x : List ℕ) → (asText v w ≡ some x) ↔ ((kindOf v w ≡ 1) × (textOf v (fieldB v w) w ≡ x))
   unfolding asText
-  text-is x = kind-exactly v w 1 (textOf v w) x
+  text-is x = kind-exactly v w 1 (textOf v (fieldB v w) w) x
 
   pub yes-is : (asYesNo v w ≡ some true) ↔ ((kindOf v w ≡ 2) × (fieldA v w ≡ 1))
   unfolding asYesNo

@@ -14,7 +14,6 @@ use Rattle.rules.specs.Value.{valueSize, children, valuesBelow}
 use Rattle.theorems.specs.Streams.{WellSized}
 use Rattle.theorems.specs.Readings.{ElementIs, element-is}
 use Rattle.theorems.specs.LaidOut.{InRow, no-thing, one-thing, Numbered, no-more, one-more, RangeAt, ClassAt, ElementAt, ProductionAt, GrammarLaid, NamingAt, TypeAt, PathAt, NodeAt, NodesAt, no-node, one-node, TemplateAt, TemplatesLaid, ValueAt}
-use Rattle.theorems.specs.LaidOut.ElementAt.{a-keyword, a-name}
 use Rattle.theorems.specs.Heads.{each-numbered, range-size, class-size, element-size, production-size, naming-size, type-size, template-size, path-size, node-size, value-size, classes-are, productions-are, types-are, templates-are}
 use Rattle.theorems.specs.Ranges.{AnyClass, AnyProduction, nodes-row, values-row}
 
@@ -71,11 +70,7 @@ numbered-nth number size f h (one-more m c p q r a as′) (suc n) x e =
 
 elements-of : {g : List ℕ} {ps : List ℕ} {p r : ℕ} → HeadsOf (ElementAt g) ps p r → Elements g ps (map (elementAt g) ps)
 elements-of (no-head p) = no-element
-elements-of {g} (one-head p q r ps a as′) = one-element p ps _ _ (element-is g p (few a)) (elements-of as′)
-  where
-    few : {p q : ℕ} → ElementAt g p q → fieldA g p ≤ 3
-    few (a-keyword p h e z) = omega arith
-    few (a-name p h l m) = m
+elements-of {g} (one-head p q r ps a as′) = one-element p ps _ _ (element-is g p) (elements-of as′)
 
 pub grammar-follows : (g : List ℕ) → WellSized g → (h : GrammarLaid g) → GrammarFollows g h
 unfolding class production ranges elementHeads elements

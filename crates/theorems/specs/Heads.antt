@@ -7,13 +7,13 @@ use native.Mathlib.Omega.{arith}
 use lib.ListN.{List·getD-eq-default}
 use lib.Dec.{eqb, ltb}
 use borrow.Author.Tests.{eqb-true, eqb-false, eq-eqb, ne-eqb, ltb-true, ltb-false}
-use Rattle.rules.specs.Records.{base, recordCount, byteOf, kindOf, fieldA, fieldC, fieldD, heads, after, things, ofKind}
-use Rattle.rules.specs.Grammar.{elementSize, productionSize, grammarSize, grammarThings, classes, productions}
+use Rattle.rules.specs.Records.{base, recordCount, byteOf, kindOf, fieldA, fieldB, fieldC, fieldD, units, heads, after, things, ofKind}
+use Rattle.rules.specs.Grammar.{textLength, elementSize, productionSize, grammarSize, grammarThings, classes, productions}
 use Rattle.rules.specs.Templates.{templatesSize, templatesThings, types, templates}
 use Rattle.rules.specs.Value.{valueSize}
 use Rattle.theorems.specs.Streams.{WellSized}
 use Rattle.theorems.specs.LaidOut.{InRow, no-thing, one-thing, Numbered, no-more, one-more, Tail, RangeAt, ClassAt, ElementAt, ProductionAt, GrammarLaid, NamingAt, TypeAt, PathAt, NodeAt, NodesAt, TemplateAt, TemplatesLaid, ValueAt, ValuesAt}
-use Rattle.theorems.specs.LaidOut.ElementAt.{a-keyword, a-name}
+use Rattle.theorems.specs.LaidOut.ElementAt.{a-keyword, a-name, a-separated}
 
 -- Two ways to go on, by a comparison
 
@@ -71,14 +71,30 @@ class-size {g} {n} {p} {q} h =
     let e = row-of-ones (λ p q. range-size) (h .ranges) in
     rw (eq-eqb _ 1 (h .kind)) (omega arith)
 
+-- the bytes of text after an element, by its form
+module _ (g : List ℕ) (p : ℕ) where
+  pub keyword-text : fieldA g p ≡ 0 → textLength g p ≡ fieldB g p
+  unfolding textLength
+  keyword-text a = rw (eq-eqb _ 0 a)
+
+  pub name-text : 1 ≤ fieldA g p → fieldA g p ≤ 3 → textLength g p ≡ 0
+  unfolding textLength
+  name-text l m = rw (ne-eqb (fieldA g p) 0 (λ e. omega arith), ne-eqb (fieldA g p) 4 (λ e. omega arith))
+
+  pub separator-text : fieldA g p ≡ 4 → textLength g p ≡ fieldC g p
+  unfolding textLength
+  separator-text a = rw (ne-eqb (fieldA g p) 0 (λ e. omega arith), eq-eqb _ 4 a)
+
 pub element-size : {g : List ℕ} {p q : ℕ} → ElementAt g p q → q ≡ p + elementSize g p
-unfolding elementSize
-element-size (a-keyword p h e z) = rw (eq-eqb _ 0 e) (omega arith)
-element-size {g} (a-name p h l m) = rw (ne-eqb (fieldA g p) 0 (λ e. omega arith)) (omega arith)
+unfolding elementSize units
+element-size {g} (a-keyword p h a c z) = rw (keyword-text g p a) (omega arith)
+element-size {g} (a-name p h l m c) = rw (name-text g p l m) (omega arith)
+element-size {g} (a-separated p h a z) = rw (separator-text g p a) (omega arith)
 
 pub element-grows : {g : List ℕ} {p q : ℕ} → ElementAt g p q → p < q
-element-grows (a-keyword p h e z) = omega arith
-element-grows (a-name p h l m) = omega arith
+element-grows (a-keyword p h a c z) = omega arith
+element-grows (a-name p h l m c) = omega arith
+element-grows (a-separated p h a z) = omega arith
 
 pub production-size : {g : List ℕ} {n p q : ℕ} → ProductionAt g n p q → q ≡ p + grammarSize g p
 unfolding grammarSize productionSize

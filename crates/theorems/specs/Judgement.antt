@@ -35,7 +35,7 @@ mutual
     by-build : (vars : List ℕ) (p n q : ℕ) → formOf t p ≡ Build → production g (fieldB t p) ≡ some q → fieldB g q ≡ n
         → Fills g t vars (elements g q) (nodes t p) → Suits g t vars p (Nonterminal n)
     -- a morphem class's: "a literal that is a lexeme"
-    by-literal : (vars : List ℕ) (p c : ℕ) → formOf t p ≡ Literal → Lexeme g c (textOf t p) → Suits g t vars p (Class c)
+    by-literal : (vars : List ℕ) (p c : ℕ) → formOf t p ≡ Literal → Lexeme g c (textOf t (fieldB t p) p) → Suits g t vars p (Class c)
     -- [expr]: "a place whose path has type text of that very class"
     by-place : (vars : List ℕ) (p c ty : ℕ) → formOf t p ≡ Place → PathTyped t vars (path p) ty → typeOf t ty ≡ text c → Suits g t vars p (Class c)
     -- [expand]: "an expand of a template with that nonterminal and argument types equal by number"
@@ -72,7 +72,7 @@ mutual
   -- "A value is of type text if it is a 1 whose text is a lexeme of the class; of yes/no if a 2; of a list if a 3 whose children are all of its item type;
   -- of a record if a 4 with one child for each field, in order, of that field's type."
   pub data OfType (g t v : List ℕ) : ℕ → ℕ → Type 0 where
-    of-text : (ty w c : ℕ) → typeOf t ty ≡ text c → kindOf v w ≡ 1 → Lexeme g c (textOf v w) → OfType g t v ty w
+    of-text : (ty w c : ℕ) → typeOf t ty ≡ text c → kindOf v w ≡ 1 → Lexeme g c (textOf v (fieldB v w) w) → OfType g t v ty w
     of-yes-no : (ty w : ℕ) → typeOf t ty ≡ yes-no → kindOf v w ≡ 2 → OfType g t v ty w
     of-list : (ty w item : ℕ) → typeOf t ty ≡ list item → kindOf v w ≡ 3 → AllOf g t v item (children v w) → OfType g t v ty w
     of-record : (ty w : ℕ) (tys : List ℕ) → typeOf t ty ≡ fields tys → kindOf v w ≡ 4 → EachOf g t v tys (children v w) → OfType g t v ty w

@@ -15,9 +15,9 @@ pub data Numbered (Thing : ℕ → ℕ → ℕ → Type 0) : ℕ → ℕ → ℕ
   no-more : (n p : ℕ) → Numbered Thing n 0 p p
   one-more : (n m p q r : ℕ) → Thing n p q → Numbered Thing (suc n) m q r → Numbered Thing n (suc m) p r
 
--- "the last zero-padded": every byte of the text's units past the text
-abbrev pub Padded : List ℕ → ℕ → Type 0
-Padded s p = (i : ℕ) → getD (paddingOf s p) i 0 ≡ 0
+-- "the last zero-padded": every byte past the text of n bytes in its units
+abbrev pub Padded : List ℕ → ℕ → ℕ → Type 0
+Padded s n p = (i : ℕ) → getD (paddingOf s n p) i 0 ≡ 0
 
 -- "After the last thing come zero records only, fewer than 63."
 pub record Tail (s : List ℕ) (p : ℕ) : Type 0 where
@@ -39,12 +39,14 @@ pub record ClassAt (g : List ℕ) (n p q : ℕ) : Type 0 where
 
 pub record ElementHead (g : List ℕ) (p : ℕ) : Type 0 where
   pub kind : kindOf g p ≡ 4
-  pub unused-c : fieldC g p ≡ 0
   pub unused-d : fieldD g p ≡ 0
 
+-- "0 keyword (b bytes of text follow), 1 class b, 2 nonterminal b, 3 repetition of nonterminal b"; 02 a: "4 is a repetition of nonterminal b with
+-- c bytes of separator text after the record". The others have no text.
 pub data ElementAt (g : List ℕ) : ℕ → ℕ → Type 0 where
-  a-keyword : (p : ℕ) → ElementHead g p → fieldA g p ≡ 0 → Padded g p → ElementAt g p (p + 1 + units (fieldB g p))
-  a-name : (p : ℕ) → ElementHead g p → 1 ≤ fieldA g p → fieldA g p ≤ 3 → ElementAt g p (p + 1)
+  a-keyword : (p : ℕ) → ElementHead g p → fieldA g p ≡ 0 → fieldC g p ≡ 0 → Padded g (fieldB g p) p → ElementAt g p (p + 1 + units (fieldB g p))
+  a-name : (p : ℕ) → ElementHead g p → 1 ≤ fieldA g p → fieldA g p ≤ 3 → fieldC g p ≡ 0 → ElementAt g p (p + 1)
+  a-separated : (p : ℕ) → ElementHead g p → fieldA g p ≡ 4 → Padded g (fieldC g p) p → ElementAt g p (p + 1 + units (fieldC g p))
 
 pub record ProductionAt (g : List ℕ) (n p q : ℕ) : Type 0 where
   pub kind : kindOf g p ≡ 3
@@ -91,7 +93,7 @@ pub record NodeHead (t : List ℕ) (form p q : ℕ) : Type 0 where
 mutual
   pub data NodeAt (t : List ℕ) : ℕ → ℕ → Type 0 where
     a-build : (p q : ℕ) → NodeHead t 0 p q → NodesAt t (fieldD t p) (p + 1) q → NodeAt t p q
-    a-literal : (p q : ℕ) → NodeHead t 1 p q → fieldD t p ≡ 0 → Padded t p → q ≡ p + 1 + units (fieldB t p) → NodeAt t p q
+    a-literal : (p q : ℕ) → NodeHead t 1 p q → fieldD t p ≡ 0 → Padded t (fieldB t p) p → q ≡ p + 1 + units (fieldB t p) → NodeAt t p q
     a-place : (p q : ℕ) → NodeHead t 2 p q → fieldB t p ≡ 0 → fieldD t p ≡ 0 → PathAt t (p + 1) q → NodeAt t p q
     an-expand : (p q : ℕ) → NodeHead t 3 p q → InRow (PathAt t) (fieldD t p) (p + 1) q → NodeAt t p q
     an-if : (p q r : ℕ) → NodeHead t 4 p q → fieldB t p ≡ 0 → fieldD t p ≡ 0 → PathAt t (p + 1) r → NodesAt t 2 r q → NodeAt t p q
@@ -122,7 +124,8 @@ pub record TemplatesLaid (t : List ℕ) : Type 0 where
 -- Value
 mutual
   pub data ValueAt (v : List ℕ) : ℕ → ℕ → Type 0 where
-    a-text : (p q : ℕ) → kindOf v p ≡ 1 → fieldA v p ≡ 0 → fieldD v p ≡ 0 → p + fieldC v p ≡ q → Padded v p → q ≡ p + 1 + units (fieldB v p) → ValueAt v p q
+    a-text : (p q : ℕ) → kindOf v p ≡ 1 → fieldA v p ≡ 0 → fieldD v p ≡ 0 → p + fieldC v p ≡ q → Padded v (fieldB v p) p
+        → q ≡ p + 1 + units (fieldB v p) → ValueAt v p q
     a-yes-no : (p q : ℕ) → kindOf v p ≡ 2 → fieldA v p ≤ 1 → fieldB v p ≡ 0 → fieldC v p ≡ 0 → fieldD v p ≡ 0 → q ≡ p + 1 → ValueAt v p q
     a-list : (p q : ℕ) → kindOf v p ≡ 3 → fieldA v p ≡ 0 → fieldB v p ≡ 0 → p + fieldC v p ≡ q → ValuesAt v (fieldD v p) (p + 1) q → ValueAt v p q
     a-record : (p q : ℕ) → kindOf v p ≡ 4 → fieldA v p ≡ 0 → fieldB v p ≡ 0 → p + fieldC v p ≡ q → ValuesAt v (fieldD v p) (p + 1) q → ValueAt v p q

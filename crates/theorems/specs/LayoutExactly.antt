@@ -4,22 +4,24 @@ use mathlib.Core.Path.{_≡_, refl, sym, _∙_, ap, subst}
 use mathlib.Core.Logic.{_↔_, Iff·rfl}
 use Prim.Native.Nat.{ℕ, zero, suc, _+_, _-_, _≤_, _<_}
 use mathlib.Core.List.{List, [], _∷_, _++_, append-nil}
-use mathlib.Core.Bool.{Bool, true, false, cond, false≢true}
+use mathlib.Core.Bool.{Bool, true, false, _||_, false≢true}
 use mathlib.Core.Option.{Option, none, some, Option·none-ne-some, Option·some-injective}
 use native.Mathlib.Omega.{arith}
+use native.Mathlib.Nat.{add-zero}
 use lib.ListN.{getD, take, drop, length-take, List·getD-eq-default}
 use lib.Seq.{getD-take, getD-drop}
 use lib.Dec.{eqb}
 use borrow.Author.Tests.{eqb-true, eqb-false, eq-eqb, ne-eqb}
 use Rattle.rules.specs.Faults.{onFound, onlyIf}
 use Rattle.rules.specs.Records.{base, recordCount, byteOf, kindOf, fieldA, fieldB, fieldC, fieldD, recordsFrom, paddingOf, units, zeros}
+use Rattle.rules.specs.Grammar.{textLength}
 use Rattle.rules.specs.Templates.{formNumbered, formOf}
 use Rattle.rules.specs.Layout.{thenRead, inRow, whileKind, textEnd, rangeEnd, classEnd, elementEnd, productionEnd, grammarEnd, namingEnd, typeFormEnd, typeEnd, pathEnd, formEnd, sized, nodeEnd, templateEnd, templatesEnd, childrenEnd, kindEnd, valueEnd, tailRight, layoutFault, grammarLayout, templatesLayout, valueLayout}
 use Rattle.laws.specs.Faults.{need-iff, onFound-true, only-if-iff, and-iff, eqb-iff, leb-iff}
 use Rattle.theorems.specs.Streams.{WellSized}
 use Rattle.theorems.specs.LaidOut.{InRow, no-thing, one-thing, Numbered, no-more, one-more, Padded, Tail, RangeAt, ClassAt, ElementHead, ElementAt, ProductionAt, GrammarLaid, NamingAt, TypeAt, PathAt, NodeHead, NodeAt, NodesAt, TemplateAt, TemplatesLaid, ValueAt, ValuesAt, ValueLaid}
-use Rattle.theorems.specs.LaidOut.ElementAt.{a-keyword, a-name}
-use Rattle.theorems.specs.Heads.{by-equal, by-less, Spans, each-numbered, row-of-ones, row-grows, naming-size, node-grows, nodes-grow, value-grows, values-grow, kind-after, class-spans, production-spans, type-spans, template-spans}
+use Rattle.theorems.specs.LaidOut.ElementAt.{a-keyword, a-name, a-separated}
+use Rattle.theorems.specs.Heads.{by-equal, by-less, Spans, each-numbered, row-of-ones, row-grows, keyword-text, name-text, separator-text, naming-size, node-grows, nodes-grow, value-grows, values-grow, kind-after, class-spans, production-spans, type-spans, template-spans}
 
 -- What a reader says when it finds an end
 
@@ -32,10 +34,6 @@ only-if-then : (b : Bool) (p : ℕ) (next : ℕ → Option ℕ) (q : ℕ) → (t
 unfolding onlyIf thenRead onFound
 only-if-then true p next q = (λ e. (refl, e), λ h. h .1)
 only-if-then false p next q = (λ e. absurd (Option·none-ne-some q e), λ h. absurd (false≢true (h .0)))
-
-by-cond : {A P : Type 0} (b : Bool) (x y z : A) → cond b x y ≡ z → (b ≡ true → x ≡ z → P) → (b ≡ false → y ≡ z → P) → P
-by-cond true x y z e f g = f refl e
-by-cond false x y z e f g = g refl e
 
 -- Rows: `one` reads one thing
 
@@ -181,31 +179,51 @@ class-exactly g n p q = (
   λ r. (r .kind, simp (only-if-then, eqb-iff, ranges-exactly) (r .number, r .ranges)),
 )
 
--- a text's end
-text-exactly : (s : List ℕ) (p q : ℕ) → (textEnd s p ≡ some q) ↔ (Padded s p × (p + 1 + units (fieldB s p) ≡ q))
+-- the end of a text of n bytes; that of none is where it begins
+text-exactly : (s : List ℕ) (n p q : ℕ) → (textEnd s n p ≡ some q) ↔ (Padded s n p × (p + 1 + units n ≡ q))
 unfolding textEnd
-text-exactly s p q = (
-  λ e. let h = only-if-iff (zeros (paddingOf s p)) _ q .0 e in (zeros-at _ (h .0), h .1),
+text-exactly s n p q = (
+  λ e. let h = only-if-iff (zeros (paddingOf s n p)) _ q .0 e in (zeros-at _ (h .0), h .1),
   λ h. only-if-iff _ _ q .1 (at-zeros _ (h .0), h .1),
 )
 
+no-text-end : (s : List ℕ) (p : ℕ) → textEnd s 0 p ≡ some (p + 1)
+unfolding paddingOf recordsFrom units
+no-text-end s p = text-exactly s 0 p (p + 1) .1 (λ i. refl, omega arith)
+
+-- a field that only one form uses
+unless-iff : (a b c d : ℕ) → ((eqb a b || eqb c d) ≡ true) ↔ ((a ≡ b → ⊥) → c ≡ d)
+unless-iff a b c d = go (eqb a b) refl
+  where
+    go : (t : Bool) → eqb a b ≡ t → ((t || eqb c d) ≡ true) ↔ ((a ≡ b → ⊥) → c ≡ d)
+    go true e = (λ h n. absurd (n (eqb-true a b e)), λ h. refl)
+    go false e = (λ h n. eqb-true c d h, λ h. eq-eqb c d (h (eqb-false a b e)))
+
+-- a thing that ends with its text of n bytes
+with-text : (Thing : ℕ → Type 0) (s : List ℕ) (p q : ℕ) {m n : ℕ} → textEnd s m p ≡ some q → m ≡ n → (Padded s n p → Thing (p + 1 + units n)) → Thing q
+with-text Thing s p q {n = n} e i f = let r = text-exactly s n p q .0 (rw i at e) in subst Thing (r .1) (f (r .0))
+
 element-from : (g : List ℕ) (p q : ℕ) → elementEnd g p ≡ some q → ElementAt g p q
-unfolding elementEnd
+unfolding elementEnd units
 element-from g p q e =
-    let h = simp (only-if-then, and-iff, eqb-iff, leb-iff) at e in
-    let head : ElementHead g p = record { kind = h .0 .0; unused-c = h .0 .1 .1 .0; unused-d = h .0 .1 .1 .1 } in
-    by-cond (eqb (fieldA g p) 0) (textEnd g p) (some (p + 1)) (some q) (h .1)
-    (λ a e. let r = text-exactly g p q .0 e in subst (λ x. ElementAt g p x) (r .1) (a-keyword p head (eqb-true _ _ a) (r .0)))
-    (λ a e. subst (λ x. ElementAt g p x) (Option·some-injective _ _ e) (a-name p head (let z = eqb-false (fieldA g p) 0 a in omega arith) (h .0 .1 .0)))
+    let h = simp (only-if-then, and-iff, unless-iff, eqb-iff, leb-iff) at e in
+    let head : ElementHead g p = record { kind = h .0 .0; unused-d = h .0 .1 .1 .1 } in
+    by-equal (fieldA g p) 4 (λ a. with-text (ElementAt g p) g p q (h .1) (separator-text g p a) (a-separated p head a))
+    λ n. let c = h .0 .1 .1 .0 n in
+    by-equal (fieldA g p) 0 (λ a. with-text (ElementAt g p) g p q (h .1) (keyword-text g p a) (a-keyword p head a c))
+    λ m. let l : 1 ≤ fieldA g p = omega arith in
+    let k : fieldA g p ≤ 3 = let z = h .0 .1 .0 in omega arith in
+    with-text (ElementAt g p) g p q (h .1) (name-text g p l k) (λ z. rw add-zero (a-name p head l k c))
+
+element-read : {g : List ℕ} {p q n : ℕ} → ElementHead g p → fieldA g p ≤ 4 → ((fieldA g p ≡ 4 → ⊥) → fieldC g p ≡ 0)
+    → textLength g p ≡ n → textEnd g n p ≡ some q → elementEnd g p ≡ some q
+unfolding elementEnd
+element-read h l u e r = simp (only-if-then, and-iff, unless-iff, eqb-iff, leb-iff) ((h .kind, (l, (u, h .unused-d))), rw e r)
 
 element-to : {g : List ℕ} {p q : ℕ} → ElementAt g p q → elementEnd g p ≡ some q
-unfolding elementEnd
-element-to {g} (a-keyword p h a z) =
-    simp (only-if-then, and-iff, eqb-iff, leb-iff)
-    ((h .kind, (omega arith, (h .unused-c, h .unused-d))), rw (eq-eqb _ 0 a) (text-exactly g p _ .1 (z, refl)))
-element-to {g} (a-name p h l m) =
-    simp (only-if-then, and-iff, eqb-iff, leb-iff)
-    ((h .kind, (m, (h .unused-c, h .unused-d))), rw (ne-eqb (fieldA g p) 0 (λ z. omega arith)))
+element-to {g} (a-keyword p h a c z) = element-read h (omega arith) (λ n. c) (keyword-text g p a) (text-exactly g _ p _ .1 (z, refl))
+element-to {g} (a-name p h l m c) = element-read h (omega arith) (λ n. c) (name-text g p l m) (no-text-end g p)
+element-to {g} (a-separated p h a z) = element-read h (omega arith) (λ n. absurd (n a)) (separator-text g p a) (text-exactly g _ p _ .1 (z, refl))
 
 element-exactly : (g : List ℕ) (p q : ℕ) → (elementEnd g p ≡ some q) ↔ ElementAt g p q
 element-exactly g p q = (element-from g p q, element-to)

@@ -10,7 +10,7 @@ use lib.Dec.{eqb}
 use Rattle.rules.specs.Faults.{every}
 use Rattle.rules.specs.Records.{fieldA, fieldB, fieldC, nth, numbered}
 use Rattle.rules.specs.Lexeme.{lowest, highest, ranges}
-use Rattle.rules.specs.Grammar.{class, classes, production, productions, Element, keyword, lexeme, nonterminal, repetition, elementAt, elementHeads, hasProduction, nonterminalExists}
+use Rattle.rules.specs.Grammar.{class, classes, production, productions, Element, keyword, lexeme, nonterminal, repetition, unknown, elementAt, elementHeads, hasProduction, nonterminalExists}
 use Rattle.rules.specs.Templates.{TypeForm, text, yes-no, list, fields, no-type, type, types, typeAt, fieldHeads, template, templates, parameterHeads, body, formOf, nodesBelow}
 use Rattle.rules.specs.Value.{valuesBelow}
 use Rattle.rules.specs.Limits.{deepest, Looped, looped, loopsBelow, loopedBelow, fewLoops, templateLimits, templatesLimits, valueLimits}
@@ -111,7 +111,8 @@ abbrev pub ElementNames : List ℕ → Element → Type 0
 ElementNames g (keyword x) = Unit {0}
 ElementNames g (lexeme c) = Exists (class g c)
 ElementNames g (nonterminal n) = HasProduction g n
-ElementNames g (repetition n) = HasProduction g n
+ElementNames g (repetition n x) = HasProduction g n
+ElementNames g unknown = Unit {0}
 
 abbrev pub TypeNames : List ℕ → List ℕ → TypeForm → Type 0
 TypeNames g t (text c) = Exists (class g c)
@@ -145,7 +146,8 @@ unfolding elementNamed
 element-names g (keyword x) = (λ e. tt, λ h. refl)
 element-names g (lexeme c) = exists-iff (class g c)
 element-names g (nonterminal n) = nonterminal-iff g n
-element-names g (repetition n) = nonterminal-iff g n
+element-names g (repetition n x) = nonterminal-iff g n
+element-names g unknown = (λ e. tt, λ h. refl)
 
 pub type-names : (g t : List ℕ) (x : TypeForm) → (typeNamed g t x ≡ true) ↔ TypeNames g t x
 unfolding typeNamed

@@ -11,7 +11,7 @@ use Rattle.rules.specs.Records.{nth}
 use Rattle.rules.specs.Templates.{TypeForm, text, yes-no, list, fields, no-type, typeOf, variable, fieldNumbers}
 use Rattle.rules.specs.Typing.{asksClass, asksNonterminal, asksRepetition, asksItem, textClass, isYesNo, itemType, fieldTypes, typeAlong, pathType, argumentsFit}
 use Rattle.rules.specs.declared.Position.{Position}
-use Rattle.rules.specs.declared.Position.the-variants.{Class, Nonterminal, Repetition, Item}
+use Rattle.rules.specs.declared.Position.the-variants.{Class, Nonterminal, Repetition, Item, Nothing}
 use Rattle.laws.specs.Faults.{onFound-true, onFound-some, and-iff, eqb-iff}
 use Rattle.theorems.specs.Judgement.{Along, arrived, a-field, PathTyped, Arguments, no-argument, an-argument}
 use Rattle.theorems.specs.OwnRule.{AsksText, in-its-position, in-a-sequence}
@@ -94,6 +94,7 @@ asked-text (Class c) n e = absurd (Option·none-ne-some n e)
 asked-text (Nonterminal m) n e = rw (Option·some-injective m n e) (in-its-position n)
 asked-text (Repetition m) n e = absurd (Option·none-ne-some n e)
 asked-text (Item m) n e = rw (Option·some-injective m n e) (in-a-sequence n)
+asked-text Nothing n e = absurd (Option·none-ne-some n e)
 
 -- the very nonterminal
 pub asked-same : (at : Position) (m n : ℕ) → asksNonterminal at ≡ some n → eqb m n ≡ true → AsksText at m
@@ -110,6 +111,7 @@ asked-class (Class d) c e = ap Class (Option·some-injective d c e)
 asked-class (Nonterminal n) c e = absurd (Option·none-ne-some c e)
 asked-class (Repetition n) c e = absurd (Option·none-ne-some c e)
 asked-class (Item n) c e = absurd (Option·none-ne-some c e)
+asked-class Nothing c e = absurd (Option·none-ne-some c e)
 
 pub asked-repetition : (at : Position) (n : ℕ) → asksRepetition at ≡ some n → at ≡ Repetition n
 unfolding asksRepetition
@@ -117,6 +119,7 @@ asked-repetition (Class d) n e = absurd (Option·none-ne-some n e)
 asked-repetition (Nonterminal m) n e = absurd (Option·none-ne-some n e)
 asked-repetition (Repetition m) n e = ap Repetition (Option·some-injective m n e)
 asked-repetition (Item m) n e = absurd (Option·none-ne-some n e)
+asked-repetition Nothing n e = absurd (Option·none-ne-some n e)
 
 pub asked-item : (at : Position) (n : ℕ) → asksItem at ≡ some n → at ≡ Item n
 unfolding asksItem
@@ -124,3 +127,4 @@ asked-item (Class d) n e = absurd (Option·none-ne-some n e)
 asked-item (Nonterminal m) n e = absurd (Option·none-ne-some n e)
 asked-item (Repetition m) n e = absurd (Option·none-ne-some n e)
 asked-item (Item m) n e = ap Item (Option·some-injective m n e)
+asked-item Nothing n e = absurd (Option·none-ne-some n e)

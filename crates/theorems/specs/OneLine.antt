@@ -8,7 +8,7 @@ use native.Mathlib.Omega.{arith}
 use lib.ListN.{length}
 use lib.Dec.{leb, ltb}
 use borrow.Author.Tests.{leb-true, leb-false, ltb-true, ltb-false}
-use Rattle.rules.specs.Walk.{Input, State, Limit, fuel-spent, too-deep, output-full, End, done, ended, stuck, andThen, write, counted, reached, walk}
+use Rattle.rules.specs.Walk.{Input, State, Limit, fuel-spent, too-deep, output-full, End, done, ended, stuck, andThen, write, counted, Asked, reached, walk}
 use Rattle.theorems.specs.Begins.{Begins, begins-itself, begins-then, begins-written, begins-counted, written}
 use Rattle.theorems.specs.Visits.{limitedBy, LevelsOf, WritesOf, InStep, walk-both}
 use Rattle.theorems.specs.Bounds.{StateOf, when-done, when-ended, Leaves, at-done, at-limit, at-stuck, then-leaves, write-leaves, reached-leaves}
@@ -28,19 +28,19 @@ past-then next h k = then-leaves next h (λ s₁ b. past-more b (k s₁))
 -- A limit stops one of two walks, with this fuel and room, at the node p. The other has more: it counts the node as a step, or writes the piece
 -- that had no room, and goes further. A node that is 201 deep stops both.
 pub data Further (i : Input) (fuel room fuel′ room′ p : ℕ) (s : State) : Limit → State → Type 0 where
-  counts : (d : ℕ) (env : List ℕ) → LevelsOf i d p env → fuel ≤ s .steps → s .steps < fuel′ → Further i fuel room fuel′ room′ p s fuel-spent (counted s)
-  writes : (d : ℕ) (env x : List ℕ) → LevelsOf i d p env → WritesOf i p env x → room < length (s .text) + length x → length (s .text) + length x ≤ room′
+  counts : (d : ℕ) (a : Asked) (env : List ℕ) → LevelsOf i d a p env → fuel ≤ s .steps → s .steps < fuel′ → Further i fuel room fuel′ room′ p s fuel-spent (counted s)
+  writes : (d : ℕ) (a : Asked) (env x : List ℕ) → LevelsOf i d a p env → WritesOf i a p env x → room < length (s .text) + length x → length (s .text) + length x ≤ room′
       → Further i fuel room fuel′ room′ p s output-full (written s x)
 
 further-begins : {i : Input} {fuel room fuel′ room′ p : ℕ} {s s₁ : State} {l : Limit} → Further i fuel room fuel′ room′ p s l s₁ → Begins s s₁
-further-begins {s} (counts d env at a b) = begins-counted s
-further-begins {s} (writes d env x at w a b) = begins-written s x
+further-begins {s} (counts d q env at a b) = begins-counted s
+further-begins {s} (writes d q env x at w a b) = begins-written s x
 
 -- who has at least as much does not stop first
 not-less : {i : Input} {fuel room fuel′ room′ p : ℕ} {s s₁ : State} {l : Limit} → fuel′ ≤ fuel → room′ ≤ room
     → Further i fuel room fuel′ room′ p s l s₁ → ⊥
-not-less f r (counts d env at a b) = omega arith
-not-less f r (writes d env x at w a b) = omega arith
+not-less f r (counts d q env at a b) = omega arith
+not-less f r (writes d q env x at w a b) = omega arith
 
 module _ (i : Input) (fuel room : ℕ) where
   -- Both walks come to the same end; or the one has stopped, and the other goes further.
@@ -65,31 +65,31 @@ module _ (i : Input) (fuel room : ℕ) where
   write-past : (room p : ℕ) (x : List ℕ) (s : State) → Past s (write room p x s)
   write-past room p x s = write-leaves room p x s (λ fits. begins-written s x) (λ past. begins-itself s)
 
-  write-line : {d p : ℕ} {env : List ℕ} (x : List ℕ) → LevelsOf i d p env → WritesOf i p env x → (s : State) → Line (write (i .room) p x s) (write room p x s)
+  write-line : {d p : ℕ} {a : Asked} {env : List ℕ} (x : List ℕ) → LevelsOf i d a p env → WritesOf i a p env x → (s : State) → Line (write (i .room) p x s) (write room p x s)
   unfolding write
-  write-line {d} {p} {env} x at w s = go (leb (length (s .text) + length x) (i .room)) (leb (length (s .text) + length x) room) refl refl
+  write-line {d} {p} {a} {env} x at w s = go (leb (length (s .text) + length x) (i .room)) (leb (length (s .text) + length x) room) refl refl
     where
       go : (b b′ : Bool) → leb (length (s .text) + length x) (i .room) ≡ b → leb (length (s .text) + length x) room ≡ b′
           → Line (cond b (done (written s x)) (ended output-full p s)) (cond b′ (done (written s x)) (ended output-full p s))
       go true true e e′ = alike _
       go true false e e′ =
-          second-stops output-full p s _ _ (writes d env x at w (leb-false _ _ e′) (leb-true _ _ e)) (at-done _ (begins-itself (written s x)))
+          second-stops output-full p s _ _ (writes d a env x at w (leb-false _ _ e′) (leb-true _ _ e)) (at-done _ (begins-itself (written s x)))
       go false true e e′ =
-          first-stops output-full p s _ _ (writes d env x at w (leb-false _ _ e) (leb-true _ _ e′)) (at-done _ (begins-itself (written s x)))
+          first-stops output-full p s _ _ (writes d a env x at w (leb-false _ _ e) (leb-true _ _ e′)) (at-done _ (begins-itself (written s x)))
       go false false e e′ = alike _
 
   reached-past : (fuel p : ℕ) (next : State → End) → ((s : State) → Past s (next s)) → (s : State) → Past s (reached (ltb (s .steps) fuel) p next s)
   reached-past fuel p next k s = reached-leaves fuel p next s (λ left. past-more (begins-counted s) (k (counted s))) (λ used. begins-itself s)
 
-  reached-line : {d p : ℕ} {env : List ℕ} (next next′ : State → End) → LevelsOf i d p env → ((s : State) → OnLine s (next s) (next′ s)) → (s : State)
+  reached-line : {d p : ℕ} {a : Asked} {env : List ℕ} (next next′ : State → End) → LevelsOf i d a p env → ((s : State) → OnLine s (next s) (next′ s)) → (s : State)
       → Line (reached (ltb (s .steps) (i .fuel)) p next s) (reached (ltb (s .steps) fuel) p next′ s)
   unfolding reached
-  reached-line {d} {p} {env} next next′ at k s = go (ltb (s .steps) (i .fuel)) (ltb (s .steps) fuel) refl refl
+  reached-line {d} {p} {a} {env} next next′ at k s = go (ltb (s .steps) (i .fuel)) (ltb (s .steps) fuel) refl refl
     where
       go : (b b′ : Bool) → ltb (s .steps) (i .fuel) ≡ b → ltb (s .steps) fuel ≡ b′ → Line (reached b p next s) (reached b′ p next′ s)
       go true true e e′ = k (counted s) .line
-      go true false e e′ = second-stops fuel-spent p s _ _ (counts d env at (ltb-false _ _ e′) (ltb-true _ _ e)) (k (counted s) .first-past)
-      go false true e e′ = first-stops fuel-spent p s _ _ (counts d env at (ltb-false _ _ e) (ltb-true _ _ e′)) (k (counted s) .second-past)
+      go true false e e′ = second-stops fuel-spent p s _ _ (counts d a env at (ltb-false _ _ e′) (ltb-true _ _ e)) (k (counted s) .first-past)
+      go false true e e′ = first-stops fuel-spent p s _ _ (counts d a env at (ltb-false _ _ e) (ltb-true _ _ e′)) (k (counted s) .second-past)
       go false false e e′ = alike _
 
   line-kept : InStep i fuel room OnLine

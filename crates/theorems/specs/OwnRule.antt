@@ -5,7 +5,7 @@ use mathlib.Core.List.{List, [], _∷_, _++_}
 use mathlib.Core.Option.{some}
 use lib.ListN.{length}
 use Rattle.rules.specs.Records.{kindOf, fieldB, textOf, nth}
-use Rattle.rules.specs.Grammar.{production, elements}
+use Rattle.rules.specs.Grammar.{production, Element, elements}
 use Rattle.rules.specs.Templates.{text, yes-no, list, fields, typeOf, template, parameters, body, formOf, nodes, paths, path, first, second}
 use Rattle.rules.specs.Value.{children}
 use Rattle.rules.specs.declared.Form.the-variants.{Build, Literal, Place, Expand, If, For, Sequence}
@@ -13,7 +13,7 @@ use Rattle.rules.specs.declared.Position.{Position}
 use Rattle.rules.specs.declared.Position.the-variants.{Class, Nonterminal, Repetition, Item}
 use Rattle.laws.specs.Faults.{In}
 use Rattle.theorems.specs.Lexemes.{Lexeme}
-use Rattle.theorems.specs.Children.{OneEach, ChildFor}
+use Rattle.theorems.specs.Children.{Asks, OneEach, ChildFor}
 use Rattle.theorems.specs.Judgement.{PathTyped, Arguments, Declared}
 
 -- a text of nonterminal n is asked for: in the nonterminal's position, or as an item, for a sequence's items are "nodes in the position of its nonterminal or a for"
@@ -27,7 +27,7 @@ pub data Fits (g t vars : List ℕ) (p : ℕ) : Position → Type 0 where
   a-build : (at : Position) (q : ℕ) → formOf t p ≡ Build → production g (fieldB t p) ≡ some q → AsksText at (fieldB g q)
       → OneEach (elements g q) (nodes t p) → Fits g t vars p at
   -- "a literal that is a lexeme"
-  a-literal : (c : ℕ) → formOf t p ≡ Literal → Lexeme g c (textOf t p) → Fits g t vars p (Class c)
+  a-literal : (c : ℕ) → formOf t p ≡ Literal → Lexeme g c (textOf t (fieldB t p) p) → Fits g t vars p (Class c)
   -- "a place whose path has type text of that very class"
   a-place : (c ty : ℕ) → formOf t p ≡ Place → PathTyped t vars (path p) ty → typeOf t ty ≡ text c → Fits g t vars p (Class c)
   -- "an expand of a template with that nonterminal and argument types equal by number"
@@ -44,8 +44,8 @@ pub data Fits (g t vars : List ℕ) (p : ℕ) : Position → Type 0 where
 -- Where nothing says a position or a variable's type (for a child too many, or below a for over no list), the node above does not fit, and comes first.
 pub data ChildNode (g t vars : List ℕ) (p : ℕ) : Position → List ℕ → ℕ → Position → Type 0 where
   -- a build's child, in the position of its element
-  build-child : (at at′ : Position) (q c : ℕ) → formOf t p ≡ Build → production g (fieldB t p) ≡ some q → ChildFor (elements g q) (nodes t p) at′ c
-      → ChildNode g t vars p at vars c at′
+  build-child : (at at′ : Position) (e : Element) (q c : ℕ) → formOf t p ≡ Build → production g (fieldB t p) ≡ some q
+      → ChildFor (elements g q) (nodes t p) e c → Asks e at′ → ChildNode g t vars p at vars c at′
   -- "both branches in the same position"
   first-branch : (at : Position) (n : ℕ) → formOf t p ≡ If → AsksText at n → ChildNode g t vars p at vars (first p) (Nonterminal n)
   second-branch : (at : Position) (n : ℕ) → formOf t p ≡ If → AsksText at n → ChildNode g t vars p at vars (second t p) (Nonterminal n)
@@ -63,7 +63,7 @@ pub data Stands (g t : List ℕ) (p : ℕ) : List ℕ → ℕ → Position → T
 -- A value's own rule: the value at w is of type ty, whatever stands below it. "A value is of type text if it is a 1 whose text is a lexeme of the class; of yes/no
 -- if a 2; of a list if a 3 ..; of a record if a 4 with one child for each field".
 pub data OfForm (g t v : List ℕ) (ty w : ℕ) : Type 0 where
-  a-text : (c : ℕ) → typeOf t ty ≡ text c → kindOf v w ≡ 1 → Lexeme g c (textOf v w) → OfForm g t v ty w
+  a-text : (c : ℕ) → typeOf t ty ≡ text c → kindOf v w ≡ 1 → Lexeme g c (textOf v (fieldB v w) w) → OfForm g t v ty w
   a-yes-no : typeOf t ty ≡ yes-no → kindOf v w ≡ 2 → OfForm g t v ty w
   a-list : (item : ℕ) → typeOf t ty ≡ list item → kindOf v w ≡ 3 → OfForm g t v ty w
   a-record : (tys : List ℕ) → typeOf t ty ≡ fields tys → kindOf v w ≡ 4 → length (children v w) ≡ length tys → OfForm g t v ty w

@@ -9,7 +9,7 @@ use native.Mathlib.Omega.{arith}
 use lib.ListN.{length}
 use Rattle.rules.specs.Faults.{onFound, exists}
 use Rattle.rules.specs.Records.{fieldB, fieldC, fieldD}
-use Rattle.rules.specs.Grammar.{production, Element, keyword, lexeme, nonterminal, repetition}
+use Rattle.rules.specs.Grammar.{production, Element, keyword, lexeme, nonterminal, repetition, unknown}
 use Rattle.rules.specs.Templates.{text, typeOf, template, parameters, formOf, nodes, paths, path, first}
 use Rattle.rules.specs.Typing.{asksClass, asksNonterminal, asksRepetition, asksItem, positions, textClass, isYesNo, itemType, pathType, Site, site, suitsForm, suits, sites, sitesOf, sitesBelow, bodySite}
 use Rattle.rules.specs.declared.Form.{Form}
@@ -19,7 +19,7 @@ use Rattle.rules.specs.declared.Position.the-variants.{Nonterminal, Item}
 use Rattle.laws.specs.Faults.{In, here, later, in-map, exists-iff, onFound-true, and-iff, eqb-iff, Below, itself, under}
 use Rattle.laws.specs.Rows.{length-heads}
 use Rattle.theorems.specs.Lexemes.{lexeme-exactly}
-use Rattle.theorems.specs.Children.{Asks, asks-class, asks-nonterminal, asks-repetition, OneEach, nothing-left, no-child-for, one-child-for, ChildFor, this-child, past-keyword, past-child}
+use Rattle.theorems.specs.Children.{Asks, asks-class, asks-nonterminal, asks-repetition, asks-nothing, OneEach, nothing-left, no-child-for, one-child-for, ChildFor, this-child, past-keyword, past-child}
 use Rattle.theorems.specs.Judgement.{PathTyped, Arguments}
 use Rattle.theorems.specs.OwnRule.{AsksText, Fits, a-build, a-literal, a-place, an-expand, an-if, a-for, a-sequence, ChildNode, build-child, first-branch, second-branch, loop-body, sequence-item, Stands, the-body, below}
 use Rattle.theorems.specs.HeadByHead.{in-cons, map-in, found-in, below-more}
@@ -38,13 +38,15 @@ positions-of [] = no-position
 positions-of (keyword x ∷ es) = no-position-for x es _ (positions-of es)
 positions-of (lexeme c ∷ es) = one-position-for _ _ es _ (asks-class c) (positions-of es)
 positions-of (nonterminal n ∷ es) = one-position-for _ _ es _ (asks-nonterminal n) (positions-of es)
-positions-of (repetition n ∷ es) = one-position-for _ _ es _ (asks-repetition n) (positions-of es)
+positions-of (repetition n x ∷ es) = one-position-for _ _ es _ (asks-repetition n x) (positions-of es)
+positions-of (unknown ∷ es) = one-position-for _ _ es _ asks-nothing (positions-of es)
 
 pub position-of : {e : Element} {at : Position} (es : List Element) → Asks e at → positions (e ∷ es) ≡ at ∷ positions es
 unfolding positions
 position-of es (asks-class c) = refl
 position-of es (asks-nonterminal n) = refl
-position-of es (asks-repetition n) = refl
+position-of es (asks-repetition n x) = refl
+position-of es asks-nothing = refl
 
 each-one : {es : List Element} {as′ : List Position} (cs : List ℕ) → Positions es as′ → length as′ ≡ length cs → OneEach es cs
 each-one [] no-position l = nothing-left
@@ -127,25 +129,26 @@ abbrev pub ChildAt : List ℕ → List ℕ → Site → Site → Type 0
 ChildAt g t x y = ChildNode g t (x .vars) (x .node) (x .position) (y .vars) (y .node) (y .position)
 
 in-sites : (P : Site → Type 0) (vars : List ℕ) {es : List Element} {as′ : List Position} (cs : List ℕ) {y : Site} → Positions es as′
-    → ((at : Position) (c : ℕ) → ChildFor es cs at c → P (site vars at c)) → In y (sites vars as′ cs) → P y
+    → ((e : Element) (at : Position) (c : ℕ) → ChildFor es cs e c → Asks e at → P (site vars at c)) → In y (sites vars as′ cs) → P y
 unfolding sites
 in-sites P vars cs no-position h i = elim i [ ]
-in-sites P vars cs (no-position-for x es as′ ps) h i = in-sites P vars cs ps (λ at c k. h at c (past-keyword x at c es cs k)) i
+in-sites P vars cs (no-position-for x es as′ ps) h i = in-sites P vars cs ps (λ e at c k. h e at c (past-keyword x e c es cs k)) i
 in-sites P vars [] (one-position-for e at es as′ a ps) h i = elim i [ ]
 in-sites P vars (c ∷ cs) (one-position-for e at es as′ a ps) h i =
-    in-cons P (h at c (this-child e at c es cs a)) (λ z j. in-sites P vars cs ps (λ at′ d k. h at′ d (past-child e at′ at d c es cs a k)) j) i
+    in-cons P (h e at c (this-child e at c es cs a) a) (λ z j. in-sites P vars cs ps (λ e′ at′ d k. h e′ at′ d (past-child e′ e at d c es cs a k)) j) i
 
-sites-in : (vars : List ℕ) {es : List Element} {cs : List ℕ} {at : Position} {c : ℕ} → ChildFor es cs at c → In (site vars at c) (sites vars (positions es) cs)
+sites-in : (vars : List ℕ) {es : List Element} {cs : List ℕ} {e : Element} {at : Position} {c : ℕ} → ChildFor es cs e c → Asks e at
+    → In (site vars at c) (sites vars (positions es) cs)
 unfolding sites positions
-sites-in vars (this-child e at c es cs a) = rw (position-of es a) (here _)
-sites-in vars (past-keyword x at c es cs k) = sites-in vars k
-sites-in vars (past-child e at at′ c c′ es cs a k) = rw (position-of es a) (later _ _ (sites-in vars k))
+sites-in vars (this-child e at c es cs b) a = rw (position-of es a) (here _)
+sites-in vars (past-keyword x e c es cs k) a = sites-in vars k a
+sites-in vars (past-child e e′ at c c′ es cs b k) a = rw (position-of es b) (later _ _ (sites-in vars k a))
 
 form-child : (g t : List ℕ) (f : Form) (x : Site) {y : Site} → formOf t (x .node) ≡ f → In y (sitesOf g t f x) → ChildAt g t x y
 unfolding sitesOf site
 form-child g t Build x f i =
     let (q, there, j) = found-in (production g (fieldB t (x .node))) _ i in
-    in-sites (ChildAt g t x) (x .vars) _ (positions-of _) (λ at c k. build-child (x .position) at q c f there k) j
+    in-sites (ChildAt g t x) (x .vars) _ (positions-of _) (λ e at c. build-child (x .position) at e q c f there) j
 form-child g t Literal x f i = elim i [ ]
 form-child g t Place x f i = elim i [ ]
 form-child g t Expand x f i = elim i [ ]
@@ -172,7 +175,7 @@ form-child g t Unknown x f i = elim i [ ]
 child-form : {g t vars vars′ : List ℕ} {p c : ℕ} {at at′ : Position} → ChildNode g t vars p at vars′ c at′
     → In (site vars′ at′ c) (sitesBelow g t (site vars at p))
 unfolding sitesBelow sitesOf site asksItem asksRepetition itemType onFound
-child-form {vars = vars} (build-child at at′ q c f e k) = rw (f, e) (sites-in vars k)
+child-form {vars = vars} (build-child at at′ el q c f e k a) = rw (f, e) (sites-in vars k a)
 child-form (first-branch at n f a) = rw (f, text-asked a) (here _)
 child-form (second-branch at n f a) = rw (f, text-asked a) (later _ _ (here _))
 child-form {t = t} {vars} {p = p} (loop-body n ty item f h e) = rw (f, path-exactly t vars (path p) ty .1 h, e) (here _)

@@ -1,26 +1,33 @@
 -- Soundness: where the typing finds no fault and the value is of its declared type, the walk is never stuck, and a finished text is derived.
 use mathlib.Core.Path.{_≡_, refl, sym, subst}
-use Prim.Native.Nat.{ℕ, zero, suc}
+use Prim.Native.Nat.{ℕ, zero, suc, _+_}
 use mathlib.Core.List.{List, [], _∷_, _++_, append-assoc, append-nil}
 use mathlib.Core.Bool.{Bool, true, false, cond}
 use mathlib.Core.Option.{none, some, Option·none-ne-some, Option·some-injective}
 use native.Mathlib.Omega.{arith}
+use native.Mathlib.Nat.{add-zero}
+use lib.ListN.{length}
 use Rattle.rules.specs.Faults.{onFound}
 use Rattle.rules.specs.Records.{fieldB, nth}
-use Rattle.rules.specs.Grammar.{Element}
-use Rattle.rules.specs.Templates.{TypeForm, text, yes-no, list, fields, no-type, typeOf, template, parameters, body, formOf}
+use Rattle.rules.specs.Grammar.{Element, nonterminal}
+use Rattle.rules.specs.Templates.{TypeForm, text, yes-no, list, fields, no-type, typeOf, template, parameters, body, formOf, isFor}
 use Rattle.rules.specs.Value.{asText, asYesNo, asList, asRecord}
 use Rattle.rules.specs.Limits.{deepest}
 use Rattle.rules.specs.Typing.{site, bodySite, templatesTyping, typed, valueTyping}
-use Rattle.rules.specs.Walk.{Input, State, start, too-deep, End, done, stuck, andThen, valueAlong, pathValue, pathValues, write, inOrder, withChild, pieces}
-use Rattle.rules.specs.Walk.{visitForm, counted, visit, walk}
-use Rattle.rules.specs.Derivation.{Derives, produced, Pieces, no-element, one-piece, own-bytes, a-lexeme as lexeme-of, derived, repeated, Row, no-text, one-text}
+use Rattle.rules.specs.Walk.{Input, State, start, too-deep, End, done, stuck, andThen, valueAlong, pathValue, pathValues, write, withChild, pieces}
+use Rattle.rules.specs.Walk.{Filled, Asked, piece, items, filledBy, separate, visitItem, inOrder, listed, itemsOf, visitIn, visitForm, counted, visit, walk}
+use Rattle.rules.specs.Derivation.{Derives, produced, Pieces, no-element, one-piece, Piece, own-bytes, a-lexeme as lexeme-of, derived, repeated}
+use Rattle.rules.specs.declared.Form.the-variants.{For}
 use Rattle.rules.specs.declared.Position.{Position}
-use Rattle.rules.specs.declared.Position.the-variants.{Class, Nonterminal, Repetition, Item}
+use Rattle.rules.specs.declared.Position.the-variants.{Nonterminal, Item}
 use Rattle.laws.specs.Faults.{both-none, nth-in, every-in, onFound-none, at-none}
 use Rattle.theorems.specs.Ends.{Ends, finished, limited, ends-map, then-ends, found-ends, reached-ends, write-ends, ends-done}
 use Rattle.theorems.specs.Lexemes.{Lexeme, lexeme-exactly}
-use Rattle.theorems.specs.Children.{asks-class, asks-nonterminal, asks-repetition}
+use Rattle.theorems.specs.Children.{Asks, asks-class, asks-nonterminal, asks-repetition}
+use Rattle.theorems.specs.Levels.{filling}
+use Rattle.theorems.specs.Handed.{pieces-child, IsFor, a-for, no-for, is-for, for-visited, item-visited, one-brought}
+use Rattle.theorems.specs.Evaluation.{BeforeItem, the-first, another}
+use Rattle.theorems.specs.Neighbours.{Further, no-more, further-one, further-append, further-row}
 use Rattle.theorems.specs.Judgement.{Along, arrived, a-field, PathTyped, Arguments, no-argument, an-argument}
 use Rattle.theorems.specs.Judgement.{Suits, by-build, by-literal, by-place, by-expand, by-if, by-for, by-sequence, as-item}
 use Rattle.theorems.specs.Judgement.{Fills, all-filled, no-child, a-child, Items, no-item, an-item}
@@ -107,86 +114,113 @@ writes-then {before} next join h k =
     then-ends next h λ s a. ends-map (k s) λ s′ b.
     record { added = a .added ++ b .added; text-is = cc (append-assoc before (a .added) (b .added)); right = join (a .added) (b .added) (a .right) (b .right) }
 
--- one row and then another is a row, and so is one text
-row-append : {g : List ℕ} {n : ℕ} (x y : List ℕ) → Row g n x → Row g n y → Row g n (x ++ y)
-row-append x y (no-text n) h = h
-row-append x y (one-text n x′ rest d r) h = rw append-assoc (one-text n x′ (rest ++ y) d (row-append rest y r h))
-
-row-one : {g : List ℕ} {n : ℕ} (x : List ℕ) → Derives g n x → Row g n x
-row-one {n} x d = rw (← append-nil x) (one-text n x [] d (no-text n))
-
 either-suits : {g t vars : List ℕ} {p q : ℕ} {at : Position} (b : Bool) → Suits g t vars p at → Suits g t vars q at → Suits g t vars (cond b p q) at
 either-suits true h k = h
 either-suits false h k = k
 
--- the text that a position asks for
-abbrev Asked : List ℕ → Position → List ℕ → Type 0
-Asked g (Class c) x = Lexeme g c x
-Asked g (Nonterminal n) x = Derives g n x
-Asked g (Repetition n) x = Row g n x
-Asked g (Item n) x = Row g n x
-
--- a visit of a node that suits its position, with values of its variables' types, writes what the position asks for, unless a limit ends it
-record Sound (i : Input) (visited : ℕ → List ℕ → State → End) : Type 0 where
-  writes : {vars env : List ℕ} {p : ℕ} {at : Position} → Suits (i .grammar) (i .templates) vars p at → EachOf (i .grammar) (i .templates) (i .value) vars env
-      → (s : State) → Ends (Wrote (Asked (i .grammar) at) (s .text)) (visited p env s)
+-- A visit of a node that suits its position, with values of its variables' types, writes what the position asks for, unless a limit ends it. That is a piece
+-- of its element; of a for it is further items of the repetition f.
+record Sound (i : Input) (visited : Asked → ℕ → List ℕ → State → End) : Type 0 where
+  writes : {vars env : List ℕ} {p : ℕ} {e : Element} {at : Position} → Suits (i .grammar) (i .templates) vars p at → Asks e at
+      → EachOf (i .grammar) (i .templates) (i .value) vars env → (s : State) → Ends (Wrote (Piece (i .grammar) e) (s .text)) (visited (piece e) p env s)
+  turns : {vars env : List ℕ} {p : ℕ} (f : Filled) (k : ℕ) → formOf (i .templates) p ≡ For → Suits (i .grammar) (i .templates) vars p (Item (f .nonterminal))
+      → EachOf (i .grammar) (i .templates) (i .value) vars env → (s : State)
+      → Ends (Wrote (Further (i .grammar) (f .nonterminal) (f .separator) k (k + itemsOf i env p)) (s .text)) (visited (items f k) p env s)
 
 -- "A body's position is its template's nonterminal."
 abbrev BodiesSuit : List ℕ → List ℕ → Type 0
 BodiesSuit g t = (n q : ℕ) → template t n ≡ some q → Suits g t (parameters t q) (body t q) (Nonterminal (fieldB t q))
 
+piece-derived : {g x : List ℕ} {n : ℕ} → Piece g (nonterminal n) x → Derives g n x
+piece-derived (derived n x d) = d
+
+-- a for suits an item's position only; an item that is no for suits its nonterminal's
+no-for-there : {g t vars : List ℕ} {p n : ℕ} → Suits g t vars p (Nonterminal n) → formOf t p ≡ For → ⊥
+no-for-there (by-build vars p n q f e b fs) h = let z : _≡_ {A = ℕ} 0 1 = cc in omega arith
+no-for-there (by-expand vars p n q f e b as′) h = let z : _≡_ {A = ℕ} 0 1 = cc in omega arith
+no-for-there (by-if vars p n ty f e b su su′) h = let z : _≡_ {A = ℕ} 0 1 = cc in omega arith
+
+no-for-suits : {g t vars : List ℕ} {p n : ℕ} → Suits g t vars p (Item n) → (formOf t p ≡ For → ⊥) → Suits g t vars p (Nonterminal n)
+no-for-suits (by-for vars p n ty item f e b su) h = absurd (h f)
+no-for-suits (as-item vars p n su) h = su
+
 -- The visits one deeper being sound, so is what a form does with them.
-module _ (i : Input) (below : ℕ → List ℕ → State → End) (sound : Sound i below) where
+module _ (i : Input) (below : Asked → ℕ → List ℕ → State → End) (sound : Sound i below) where
   open Input i using (grammar as g, templates as t, value as v, room)
 
   fills-sound : {vars env : List ℕ} {es : List Element} {cs : List ℕ} (p : ℕ) → Fills g t vars es cs → EachOf g t v vars env
-      → (s : State) → Ends (Wrote (Pieces g es) (s .text)) (pieces (write room p) (λ c. below c env) es cs s)
+      → (s : State) → Ends (Wrote (Pieces g es) (s .text)) (pieces (write room p) (λ e c. below (piece e) c env) es cs s)
   unfolding pieces withChild
   fills-sound p (all-filled vars) h s = writes-none s no-element
   fills-sound p (no-child vars x es cs fs) h s = writes-then _ (one-piece _ es) (writes-whole _ p x s (own-bytes x)) (fills-sound p fs h)
-  fills-sound p (a-child vars e at q es cs (asks-class c) su fs) h s =
-      writes-then _ (λ x y l. one-piece _ es x y (lexeme-of c x (lexeme-exactly g c x .1 l))) (sound .writes su h s) (fills-sound p fs h)
-  fills-sound p (a-child vars e at q es cs (asks-nonterminal n) su fs) h s =
-      writes-then _ (λ x y d. one-piece _ es x y (derived n x d)) (sound .writes su h s) (fills-sound p fs h)
-  fills-sound p (a-child vars e at q es cs (asks-repetition n) su fs) h s =
-      writes-then _ (λ x y r. one-piece _ es x y (repeated n x r)) (sound .writes su h s) (fills-sound p fs h)
+  fills-sound p (a-child vars e at q es cs a su fs) h s =
+      rw (pieces-child _ _ es _ s a) (writes-then _ (one-piece e es) (sound .writes su a h s) (fills-sound p fs h))
 
-  items-sound : {vars env : List ℕ} {n : ℕ} {cs : List ℕ} → Items g t vars n cs → EachOf g t v vars env
-      → (s : State) → Ends (Wrote (Row g n) (s .text)) (inOrder (λ c. below c env) cs s)
-  unfolding inOrder
-  items-sound (no-item vars n) h s = writes-none s (no-text n)
-  items-sound (an-item vars n c cs su is) h s = writes-then _ row-append (sound .writes su h s) (items-sound is h)
+  separate-sound : (f : Filled) (k : ℕ) (s : State) → Ends (Wrote (BeforeItem (f .separator) k) (s .text)) (separate room f k s)
+  unfolding separate
+  separate-sound f zero s = writes-none s the-first
+  separate-sound f (suc k) s = writes-whole room _ _ s another
 
-  loop-sound : {vars env ws : List ℕ} {n p item : ℕ} → AllOf g t v item ws → Suits g t (vars ++ item ∷ []) p (Nonterminal n) → EachOf g t v vars env
-      → (s : State) → Ends (Wrote (Row g n) (s .text)) (inOrder (λ w. below p (env ++ w ∷ [])) ws s)
+  item-sound : {vars env : List ℕ} {c : ℕ} (f : Filled) (k : ℕ) → Suits g t vars c (Nonterminal (f .nonterminal)) → EachOf g t v vars env
+      → (s : State) → Ends (Wrote (Further g (f .nonterminal) (f .separator) k (k + 1)) (s .text)) (visitItem room below f k c env s)
+  unfolding visitItem
+  item-sound f k su h s =
+      writes-then _ (λ z x b d. further-one x b (piece-derived d)) (separate-sound f k s) (sound .writes su (asks-nonterminal _) h)
+
+  node-sound : {vars env : List ℕ} {c : ℕ} (f : Filled) (k : ℕ) → Suits g t vars c (Item (f .nonterminal)) → EachOf g t v vars env
+      → (s : State) → Ends (Wrote (Further g (f .nonterminal) (f .separator) k (k + itemsOf i env c)) (s .text)) (visitIn i below f env k c s)
+  node-sound {env = env} {c} f k su h s = go _ (is-for (formOf t c))
+    where
+      go : (b : Bool) → IsFor (formOf t c) b → Ends (Wrote (Further g (f .nonterminal) (f .separator) k (k + itemsOf i env c)) (s .text)) (visitIn i below f env k c s)
+      go true (a-for e) = rw (for-visited i env c below f k e) (sound .turns f k e su h s)
+      go false (no-for e) = rw (item-visited i env c below f k e, one-brought i env c e) (item-sound f k (no-for-suits su e) h s)
+
+  items-sound : {vars env : List ℕ} {n : ℕ} {cs between : List ℕ} (q k : ℕ) → Items g t vars n cs → EachOf g t v vars env
+      → (s : State) → Ends (Wrote (λ x. (l : ℕ) × Further g n between k l x) (s .text)) (inOrder (itemsOf i env) (visitIn i below (filling q n between) env) k cs s)
   unfolding inOrder
-  loop-sound {n} (none-left item) su h s = writes-none s (no-text n)
-  loop-sound {n} (one-of item w ws o os) su h s = writes-then _ (one-text n) (sound .writes su (each-more h o) s) (loop-sound os su h)
+  items-sound q k (no-item vars n) h s = writes-none s (k, no-more)
+  items-sound {env = env} {between = between} q k (an-item vars n c cs su is) h s =
+      writes-then _ (λ x y a b. (b .0, further-append a (b .1))) (node-sound (filling q n between) k su h s) (items-sound q (k + itemsOf i env c) is h)
+
+  loop-sound : {vars env ws : List ℕ} {p item : ℕ} (f : Filled) (k : ℕ) → AllOf g t v item ws → Suits g t (vars ++ item ∷ []) p (Nonterminal (f .nonterminal))
+      → EachOf g t v vars env → (s : State)
+      → Ends (Wrote (Further g (f .nonterminal) (f .separator) k (k + length ws)) (s .text))
+      (inOrder (λ w. 1) (λ m w. visitItem room below f m p (env ++ w ∷ [])) k ws s)
+  unfolding inOrder
+  loop-sound f k (none-left item) su h s = writes-none s (rw (add-zero k) no-more)
+  loop-sound f k (one-of item w ws o os) su h s =
+      rw (let e : k + suc (length ws) ≡ k + 1 + length ws = omega arith in e)
+      (writes-then _ (λ x y. further-append) (item-sound f k su (each-more h o) s) (loop-sound f (k + 1) os su h))
 
   -- one node, by the rule that it suits its position by
-  node-sound : BodiesSuit g t → {vars env : List ℕ} {p : ℕ} {at : Position} → Suits g t vars p at → EachOf g t v vars env
-      → (s : State) → Ends (Wrote (Asked g at) (s .text)) (visitForm i (formOf t p) below p env s)
-  unfolding visitForm
-  node-sound bodies (by-build vars p n q f e b fs) h s =
-      rw f (found-ends _ e (writes-map (λ x. produced n (fieldB t p) q x e b) (fills-sound p fs h s)))
-  node-sound bodies (by-literal vars p c f e) h s = rw f (writes-whole room p _ s e)
-  node-sound bodies (by-place vars p c ty f e b) h s =
+  form-sound : BodiesSuit g t → {vars env : List ℕ} {p : ℕ} {e : Element} {at : Position} → Suits g t vars p at → Asks e at → EachOf g t v vars env
+      → (s : State) → Ends (Wrote (Piece g e) (s .text)) (visitForm i (formOf t p) below (piece e) p env s)
+  unfolding visitForm filledBy onFound
+  form-sound bodies (by-build vars p n q f e b fs) (asks-nonterminal n′) h s =
+      rw f (found-ends _ e (writes-map (λ x ps. derived n x (produced n (fieldB t p) q x e b ps)) (fills-sound p fs h s)))
+  form-sound bodies (by-literal vars p c f e) (asks-class c′) h s = rw f (writes-whole room p _ s (lexeme-of c _ (lexeme-exactly g c _ .1 e)))
+  form-sound bodies (by-place vars p c ty f e b) (asks-class c′) h s =
       let w = path-of e h in
       let x = shaped (text c) (w .2) b in
-      rw f (found-ends _ (w .1) (found-ends _ (x .1) (writes-whole room p (x .0) s (x .2))))
-  node-sound bodies (by-expand vars p n q f e b as′) h s =
+      rw f (found-ends _ (w .1) (found-ends _ (x .1) (writes-whole room p (x .0) s (lexeme-of c _ (lexeme-exactly g c _ .1 (x .2))))))
+  form-sound bodies (by-expand vars p n q f e b as′) (asks-nonterminal n′) h s =
       let ws = arguments-of as′ h in
-      rw (f, ← b) (found-ends _ e (found-ends _ (ws .1) (sound .writes (bodies _ q e) (ws .2) s)))
-  node-sound bodies (by-if vars p n ty f e b su su′) h s =
+      rw (f, ← b) (found-ends _ e (found-ends _ (ws .1) (sound .writes (bodies _ q e) (asks-nonterminal _) (ws .2) s)))
+  form-sound bodies (by-if vars p n ty f e b su su′) a h s =
       let w = path-of e h in
       let y = shaped yes-no (w .2) b in
-      rw f (found-ends _ (w .1) (found-ends _ (y .1) (sound .writes (either-suits (y .0) su su′) h s)))
-  node-sound bodies (by-for vars p n ty item f e b su) h s =
+      rw f (found-ends _ (w .1) (found-ends _ (y .1) (sound .writes (either-suits (y .0) su su′) a h s)))
+  form-sound bodies (by-sequence vars p n f is) (asks-repetition n′ x) h s =
+      rw f (writes-map (λ y r. repeated n x y (further-row (r .1) refl)) (items-sound p 0 is h s))
+
+  for-sound : {vars env : List ℕ} {p : ℕ} (f : Filled) (k : ℕ) → formOf t p ≡ For → Suits g t vars p (Item (f .nonterminal)) → EachOf g t v vars env
+      → (s : State) → Ends (Wrote (Further g (f .nonterminal) (f .separator) k (k + itemsOf i env p)) (s .text)) (visitForm i (formOf t p) below (items f k) p env s)
+  unfolding visitForm listed itemsOf isFor onFound
+  for-sound f k q (by-for vars p n ty item f′ e b su) h s =
       let w = path-of e h in
       let ws = shaped (list item) (w .2) b in
-      rw f (found-ends _ (w .1) (found-ends _ (ws .1) (loop-sound (ws .2) su h s)))
-  node-sound bodies (by-sequence vars p n f is) h s = rw f (items-sound is h s)
-  node-sound bodies (as-item vars p n su) h s = writes-map row-one (node-sound bodies su h s)
+      rw (q, w .1, ws .1) (loop-sound f k (ws .2) su h s)
+  for-sound f k q (as-item vars p n su) h s = absurd (no-for-there su q)
 
 -- the check of typing accepts, and the value is of its declared type
 pub record WellTyped (i : Input) : Type 0 where
@@ -202,8 +236,14 @@ module _ (i : Input) (h : WellTyped i) where
 
   visit-sound : (k : ℕ) → Sound i (visit i k)
   unfolding visit counted
-  visit-sound zero = record { writes = λ su vs s. reached-ends _ _ _ s (limited too-deep _ _) }
-  visit-sound (suc k) = record { writes = λ su vs s. reached-ends _ _ _ s (node-sound i (visit i k) (visit-sound k) bodies-suit su vs (counted s)) }
+  visit-sound zero = record {
+    writes = λ su a vs s. reached-ends _ _ _ s (limited too-deep _ _);
+    turns = λ f k q su vs s. reached-ends _ _ _ s (limited too-deep _ _);
+  }
+  visit-sound (suc k) = record {
+    writes = λ su a vs s. reached-ends _ _ _ s (form-sound i (visit i k) (visit-sound k) bodies-suit su a vs (counted s));
+    turns = λ f j q su vs s. reached-ends _ _ _ s (for-sound i (visit i k) (visit-sound k) f j q su vs (counted s));
+  }
 
   -- "The walk starts with template 0's body and the value as its one variable."
   root-typed : (q : ℕ) × (template t 0 ≡ some q) × EachOf g t v (parameters t q) (0 ∷ [])
@@ -216,8 +256,12 @@ module _ (i : Input) (h : WellTyped i) where
   walk-sound : (q : ℕ) × (template t 0 ≡ some q) × Ends (Wrote (Derives g (fieldB t q)) []) (walk i)
   unfolding walk start
   walk-sound =
-      let r = root-typed in
-      (r .0, r .1, found-ends _ (r .1) (visit-sound deepest .writes (bodies-suit 0 (r .0) (r .1)) (r .2) start))
+      let r = root-typed in (
+        r .0,
+        r .1,
+        found-ends _ (r .1)
+            (writes-map (λ x. piece-derived) (visit-sound deepest .writes (bodies-suit 0 (r .0) (r .1)) (asks-nonterminal _) (r .2) start)),
+      )
 
 ends-not-stuck : {Q : State → Type 0} {e : End} → Ends Q e → e ≡ stuck → ⊥
 ends-not-stuck (finished s q) e = let z : _≡_ {A = ℕ} 0 1 = cc in omega arith

@@ -1,13 +1,17 @@
 -- The derivation rules texts out: what a derived text must be, whatever the rest of the grammar holds.
 use mathlib.Core.Path.{_≡_, refl, sym, _∙_, ap, subst}
 use mathlib.Core.Logic.{_↔_}
-use Prim.Native.Nat.{ℕ}
+use Prim.Native.Nat.{ℕ, suc, _+_, _-_, _*_}
+use native.Mathlib.Nat.{suc-mul}
+use native.Mathlib.Omega.{arith}
 use mathlib.Core.List.{List, [], _∷_, _++_, append-assoc, append-nil, flatten}
 use mathlib.Core.Bool.{true, false, true≢false}
 use mathlib.Core.Option.{some}
+use lib.ListN.{length, length-append}
 use Rattle.rules.specs.Records.{fieldB}
-use Rattle.rules.specs.Grammar.{productions, production, Element, keyword, lexeme, nonterminal, repetition, elements, nonterminalExists}
-use Rattle.rules.specs.Derivation.{Derives, produced, Pieces, no-element, one-piece, Piece, own-bytes, a-lexeme, derived, repeated, Row, no-text, one-text}
+use Rattle.rules.specs.Grammar.{productions, production, Element, keyword, lexeme, nonterminal, repetition, unknown, elements, nonterminalExists}
+use Rattle.rules.specs.Derivation.{Derives, produced, Pieces, no-element, one-piece, Piece, own-bytes, a-lexeme, derived, repeated}
+use Rattle.rules.specs.Derivation.{Row, no-text, some-texts, Texts, last-text, next-text}
 use Rattle.laws.specs.Faults.{In, here, later, nth-in}
 use Rattle.theorems.specs.LimitsExactly.{has-in}
 use Rattle.theorems.specs.Lexemes.{Lexeme, lexeme-exactly}
@@ -32,8 +36,11 @@ lexeme-piece {g} (a-lexeme c x e) = lexeme-exactly g c x .0 e
 nonterminal-piece : {g x : List ℕ} {n : ℕ} → Piece g (nonterminal n) x → Derives g n x
 nonterminal-piece (derived n x d) = d
 
-repetition-piece : {g x : List ℕ} {n : ℕ} → Piece g (repetition n) x → Row g n x
-repetition-piece (repeated n x r) = r
+repetition-piece : {g between x : List ℕ} {n : ℕ} → Piece g (repetition n between) x → Row g n between x
+repetition-piece (repeated n between x r) = r
+
+unknown-piece : {g x : List ℕ} → Piece g unknown x → ⊥
+unknown-piece p = elim p [ ]
 
 -- a text that is the first element's piece and then the pieces of the others
 abbrev pub PieceThenRest : List ℕ → Element → List Element → List ℕ → Type 0
@@ -79,19 +86,76 @@ derived-exists : {g x : List ℕ} {n : ℕ} → Derives g n x → nonterminalExi
 unfolding nonterminalExists production
 derived-exists {g} (produced n k p x e f ps) = has-in g n (nth-in (productions g) k p e) f
 
--- "any number of texts in a row, none too, each derived by its nonterminal"
-abbrev pub InARow : List ℕ → ℕ → List ℕ → Type 0
-InARow g n x = (texts : List (List ℕ)) × (x ≡ flatten texts) × ((y : List ℕ) → In y texts → Derives g n y)
+-- "any number of texts in a row, none too, each derived by its nonterminal", with "one separator between neighbours and none elsewhere": the first text, and
+-- then each later one after the separator
+unfoldable pub eachAfter : List ℕ → List (List ℕ) → List ℕ
+eachAfter between [] = []
+eachAfter between (y ∷ ys) = between ++ y ++ eachAfter between ys
 
-row-texts : {g x : List ℕ} {n : ℕ} → Row g n x → InARow g n x
-unfolding flatten
-row-texts (no-text n) = ([], refl, λ y i. elim i [ ])
-row-texts {g} (one-text n x rest d r) = let (ys, e, h) = row-texts r in (x ∷ ys, ap (λ (u : List ℕ). x ++ u) e, λ y i. in-cons (Derives g n) d h i)
+unfoldable pub joined : List ℕ → List (List ℕ) → List ℕ
+joined between [] = []
+joined between (y ∷ ys) = y ++ eachAfter between ys
 
-texts-row : {g : List ℕ} {n : ℕ} (texts : List (List ℕ)) → ((y : List ℕ) → In y texts → Derives g n y) → Row g n (flatten texts)
-unfolding flatten
-texts-row {n} [] h = no-text n
-texts-row {n} (y ∷ ys) h = one-text n y (flatten ys) (h y (here ys)) (texts-row ys (λ z i. h z (later y ys i)))
+abbrev pub InARow : List ℕ → ℕ → List ℕ → List ℕ → Type 0
+InARow g n between x = (texts : List (List ℕ)) × (x ≡ joined between texts) × ((y : List ℕ) → In y texts → Derives g n y)
+
+-- the first text and the later ones
+texts-of : {g between x : List ℕ} {n : ℕ} → Texts g n between x
+    → (y : List ℕ) × (ys : List (List ℕ)) × (x ≡ y ++ eachAfter between ys) × ((z : List ℕ) → In z (y ∷ ys) → Derives g n z)
+unfolding eachAfter
+texts-of {g} (last-text n between x d) = (x, [], sym (append-nil x), λ z i. in-cons (Derives g n) d (λ z i. elim i [ ]) i)
+texts-of {g} (next-text n between x rest d ts) =
+    let (y, ys, e, h) = texts-of ts in (
+      x,
+      y ∷ ys,
+      append-assoc x between rest ∙ ap (λ (u : List ℕ). x ++ u) (ap (λ (u : List ℕ). between ++ u) e ∙ sym (append-assoc between y _)),
+      λ z i. in-cons (Derives g n) d h i,
+    )
+
+row-texts : {g between x : List ℕ} {n : ℕ} → Row g n between x → InARow g n between x
+unfolding joined
+row-texts (no-text n between) = ([], refl, λ y i. elim i [ ])
+row-texts (some-texts n between x ts) = let (y, ys, e, h) = texts-of ts in (y ∷ ys, e, h)
+
+texts-from : {g : List ℕ} {n : ℕ} (between y : List ℕ) (ys : List (List ℕ)) → ((z : List ℕ) → In z (y ∷ ys) → Derives g n z) → Texts g n between (y ++ eachAfter between ys)
+unfolding eachAfter
+texts-from {n} between y [] h = rw (append-nil y) (last-text n between y (h y (here [])))
+texts-from {n} between y (z ∷ zs) h =
+    rw (append-assoc between z (eachAfter between zs), ← append-assoc y between (z ++ eachAfter between zs))
+    (next-text n between y _ (h y (here _)) (texts-from between z zs (λ u i. h u (later y _ i))))
+
+texts-row : {g : List ℕ} {n : ℕ} (between : List ℕ) (texts : List (List ℕ)) → ((y : List ℕ) → In y texts → Derives g n y) → Row g n between (joined between texts)
+unfolding joined
+texts-row {n} between [] h = no-text n between
+texts-row {n} between (y ∷ ys) h = some-texts n between _ (texts-from between y ys h)
+
+-- k texts have k - 1 separators between them
+each-length : (between : List ℕ) (texts : List (List ℕ)) → length (eachAfter between texts) ≡ length (flatten texts) + length texts * length between
+unfolding eachAfter flatten
+each-length between [] = omega arith
+each-length between (y ∷ ys) =
+    let h = each-length between ys in
+    let m = suc-mul (length ys) (length between) in
+    simp length-append (omega (arith, h, m))
+
+joined-length : (between : List ℕ) (texts : List (List ℕ)) → length (joined between texts) ≡ length (flatten texts) + (length texts - 1) * length between
+unfolding joined flatten
+joined-length between [] = omega arith
+joined-length between (y ∷ ys) =
+    let h = each-length between ys in
+    let m : suc (length ys) - 1 ≡ length ys = omega arith in
+    rw m (simp length-append (omega (arith, h)))
+
+-- without a separator nothing stands between
+each-alone : (texts : List (List ℕ)) → eachAfter [] texts ≡ flatten texts
+unfolding eachAfter flatten
+each-alone [] = refl
+each-alone (y ∷ ys) = ap (λ (u : List ℕ). y ++ u) (each-alone ys)
+
+joined-alone : (texts : List (List ℕ)) → joined [] texts ≡ flatten texts
+unfolding joined flatten
+joined-alone [] = refl
+joined-alone (y ∷ ys) = ap (λ (u : List ℕ). y ++ u) (each-alone ys)
 
 pub record Teeth (g : List ℕ) : Type 0 where
   -- a nonterminal derives what one of its productions does, and nothing else
@@ -108,9 +172,13 @@ pub record Teeth (g : List ℕ) : Type 0 where
   pub keyword-only : (w x : List ℕ) → Piece g (keyword w) x ↔ (x ≡ w)
   pub lexeme-only : (c : ℕ) (x : List ℕ) → Piece g (lexeme c) x ↔ Lexeme g c x
   pub nonterminal-only : (n : ℕ) (x : List ℕ) → Piece g (nonterminal n) x ↔ Derives g n x
-  pub repetition-only : (n : ℕ) (x : List ℕ) → Piece g (repetition n) x ↔ Row g n x
-  -- a row of texts is the texts, and nothing else
-  pub row-only : (n : ℕ) (x : List ℕ) → Row g n x ↔ InARow g n x
+  -- what a repetition derives is texts of its nonterminal with its separator between neighbours, and nothing else
+  pub repetition-only : (n : ℕ) (between x : List ℕ) → Piece g (repetition n between) x ↔ InARow g n between x
+  -- an element whose form there isn't derives nothing
+  pub unknown-none : (x : List ℕ) → Piece g unknown x → ⊥
+  -- where a separator is empty, a row is the texts one after the other; and k texts have k - 1 separators between them, none where k is 0 or 1
+  pub row-unseparated : (texts : List (List ℕ)) → joined [] texts ≡ flatten texts
+  pub row-length : (between : List ℕ) (texts : List (List ℕ)) → length (joined between texts) ≡ length (flatten texts) + (length texts - 1) * length between
 
 pub derivation-has-teeth : (g : List ℕ) → Teeth g
 derivation-has-teeth g = record {
@@ -123,6 +191,11 @@ derivation-has-teeth g = record {
   keyword-only = λ w x. (keyword-piece, λ e. subst (Piece g (keyword w)) (sym e) (own-bytes w));
   lexeme-only = λ c x. (lexeme-piece, λ l. a-lexeme c x (lexeme-exactly g c x .1 l));
   nonterminal-only = λ n x. (nonterminal-piece, derived n x);
-  repetition-only = λ n x. (repetition-piece, repeated n x);
-  row-only = λ n x. (row-texts, λ s. subst (Row g n) (sym (s .1)) (texts-row (s .0) (s .2)));
+  repetition-only = λ n between x. (
+    λ p. row-texts (repetition-piece p),
+    λ s. repeated n between x (subst (Row g n between) (sym (s .1)) (texts-row between (s .0) (s .2))),
+  );
+  unknown-none = λ x. unknown-piece;
+  row-unseparated = joined-alone;
+  row-length = joined-length;
 }

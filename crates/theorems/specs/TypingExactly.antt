@@ -17,7 +17,7 @@ use Rattle.rules.specs.declared.Position.{Position}
 use Rattle.rules.specs.declared.Position.the-variants.{Nonterminal, Item}
 use Rattle.laws.specs.Faults.{need-none, need-iff, both-none, both-iff, In, here, later, every-in, in-every, exists-iff, onFound-some, at-none, Below}
 use Rattle.theorems.specs.LimitsExactly.{TemplateWithin, not-deep}
-use Rattle.theorems.specs.Children.{OneEach, nothing-left, no-child-for, one-child-for, ChildFor, this-child, past-keyword, past-child}
+use Rattle.theorems.specs.Children.{Asks, OneEach, nothing-left, no-child-for, one-child-for, ChildFor, this-child, past-keyword, past-child}
 use Rattle.theorems.specs.Judgement.{Suits, by-build, by-literal, by-place, by-expand, by-if, by-for, by-sequence, as-item, Fills, all-filled, no-child, a-child, Items, no-item, an-item, Declared}
 use Rattle.theorems.specs.OwnRule.{AsksText, in-its-position, in-a-sequence, Fits, a-build, a-literal, a-place, an-expand, an-if, a-for, a-sequence, ChildNode, build-child, first-branch, second-branch, loop-body, sequence-item, Stands}
 use Rattle.theorems.specs.HeadByHead.{in-cons, tree-judged, judged-exactly, each-exactly}
@@ -86,11 +86,11 @@ text-suits (in-its-position n) s = s
 text-suits {vars = vars} {p} (in-a-sequence n) s = as-item vars p n s
 
 children-fill : {g t : List ℕ} (vars : List ℕ) {es : List Element} {cs : List ℕ} → OneEach es cs
-    → ((at : Position) (c : ℕ) → ChildFor es cs at c → Suits g t vars c at) → Fills g t vars es cs
+    → ((e : Element) (at : Position) (c : ℕ) → ChildFor es cs e c → Asks e at → Suits g t vars c at) → Fills g t vars es cs
 children-fill vars nothing-left h = all-filled vars
-children-fill vars (no-child-for x es cs o) h = no-child vars x es cs (children-fill vars o (λ at c k. h at c (past-keyword x at c es cs k)))
+children-fill vars (no-child-for x es cs o) h = no-child vars x es cs (children-fill vars o (λ e at c k. h e at c (past-keyword x e c es cs k)))
 children-fill vars (one-child-for e at c es cs a o) h =
-    a-child vars e at c es cs a (h at c (this-child e at c es cs a)) (children-fill vars o (λ at′ c′ k. h at′ c′ (past-child e at′ at c′ c es cs a k)))
+    a-child vars e at c es cs a (h e at c (this-child e at c es cs a) a) (children-fill vars o (λ e′ at′ c′ k. h e′ at′ c′ (past-child e′ e at c′ c es cs a k)))
 
 each-item : {g t : List ℕ} (vars : List ℕ) (n : ℕ) (cs : List ℕ) → ((c : ℕ) → In c cs → Suits g t vars c (Item n)) → Items g t vars n cs
 each-item vars n [] h = no-item vars n
@@ -99,7 +99,7 @@ each-item vars n (c ∷ cs) h = an-item vars n c cs (h c (here cs)) (each-item v
 fits-suits : {g t vars : List ℕ} {p : ℕ} {at : Position} → Fits g t vars p at
     → ((vars′ : List ℕ) (c : ℕ) (at′ : Position) → ChildNode g t vars p at vars′ c at′ → Suits g t vars′ c at′) → Suits g t vars p at
 fits-suits {vars = vars} {p} (a-build at q f e a o) h =
-    text-suits a (by-build vars p _ q f e refl (children-fill vars o (λ at′ c k. h vars c at′ (build-child at at′ q c f e k))))
+    text-suits a (by-build vars p _ q f e refl (children-fill vars o (λ el at′ c k b. h vars c at′ (build-child at at′ el q c f e k b))))
 fits-suits {vars = vars} {p} (a-literal c f l) h = by-literal vars p c f l
 fits-suits {vars = vars} {p} (a-place c ty f k e) h = by-place vars p c ty f k e
 fits-suits {vars = vars} {p} (an-expand at q f e a as′) h = text-suits a (by-expand vars p _ q f e refl as′)

@@ -29,9 +29,9 @@ pub record ReadAt (s : List ℕ) (i : ℕ) (u : List ℕ) (at : ℕ) : Type 0 wh
   -- "6 path: byte 1 variable, byte 2 number of steps (0 to 5), bytes 3-7 field numbers."
   pub path-variable : variable s i ≡ getD u (at + 1) 0
   pub path-fields : fieldNumbers s i ≡ take (getD u (at + 2) 0) (take 5 (drop (at + 3) u))
-  -- "Text follows its head in units of 8 bytes, the last zero-padded"
-  pub text : textOf s i ≡ take (fieldB s i) (drop (at + 8) u)
-  pub text-padded : textOf s i ++ paddingOf s i ≡ take (8 * ((fieldB s i + 7) / 8)) (drop (at + 8) u)
+  -- "Text follows its head in units of 8 bytes, the last zero-padded", n bytes of it
+  pub text : (n : ℕ) → textOf s n i ≡ take n (drop (at + 8) u)
+  pub text-padded : (n : ℕ) → textOf s n i ++ paddingOf s n i ≡ take (8 * ((n + 7) / 8)) (drop (at + 8) u)
 
 -- the records of a stream are its payload: all of them laid end to end; n of them from i on, cut short where the stream ends; each by itself
 pub record RecordsUnpacked (s : List ℕ) : Type 0 where
@@ -151,8 +151,8 @@ module _ (s : List ℕ) (w : length s % 512 ≡ 0) where
     range-highest = omega (arith, byte-of i 4 (omega arith), byte-of i 5 (omega arith), byte-of i 6 (omega arith));
     path-variable = byte-of i 1 (omega arith);
     path-fields = ap₂ take (byte-of i 2 (omega arith)) (numbers-of i);
-    text = text-of (fieldB s i) i;
-    text-padded = take-append-drop (fieldB s i) _ ∙ units-of (units (fieldB s i)) i;
+    text = λ n. text-of n i;
+    text-padded = λ n. take-append-drop n _ ∙ units-of (units n) i;
   }
 
 -- Of a stream of right length:

@@ -1,6 +1,6 @@
 -- Laws of the table of asked elements. Assumes nothing.
-use Prim.Native.Nat.{ℕ, zero, suc}
-use mathlib.Core.Path.{_≡_, refl, ap, _∙_}
+use Prim.Native.Nat.{ℕ, zero, suc, _-_, _≤_, _<_}
+use mathlib.Core.Path.{_≡_, refl, sym, ap, _∙_}
 use mathlib.Core.List.{List, [], _∷_, map}
 use mathlib.Core.Bool.{Bool, true, false}
 use mathlib.Core.Option.{some}
@@ -12,7 +12,9 @@ use Rattle.rules.specs.Records.{fieldA, fieldB, nth}
 use Rattle.rules.specs.Grammar.{productions, Element, elementNumbered, elementAt, elementHeads, elements}
 use Rattle.rules.specs.Typing.{positions}
 use Rattle.rules.specs.declared.Position.{Position}
-use Rattle.rules.specs.declared.Position.the-variants.{Repetition}
+use Rattle.rules.specs.declared.Position.the-variants.{Repetition, Nothing}
+use Rattle.stream.specs.declared.record.Record.{Record}
+use Rattle.stream.specs.Record.{Fetched}
 use Rattle.laws.specs.Lists.{length-map}
 use Rattle.typing.specs.Asked.{askedAmong, askedOf, positionNumbered, positionAt, AskedRow, AskedFilled}
 
@@ -24,7 +26,10 @@ unfolding positions elementNumbered positionNumbered
 position-of g zero e es b h = rw (← h)
 position-of g (suc zero) e es b h = rw (← h)
 position-of g (suc (suc zero)) e es b h = rw (← h)
-position-of g (suc (suc (suc a))) e es b h = let k : eqb (suc (suc (suc a))) 0 ≡ false = ne-eqb (suc (suc (suc a))) 0 (λ m. omega arith) in rw (← h, k)
+position-of g (suc (suc (suc zero))) e es b h = rw (← h)
+position-of g (suc (suc (suc (suc zero)))) e es b h = rw (← h)
+position-of g (suc (suc (suc (suc (suc a))))) e es b h =
+    let k : eqb (suc (suc (suc (suc (suc a))))) 0 ≡ false = ne-eqb (suc (suc (suc (suc (suc a))))) 0 (λ m. omega arith) in rw (← h, k)
 
 position-next : (g : List ℕ) (e : ℕ) (es : List ℕ) (rest : List Element) (b : Bool) → eqb (fieldA g e) 0 ≡ b → positions rest ≡ map (positionAt g) (askedAmong g es)
     → positions (elementAt g e ∷ rest) ≡ map (positionAt g) (elim b [ true ↦ askedAmong g es | false ↦ e ∷ askedAmong g es ])
@@ -48,9 +53,29 @@ positions-count g q = ap length (positions-are g q) ∙ length-map (positionAt g
 pub row-of : (g hs asked : List ℕ) → hs ≡ productions g → AskedFilled g asked → (k q : ℕ) → nth hs k ≡ some q → AskedRow g asked q
 row-of g hs asked e f k q h = f .rows k q (rw e at h)
 
-pub repetition-at : (a b b′ : ℕ) → b ≡ b′ → (a ≡ 1 → ⊥) → (a ≡ 2 → ⊥) → Repetition b ≡ positionNumbered a b′
+-- an element by its number a: a repetition with a separator or without, a keyword, a form that there isn't
+repetition-numbered : (a b : ℕ) → 3 ≤ a → a < 5 → Repetition b ≡ positionNumbered a b
 unfolding positionNumbered
-repetition-at zero b b′ e h1 h2 = ap Repetition e
-repetition-at (suc zero) b b′ e h1 h2 = absurd (h1 refl)
-repetition-at (suc (suc zero)) b b′ e h1 h2 = absurd (h2 refl)
-repetition-at (suc (suc (suc a))) b b′ e h1 h2 = ap Repetition e
+repetition-numbered zero b h k = absurd (omega arith)
+repetition-numbered (suc zero) b h k = absurd (omega arith)
+repetition-numbered (suc (suc zero)) b h k = absurd (omega arith)
+repetition-numbered (suc (suc (suc zero))) b h k = refl
+repetition-numbered (suc (suc (suc (suc zero)))) b h k = refl
+repetition-numbered (suc (suc (suc (suc (suc a))))) b h k = absurd (omega arith)
+
+nothing-numbered : (a n b : ℕ) → a ≡ suc (suc (suc (suc (suc n)))) → Nothing ≡ positionNumbered a b
+unfolding positionNumbered
+nothing-numbered a n b h = sym (rw h)
+
+module _ (g : List ℕ) (e : ℕ) (r : Record) (f : Fetched g e r) where
+  pub repetition-at : 1 ≤ r .a → (r .a ≡ 1 → ⊥) → (r .a ≡ 2 → ⊥) → r .a < 5 → Repetition (r .b) ≡ positionAt g e
+  unfolding positionAt
+  repetition-at s h k l = rw (← f .a, ← f .b) (repetition-numbered (r .a) (r .b) (omega arith) l)
+
+  pub keyword-at : r .a < 1 → Nothing ≡ positionAt g e
+  unfolding positionAt positionNumbered
+  keyword-at l = let z : r .a ≡ 0 = omega arith in sym (rw (← f .a, z))
+
+  pub unknown-at : 5 ≤ r .a → Nothing ≡ positionAt g e
+  unfolding positionAt
+  unknown-at l = rw (← f .a) (nothing-numbered (r .a) (r .a - 5) (fieldB g e) (omega arith))

@@ -160,7 +160,7 @@ module _ (g t : List ℕ) (x : Site) where
   unfolding suitsForm
   literal-nothing h = sym (on-none false _ h)
 
-  pub literal-is : (c : ℕ) → asksClass (x .position) ≡ some c → isLexeme g c (textOf t (x .node)) ≡ suitsForm g t Literal x
+  pub literal-is : (c : ℕ) → asksClass (x .position) ≡ some c → isLexeme g c (textOf t (fieldB t (x .node)) (x .node)) ≡ suitsForm g t Literal x
   unfolding suitsForm
   literal-is c h = sym (on-some false _ h)
 

@@ -43,13 +43,13 @@ unfolding hasForm
 missing-is g v t w = refl
 
 module _ (g v t : List ℕ) (w : ℕ) (r : Record) (f : Fetched v w r) where
-  text-is : (c : ℕ) → r .kind ≡ 1 → isLexeme g c (textOf v w) ≡ hasForm g v (kindForm t (Text c)) w
+  text-is : (c : ℕ) → r .kind ≡ 1 → isLexeme g c (textOf v (fieldB v w) w) ≡ hasForm g v (kindForm t (Text c)) w
   unfolding hasForm asText onFound onlyIf
   text-is c h = sym (rw (eq-eqb _ _ (sym (f .kind) ∙ h)))
 
   -- the same of the text as it was read
-  pub text-read : (c : ℕ) (x : StreamText) {n : ℕ} → Begins v (textOf v w) n x → r .kind ≡ 1 → isLexeme g c (textIn v x) ≡ hasForm g v (kindForm t (Text c)) w
-  text-read c x b h = ap (isLexeme g c) (b .text) ∙ text-is c h
+  pub text-read : (c : ℕ) (x : StreamText) {n : ℕ} → Begins v (textOf v (r .b) w) n x → r .kind ≡ 1 → isLexeme g c (textIn v x) ≡ hasForm g v (kindForm t (Text c)) w
+  text-read c x b h = ap (isLexeme g c) (b .text ∙ ap (λ (n : ℕ). textOf v n w) (f .b)) ∙ text-is c h
 
   pub text-other : (c : ℕ) → (r .kind ≡ 1 → ⊥) → false ≡ hasForm g v (kindForm t (Text c)) w
   unfolding hasForm asText onFound onlyIf

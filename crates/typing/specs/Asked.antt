@@ -10,7 +10,7 @@ use lib.Dec.{eqb}
 use Rattle.rules.specs.Records.{fieldA, fieldB, nth}
 use Rattle.rules.specs.Grammar.{productions, elementHeads}
 use Rattle.rules.specs.declared.Position.{Position}
-use Rattle.rules.specs.declared.Position.the-variants.{Class, Nonterminal, Repetition}
+use Rattle.rules.specs.declared.Position.the-variants.{Class, Nonterminal, Repetition, Nothing}
 
 -- those of the elements that are no keywords
 unfoldable pub askedAmong : List ℕ → List ℕ → List ℕ
@@ -22,10 +22,12 @@ askedOf g q = askedAmong g (elementHeads g q)
 
 -- what such an element asks for
 unfoldable pub positionNumbered : ℕ → ℕ → Position
-positionNumbered zero b = Repetition b
+positionNumbered zero b = Nothing
 positionNumbered (suc zero) b = Class b
 positionNumbered (suc (suc zero)) b = Nonterminal b
-positionNumbered (suc (suc (suc a))) b = Repetition b
+positionNumbered (suc (suc (suc zero))) b = Repetition b
+positionNumbered (suc (suc (suc (suc zero)))) b = Repetition b
+positionNumbered (suc (suc (suc (suc (suc a))))) b = Nothing
 
 unfoldable pub positionAt : List ℕ → ℕ → Position
 positionAt g e = positionNumbered (fieldA g e) (fieldB g e)

@@ -11,7 +11,7 @@ use records::element::size_of;
 use rules::Position;
 use stream::record::fetch;
 
-// What the element at e asks for, if it is no keyword.
+// What the element at e asks for. A keyword asks for nothing, and neither does an element whose form there isn't.
 pub fn position_at(g: &[u8], e: u16) -> Position
     requires { ⌜ streamLength (now g) ≡ none ⌝ }
     ensures { λ r. ⌜ r ≡ positionAt (now (g .entry)) e ⌝ }
@@ -21,7 +21,8 @@ pub fn position_at(g: &[u8], e: u16) -> Position
     match a {
         1 => Position::Class(r.b),
         2 => Position::Nonterminal(r.b),
-        _ => Position::Repetition(r.b),
+        3 | 4 => Position::Repetition(r.b),
+        _ => Position::Nothing,
     }
 }
 

@@ -39,6 +39,7 @@ fn asks_class(p: Position) -> Sought
         Position::Nonterminal(_) => Sought::Nothing,
         Position::Repetition(_) => Sought::Nothing,
         Position::Item(_) => Sought::Nothing,
+        Position::Nothing => Sought::Nothing,
     }
 }
 
@@ -51,6 +52,7 @@ pub fn asks_nonterminal(p: Position) -> Sought
         Position::Nonterminal(n) => Sought::Number(n),
         Position::Repetition(_) => Sought::Nothing,
         Position::Item(n) => Sought::Number(n),
+        Position::Nothing => Sought::Nothing,
     }
 }
 
@@ -63,6 +65,7 @@ pub fn asks_repetition(p: Position) -> Sought
         Position::Nonterminal(_) => Sought::Nothing,
         Position::Repetition(n) => Sought::Number(n),
         Position::Item(_) => Sought::Nothing,
+        Position::Nothing => Sought::Nothing,
     }
 }
 
@@ -75,6 +78,7 @@ pub fn asks_item(p: Position) -> Sought
         Position::Nonterminal(_) => Sought::Nothing,
         Position::Repetition(_) => Sought::Nothing,
         Position::Item(n) => Sought::Number(n),
+        Position::Nothing => Sought::Nothing,
     }
 }
 

@@ -18,11 +18,11 @@ use crate::Sought;
 use crate::kinds::type_of;
 use crate::templates::declared_type;
 use lexeme::admits;
-use records::text::text_of;
 use records::value::size_of;
 use stream::Fault;
 use stream::record::Record;
 use stream::record::fetch;
+use stream::text::text_after;
 
 // Whether the value at w, whose record is r, is of a kind, whatever stands below it.
 fn has_form(
@@ -40,7 +40,7 @@ fn has_form(
     match kind {
         Kind::Text(c) => {
             if r.kind == 1 {
-                admits(g, classes, sets, c, v, text_of(v, w, r))
+                admits(g, classes, sets, c, v, text_after(v, w, r.b as usize))
             } else {
                 false
             }

@@ -1,7 +1,7 @@
 -- The nodes of the templates' bodies: what stands below one is in the same body. Assumes nothing.
 use Prim.Native.Nat.{ℕ, zero, suc, _+_, _-_, _*_, _≤_, _<_}
 use mathlib.Core.Path.{_≡_, refl, sym, subst}
-use mathlib.Core.List.{List, [], _∷_}
+use mathlib.Core.List.{List, []}
 use mathlib.Core.Bool.{Bool, true, false, cond}
 use mathlib.Core.Option.{some}
 use native.Mathlib.Omega.{arith}
@@ -57,6 +57,9 @@ pub record Along (t : List ℕ) (node count item i : ℕ) : Type 0 where
 
 pub count-small : {s : List ℕ} {i : ℕ} {r : Record} → Fetched s i r → r .d < 65536
 count-small {s} {i} {r} f = let e = eight-bytes s i r f in omega (arith, e .byte7, f .small 7)
+
+pub size-small : {s : List ℕ} {i : ℕ} {r : Record} → Fetched s i r → r .c < 65536
+size-small {s} {i} {r} f = let e = eight-bytes s i r f in omega (arith, e .byte5, f .small 5)
 
 along-start : (t : List ℕ) (node : ℕ) (head : Record) (form : Form) → formOf t node ≡ form → nodesOf t form node ≡ nodes t node → Fetched t node head → Along t node (head .d) (node + 1) 0
 unfolding nodes

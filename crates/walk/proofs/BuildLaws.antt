@@ -8,9 +8,10 @@ use native.Mathlib.Omega.{arith}
 use lib.ListN.{length}
 use lib.Dec.{eqb, ltb}
 use borrow.Author.Tests.{lt-ltb, le-ltb, eq-eqb, ne-eqb}
-use Rattle.rules.specs.Records.{fieldA, fieldC, textOf, nth}
+use Rattle.rules.specs.Records.{fieldA, fieldB, fieldC, textOf, nth}
+use Rattle.rules.specs.Grammar.{elementAt}
 use Rattle.rules.specs.Value.{children}
-use Rattle.rules.specs.Walk.{State, End, stuck, write}
+use Rattle.rules.specs.Walk.{State, End, stuck, write, piece}
 use Rattle.rules.specs.declared.Form.the-variants.{Build}
 use Rattle.stream.specs.Record.{Fetched}
 use Rattle.stream.specs.declared.record.Record.{Record}
@@ -21,20 +22,22 @@ use Rattle.walk.specs.Run.{stateOf, Visited, RanFrom, VisitedFrom}
 use Rattle.walk.specs.Nodes.{afterAt, belowAt, endedAt, visitAt, formAt, writeAt}
 use Rattle.walk.specs.Asks.{Sources, Visitable, Formed}
 use Rattle.walk.proofs.RunLaws.{visited-ran, visited-stuck, Going, going-start, going-end, going-stop, going-next}
-use Rattle.walk.proofs.BodyLaws.{Along, count-small, along-build, along-below, along-next}
+use Rattle.walk.proofs.BodyLaws.{Along, count-small, size-small, along-build, along-below, along-next}
+use Rattle.walk.proofs.AskedLaws.{element-there}
 use Rattle.walk.proofs.FormLaws.{piecesLeft, pieces-done, pieces-more, build-is}
 use Rattle.walk.proofs.LoopLaws.{visits, formed-after, below-visitable, below-visited}
 
 -- the elements of a build, with the children that are left
 
 abbrev pub buildLeft : Sources → At → List ℕ → List ℕ → ℕ → ℕ → ℕ → ℕ → State → End
-buildLeft s at out₀ s₀ = piecesLeft (write (length out₀) (at .node)) (visits s at out₀ s₀) (s .grammar) (s .templates)
+buildLeft s at out₀ s₀ = piecesLeft (write (length out₀) (at .node)) (λ e. visits s at out₀ s₀ (piece e)) (s .grammar) (s .templates)
 
 pub record InBuild (s : Sources) (at : At) (out₀ s₀ : List ℕ) (place count children : ℕ) (out sc : List ℕ) (element child used : ℕ) (r : Run) (taken : ℕ) : Type 0 where
   pub along : Along (s .templates) (at .node) children child used
   pub place-few : place ≤ 65535
   pub count-few : count ≤ 65535
   pub used-few : used ≤ taken
+  pub some : 1 ≤ element
   pub near : element ≤ place + 1 + taken * 8193
   pub going : Going (buildLeft s at out₀ s₀ (count - taken) element (children - used) child) (formAt Build (s .grammar) (s .templates) (s .value) at out₀ s₀) at out₀ s₀ r out sc
 
@@ -49,11 +52,12 @@ module _ {s : Sources} {at : At} {out₀ s₀ : List ℕ} (formed : Formed Build
         place-few = omega arith;
         count-few = omega (arith, count-small h);
         used-few = omega arith;
+        some = omega arith;
         near = omega arith;
         going = going-start w (formed .visitable .room)
             (ap (λ (m : ℕ). buildLeft s at out₀ s₀ m (place + 1) (head .d - 0) (at .node + 1) (stateOf (at .steps) (at .bytes) out₀)) a
             ∙ ap (λ (m : ℕ). buildLeft s at out₀ s₀ (first .d) (place + 1) m (at .node + 1) (stateOf (at .steps) (at .bytes) out₀)) b
-            ∙ build-is (s .grammar) (s .templates) (s .value) (at .fuel) out₀ _ (at .node) _ _ (s .production-heads) (head .b) place (first .d) (head .d) (formed .visitable .lent .productions-are) (f .b) hq (h .d) (f .d));
+            ∙ build-is (s .grammar) (s .templates) (s .value) (at .fuel) out₀ _ _ (at .node) _ _ (s .production-heads) (head .b) place (first .d) (head .d) (formed .visitable .lent .productions-are) (f .b) hq (h .d) (f .d));
       }
 
   module _ {place count kids : ℕ} {out sc : List ℕ} {element child used : ℕ} {r : Run} {taken : ℕ} (inv : InBuild s at out₀ s₀ place count kids out sc element child used r taken) where
@@ -61,12 +65,12 @@ module _ {s : Sources} {at : At} {out₀ s₀ : List ℕ} (formed : Formed Build
     build-end h = going-end (inv .going) (pieces-done _ _ (s .grammar) (s .templates) count taken element kids used child h)
 
     module _ (more : taken < count) {e : Record} (f : Fetched (s .grammar) element e) {here : At} (e₁ : here ≡ afterAt at r) where
-      pub write-asks : Fetched (s .grammar) element e × (here .bytes ≤ length out)
-      write-asks = (f, rw e₁ (formed-after formed (inv .going) .visitable .room))
+      pub write-asks : here .bytes ≤ length out
+      write-asks = rw e₁ (formed-after formed (inv .going) .visitable .room)
 
       -- either way: what it came to ends the build, or the build goes on
       module _ {b : Bool} (way : eqb (fieldA (s .grammar) element) 0 ≡ b) {u : Run} {out′ sc′ : List ℕ} (v : Visited
-          (cond b (write (length out₀) (at .node) (textOf (s .grammar) element) (stateOf (r .steps) (r .bytes) out)) (cond (ltb used kids) (visits s at out₀ s₀ child (stateOf (r .steps) (r .bytes) out)) stuck))
+          (cond b (write (length out₀) (at .node) (textOf (s .grammar) (fieldB (s .grammar) element) element) (stateOf (r .steps) (r .bytes) out)) (cond (ltb used kids) (visits s at out₀ s₀ (piece (elementAt (s .grammar) element)) child (stateOf (r .steps) (r .bytes) out)) stuck))
           (r .steps) (r .bytes) u out out′ (at .base + at .vars) sc sc′) (len : length out′ ≡ length out) where
         piece-stop : (u .number ≡ 0 → ⊥) → VisitedFrom (formAt Build (s .grammar) (s .templates) (s .value) at out₀ s₀) at u out₀ out′ s₀ sc′
         piece-stop z = going-stop (inv .going) _ (pieces-more _ _ (s .grammar) (s .templates) count taken element kids used child more b way _) v len z
@@ -79,14 +83,14 @@ module _ {s : Sources} {at : At} {out₀ s₀ : List ℕ} (formed : Formed Build
             (going-next (inv .going) _ (pieces-more _ _ (s .grammar) (s .templates) count taken element kids used child more b way _) v len z lens)
 
       -- a keyword
-      module _ (k : e .a ≡ 0) {u : Run} {out′ : List ℕ} (v : RanFrom (writeAt here (textOf (s .grammar) element) out) here u out out′) (len : length out′ ≡ length out) where
+      module _ (k : e .a ≡ 0) {u : Run} {out′ : List ℕ} (v : RanFrom (writeAt here (textOf (s .grammar) (e .b) element) out) here u out out′) (len : length out′ ≡ length out) where
         is-keyword : eqb (fieldA (s .grammar) element) 0 ≡ true
         is-keyword = eq-eqb _ _ (sym (f .a) ∙ k)
 
         written : Visited
-            (write (length out₀) (at .node) (textOf (s .grammar) element) (stateOf (r .steps) (r .bytes) out))
+            (write (length out₀) (at .node) (textOf (s .grammar) (fieldB (s .grammar) element) element) (stateOf (r .steps) (r .bytes) out))
             (r .steps) (r .bytes) u out out′ (at .base + at .vars) sc sc
-        written = visited-ran _ sc (rw (e₁, inv .going .len) at v)
+        written = visited-ran _ sc (rw (e₁, inv .going .len, f .b) at v)
 
         pub keyword-stop : (u .number ≡ 0 → ⊥) → VisitedFrom (formAt Build (s .grammar) (s .templates) (s .value) at out₀ s₀) at u out₀ out′ s₀ sc
         keyword-stop z = piece-stop is-keyword written len z
@@ -97,6 +101,7 @@ module _ {s : Sources} {at : At} {out₀ s₀ : List ℕ} (formed : Formed Build
           place-few = inv .place-few;
           count-few = inv .count-few;
           used-few = omega (arith, inv .used-few);
+          some = omega (arith, inv .some);
           near = omega (arith, inv .near, hs .small);
           going = piece-next is-keyword written len z refl size hs;
         }
@@ -108,27 +113,32 @@ module _ {s : Sources} {at : At} {out₀ s₀ : List ℕ} (formed : Formed Build
 
         pub child-missing : kids ≤ used → {u : Run} → u ≡ endedAt 99 here → VisitedFrom (formAt Build (s .grammar) (s .templates) (s .value) at out₀ s₀) at u out₀ out s₀ sc
         child-missing l w =
-            piece-stop is-other (rw e₁ at (visited-stuck here {out = out} {s = sc} {e = cond (ltb used kids) (visits s at out₀ s₀ child (stateOf (r .steps) (r .bytes) out)) stuck} (write-asks .1) w (rw (le-ltb used kids l)))) refl
+            piece-stop is-other (rw e₁ at (visited-stuck here {out = out} {s = sc} {e = cond (ltb used kids) (visits s at out₀ s₀ (piece (elementAt (s .grammar) element)) child (stateOf (r .steps) (r .bytes) out)) stuck} write-asks w (rw (le-ltb used kids l)))) refl
             (λ z. let n : 99 ≡ 0 = sym (ap (λ (x : Run). x .number) w) ∙ z in omega arith)
 
-        module _ (l : used < kids) {there : At} (e₂ : there ≡ belowAt here child) where
+        module _ (l : used < kids) {there : At} (e₂ : there ≡ belowAt here child element) where
           pub child-visitable : Visitable s there out sc
           child-visitable = below-visitable formed (inv .going) e₁ e₂ (along-below (inv .along) l)
 
+          pub child-fetched : {next : Record} → Fetched (s .templates) child next → Fetched (s .templates) (there .node) next
+          child-fetched h = rw e₂ h
+
           module _ {u : Run} {out′ sc′ : List ℕ} (v : VisitedFrom (visitAt (s .grammar) (s .templates) (s .value) there out sc) there u out out′ sc sc′) (len : length out′ ≡ length out) where
-            child-visited : Visited (cond (ltb used kids) (visits s at out₀ s₀ child (stateOf (r .steps) (r .bytes) out)) stuck) (r .steps) (r .bytes) u out out′ (at .base + at .vars) sc sc′
-            child-visited = rw (lt-ltb used kids l) (below-visited formed (inv .going) e₁ e₂ v)
+            child-visited : Visited (cond (ltb used kids) (visits s at out₀ s₀ (piece (elementAt (s .grammar) element)) child (stateOf (r .steps) (r .bytes) out)) stuck) (r .steps) (r .bytes) u out out′ (at .base + at .vars) sc sc′
+            child-visited =
+                rw (lt-ltb used kids l, ← element-there (s .grammar) element (λ z. omega (arith, inv .some))) (below-visited formed (inv .going) e₁ e₂ v)
 
             pub child-stop : (u .number ≡ 0 → ⊥) → VisitedFrom (formAt Build (s .grammar) (s .templates) (s .value) at out₀ s₀) at u out₀ out′ s₀ sc′
             child-stop z = piece-stop is-other child-visited len z
 
-            pub child-next : u .number ≡ 0 → length sc′ ≡ length sc → (size : ℕ) → ElementSize e size → (long : ℕ) → long ≡ fieldC (s .templates) child → long < 65536
-                → InBuild s at out₀ s₀ place count kids out′ sc′ (element + size) (child + long) (used + 1) u (taken + 1)
-            child-next z lens size hs long hl h = record {
-              along = along-next (inv .along) long hl h;
+            pub child-next : u .number ≡ 0 → length sc′ ≡ length sc → (size : ℕ) → ElementSize e size → {next : Record} → Fetched (s .templates) child next
+                → InBuild s at out₀ s₀ place count kids out′ sc′ (element + size) (child + next .c) (used + 1) u (taken + 1)
+            child-next z lens size hs {next} h = record {
+              along = along-next (inv .along) (next .c) (h .c) (size-small h);
               place-few = inv .place-few;
               count-few = inv .count-few;
               used-few = omega (arith, inv .used-few);
+              some = omega (arith, inv .some);
               near = omega (arith, inv .near, hs .small);
-              going = rw hl (piece-next is-other child-visited len z lens size hs);
+              going = rw (h .c) (piece-next is-other child-visited len z lens size hs);
             }

@@ -2,8 +2,11 @@ pub mod PathLaws
 pub mod FrameLaws
 pub mod RunLaws
 pub mod BodyLaws
+pub mod AskedLaws
 pub mod FormLaws
+pub mod SeparatorLaws
 pub mod LoopLaws
+pub mod ForLaws
 pub mod BuildLaws
 pub mod EnterLaws
 pub mod StartLaws

@@ -1,33 +1,37 @@
 -- The loops of the walk: what they keep from turn to turn, and what the visit of a turn is lent. Assumes nothing.
-use Prim.Native.Nat.{ℕ, _+_, _-_, _≤_, _<_, _^_}
-use mathlib.Core.Path.{_≡_, refl, sym, ap, _∙_}
-use mathlib.Core.List.{List, [], _∷_, _++_}
-use mathlib.Core.Option.{some}
+use Prim.Native.Nat.{ℕ, zero, suc, _+_, _-_, _*_, _≤_, _<_, _^_}
+use mathlib.Core.Path.{_≡_, refl, ap, subst, _∙_}
+use mathlib.Core.List.{List}
+use mathlib.Core.Bool.{true, false}
 use native.Mathlib.Omega.{arith}
-use lib.ListN.{length, getD, drop}
-use Rattle.rules.specs.Records.{kindOf, fieldC, fieldD, heads}
-use Rattle.rules.specs.Value.{valueSize, children}
+use lib.ListN.{length}
+use Rattle.rules.specs.Records.{fieldC, heads}
+use Rattle.rules.specs.Grammar.{nonterminal}
+use Rattle.rules.specs.Templates.{formNumbered, formOf, isFor}
 use Rattle.rules.specs.Answers.{input}
-use Rattle.rules.specs.Walk.{State, End, pathValue, inOrder, visit}
+use Rattle.rules.specs.Walk
+use Rattle.rules.specs.Walk.{State, End, andThen, Asked, piece, separate, visitItem, inOrder, listed, itemsOf, visitIn, visit}
 use Rattle.rules.specs.declared.Form.{Form}
 use Rattle.rules.specs.declared.Form.the-variants.{For, Sequence}
-use Rattle.laws.specs.Lists.{drop-done, drop-more}
-use Rattle.laws.specs.Rows.{heads-done, heads-more, heads-all, length-heads}
+use Rattle.laws.specs.Rows.{heads-done, heads-more, heads-all}
 use Rattle.stream.specs.Record.{Fetched}
 use Rattle.stream.specs.declared.record.Record.{Record}
-use Rattle.records.specs.Children.{Stands}
 use Rattle.walk.specs.declared.at.At.{At}
+use Rattle.walk.specs.declared.separator.Separator.{Separator}
 use Rattle.walk.specs.declared.state.Run.{Run}
+use Rattle.walk.specs.declared.state.Turns.{Turns}
 use Rattle.walk.specs.Bodies.{NodeBelow}
-use Rattle.walk.specs.Frames.{frame, Bound}
-use Rattle.walk.specs.Run.{stateOf, Visited, VisitedFrom}
-use Rattle.walk.specs.Nodes.{afterAt, belowAt, boundAt, endedAt, visitAt, formAt}
+use Rattle.walk.specs.Frames.{frame}
+use Rattle.walk.specs.Run.{stateOf, Visited, RanFrom, VisitedFrom}
+use Rattle.walk.specs.Nodes.{afterAt, belowAt, endedAt, elementFor, askedAt, visitAt, formAt, filledAt, fillsAt, Between, separateAt}
+use Rattle.walk.specs.Turns.{Turned}
 use Rattle.walk.specs.Asks.{Sources, Follows, Visitable, Formed}
-use Rattle.walk.proofs.PathLaws.{held-more, child-there, child-stands}
-use Rattle.walk.proofs.FrameLaws.{frame-kept, take-less}
-use Rattle.walk.proofs.RunLaws.{visited-is, ran-is, Going, going-start, going-end, going-stop, going-next}
-use Rattle.walk.proofs.BodyLaws.{body-more, for-below, Along, count-small, along-sequence, along-below, along-next}
-use Rattle.walk.proofs.FormLaws.{order-done, order-more, sequence-is, for-is, visit-same}
+use Rattle.walk.proofs.FrameLaws.{frame-kept}
+use Rattle.walk.proofs.RunLaws.{visited-is, visited-ran, visited-stuck, Going, going-start, going-end, going-stop, going-next}
+use Rattle.walk.proofs.BodyLaws.{body-more, Along, size-small, along-sequence, along-below, along-next}
+use Rattle.walk.proofs.AskedLaws.{visit-any, fills-no, fills-yes}
+use Rattle.walk.proofs.SeparatorLaws.{then-then}
+use Rattle.walk.proofs.FormLaws.{order-done, order-more, sequence-none, sequence-is, visit-same}
 
 module _ {form : Form} {s : Sources} {at : At} {out sc : List ℕ} (formed : Formed form s at out sc) where
   pub vars-inside : at .base + at .vars < length sc
@@ -42,8 +46,8 @@ module _ {form : Form} {s : Sources} {at : At} {out sc : List ℕ} (formed : For
   }
 
   -- a node below, with the same variables
-  pub visitable-below : (child : ℕ) → NodeBelow (s .templates) (at .node) child → Visitable s (belowAt at child) out sc
-  visitable-below child b = record {
+  pub visitable-below : (child element : ℕ) → NodeBelow (s .templates) (at .node) child → Visitable s (belowAt at child element) out sc
+  visitable-below child element b = record {
     lent = formed .visitable .lent;
     near = omega (arith, formed .level, formed .visitable .near, b .near);
     in-body = body-more (formed .visitable .in-body) (b .stands);
@@ -54,8 +58,8 @@ module _ {form : Form} {s : Sources} {at : At} {out sc : List ℕ} (formed : For
   }
 
 -- the definition's visits of the nodes below, in the terms of the start
-abbrev pub visits : Sources → At → List ℕ → List ℕ → ℕ → State → End
-visits s at out₀ s₀ node = visit (input (s .grammar) (s .templates) (s .value) (at .fuel) out₀) (at .left - 1) node (frame (at .base) (at .vars) s₀)
+abbrev pub visits : Sources → At → List ℕ → List ℕ → Asked → ℕ → State → End
+visits s at out₀ s₀ asked node = visit (input (s .grammar) (s .templates) (s .value) (at .fuel) out₀) (at .left - 1) asked node (frame (at .base) (at .vars) s₀)
 
 -- after the run so far
 module _ {form : Form} {s : Sources} {at : At} {out₀ s₀ : List ℕ} (formed : Formed form s at out₀ s₀)
@@ -85,148 +89,182 @@ module _ {form : Form} {s : Sources} {at : At} {out₀ s₀ : List ℕ} (formed 
   after-falls e = rw e (omega (arith, inv .grown .steps-grow))
 
   -- a node below, and what its visit comes to
-  module _ {node : ℕ} {here there : At} (e₁ : here ≡ afterAt at r) (e₂ : there ≡ belowAt here node) where
+  module _ {node element : ℕ} {here there : At} (e₁ : here ≡ afterAt at r) (e₂ : there ≡ belowAt here node element) where
     pub below-visitable : NodeBelow (s .templates) (at .node) node → Visitable s there out sc
-    below-visitable b = rw (e₂, e₁) (visitable-below formed-after node b)
+    below-visitable b = rw (e₂, e₁) (visitable-below formed-after node element b)
 
     pub below-falls : there .fuel - there .steps ≤ at .fuel - at .steps
     below-falls = rw (e₂, e₁) (omega (arith, inv .grown .steps-grow))
 
+    pub below-node : there .node ≡ node
+    below-node = rw e₂
+
+    pub asked-visited : (asked : Asked) {u : Run} {out′ sc′ : List ℕ} → VisitedFrom (askedAt asked (s .grammar) (s .templates) (s .value) there out sc) there u out out′ sc sc′
+        → Visited (visits s at out₀ s₀ asked node (stateOf (r .steps) (r .bytes) out)) (r .steps) (r .bytes) u out out′ (at .base + at .vars) sc sc′
+    asked-visited asked v = visited-is (visit-same (s .grammar) (s .templates) (s .value) (at .fuel) (at .left - 1) asked node out out₀ _ _ _ (inv .len) same-frame) (rw (e₂, e₁) at v)
+
     pub below-visited : {u : Run} {out′ sc′ : List ℕ} → VisitedFrom (visitAt (s .grammar) (s .templates) (s .value) there out sc) there u out out′ sc sc′
-        → Visited (visits s at out₀ s₀ node (stateOf (r .steps) (r .bytes) out)) (r .steps) (r .bytes) u out out′ (at .base + at .vars) sc sc′
-    below-visited v = visited-is (visit-same (s .grammar) (s .templates) (s .value) (at .fuel) (at .left - 1) node out out₀ _ _ _ (inv .len) same-frame) (rw (e₂, e₁) at v)
+        → Visited (visits s at out₀ s₀ (piece (elementFor (s .grammar) element)) node (stateOf (r .steps) (r .bytes) out)) (r .steps) (r .bytes) u out out′ (at .base + at .vars) sc sc′
+    below-visited {u} {out′} {sc′} v =
+        let e : there .element ≡ element = rw e₂ in
+        asked-visited _ (subst (λ (n : ℕ). VisitedFrom (askedAt (piece (elementFor (s .grammar) n)) (s .grammar) (s .templates) (s .value) there out sc) there u out out′ sc sc′) e v)
 
--- the items of a sequence
+-- a record's form is that of a for, or is not
 
-abbrev pub itemsLeft : Sources → At → List ℕ → List ℕ → List ℕ → State → End
-itemsLeft s at out₀ s₀ = inOrder (visits s at out₀ s₀)
+pub is-for : {t : List ℕ} {p : ℕ} {r : Record} → Fetched t p r → r .a ≡ 5 → formOf t p ≡ For
+unfolding formOf formNumbered
+is-for f e = rw (← f .a, e)
 
-pub record InSequence (s : Sources) (at : At) (out₀ s₀ : List ℕ) (count : ℕ) (out sc : List ℕ) (item : ℕ) (r : Run) (visited : ℕ) : Type 0 where
+other-form : (a : ℕ) → (a ≡ 5 → ⊥) → isFor (formNumbered a) ≡ false
+unfolding isFor formNumbered
+other-form zero h = refl
+other-form (suc zero) h = refl
+other-form (suc (suc zero)) h = refl
+other-form (suc (suc (suc zero))) h = refl
+other-form (suc (suc (suc (suc zero)))) h = refl
+other-form (suc (suc (suc (suc (suc zero))))) h = absurd (h refl)
+other-form (suc (suc (suc (suc (suc (suc zero)))))) h = refl
+other-form (suc (suc (suc (suc (suc (suc (suc a))))))) h = refl
+
+not-for : {t : List ℕ} {p : ℕ} {r : Record} → Fetched t p r → (r .a ≡ 5 → ⊥) → isFor (formOf t p) ≡ false
+unfolding formOf
+not-for f h = other-form _ (λ e. h (f .a ∙ e))
+
+-- the nodes of a sequence, so many items before them
+
+abbrev pub itemsLeft : Sources → At → List ℕ → List ℕ → Separator → ℕ → List ℕ → State → End
+itemsLeft s at out₀ s₀ x =
+    let i = input (s .grammar) (s .templates) (s .value) (at .fuel) out₀ in
+    let env = frame (at .base) (at .vars) s₀ in
+    inOrder (itemsOf i env) (visitIn i (visit i (at .left - 1)) (filledAt (s .grammar) x) env)
+
+pub record InSequence (s : Sources) (at : At) (out₀ s₀ : List ℕ) (x : Separator) (count : ℕ) (out sc : List ℕ) (item items : ℕ) (r : Run) (visited : ℕ) : Type 0 where
   pub along : Along (s .templates) (at .node) count item visited
-  pub going : Going (itemsLeft s at out₀ s₀ (heads (fieldC (s .templates)) (count - visited) item)) (formAt Sequence (s .grammar) (s .templates) (s .value) at out₀ s₀) at out₀ s₀ r out sc
+  pub few : items ≤ visited * 65535
+  pub going : Going (itemsLeft s at out₀ s₀ x items (heads (fieldC (s .templates)) (count - visited) item)) (formAt Sequence (s .grammar) (s .templates) (s .value) at out₀ s₀) at out₀ s₀ r out sc
 
 module _ {s : Sources} {at : At} {out₀ s₀ : List ℕ} (formed : Formed Sequence s at out₀ s₀) where
-  pub sequence-start : {head : Record} → Fetched (s .templates) (at .node) head → {r : Run} → r ≡ endedAt 0 at → InSequence s at out₀ s₀ (head .d) out₀ s₀ (at .node + 1) r 0
-  sequence-start {head} f w = record {
+  pub sequence-lost : {e : Record} → Fetched (s .grammar) (at .element) e → fillsAt (at .element) e ≡ false → {r : Run} → r ≡ endedAt 99 at
+      → VisitedFrom (formAt Sequence (s .grammar) (s .templates) (s .value) at out₀ s₀) at r out₀ out₀ s₀ s₀
+  sequence-lost f h w =
+      visited-stuck at (formed .visitable .room) w
+      (sequence-none (s .grammar) (s .templates) (s .value) (at .fuel) out₀ _ _ (at .node) _ _ (fills-no (s .grammar) at f h))
+
+  pub sequence-start : {e head : Record} {x : Separator} → Fetched (s .grammar) (at .element) e → fillsAt (at .element) e ≡ true → Between at e x
+      → Fetched (s .templates) (at .node) head → {r : Run} → r ≡ endedAt 0 at → InSequence s at out₀ s₀ x (head .d) out₀ s₀ (at .node + 1) 0 r 0
+  sequence-start {head = head} {x = x} fe h between f w = record {
     along = along-sequence (formed .is) f;
+    few = omega arith;
     going = going-start w (formed .visitable .room)
-        (heads-all (λ xs. itemsLeft s at out₀ s₀ xs (stateOf (at .steps) (at .bytes) out₀)) (fieldC (s .templates)) (head .d) (at .node + 1) (f .d)
-        ∙ sequence-is (s .grammar) (s .templates) (s .value) (at .fuel) out₀ _ (at .node) _ _);
+        (heads-all (λ xs. itemsLeft s at out₀ s₀ x 0 xs (stateOf (at .steps) (at .bytes) out₀)) (fieldC (s .templates)) (head .d) (at .node + 1) (f .d)
+        ∙ sequence-is (s .grammar) (s .templates) (s .value) (at .fuel) out₀ _ _ (at .node) _ _ (filledAt (s .grammar) x) (fills-yes (s .grammar) at fe x between h));
   }
 
-  module _ {count : ℕ} {out sc : List ℕ} {item : ℕ} {r : Run} {visited : ℕ} (inv : InSequence s at out₀ s₀ count out sc item r visited) where
+  module _ {x : Separator} {count : ℕ} {out sc : List ℕ} {item items : ℕ} {r : Run} {visited : ℕ} (inv : InSequence s at out₀ s₀ x count out sc item items r visited) where
     pub sequence-end : count ≤ visited → VisitedFrom (formAt Sequence (s .grammar) (s .templates) (s .value) at out₀ s₀) at r out₀ out s₀ sc
-    sequence-end h = going-end (inv .going) (λ x. order-done _ x (heads-done (fieldC (s .templates)) count visited item h))
+    sequence-end h = going-end (inv .going) (λ y. order-done _ _ _ y (heads-done (fieldC (s .templates)) count visited item h))
 
-    module _ (more : visited < count) {here there : At} (e₁ : here ≡ afterAt at r) (e₂ : there ≡ belowAt here item) where
-      pub sequence-visitable : Visitable s there out sc
-      sequence-visitable = below-visitable formed (inv .going) e₁ e₂ (along-below (inv .along) more)
+    pub items-few : visited < count → items < 2 ^ 32
+    items-few h = omega (arith, inv .few, inv .along .few)
 
-      module _ {u : Run} {out′ sc′ : List ℕ} (v : VisitedFrom (visitAt (s .grammar) (s .templates) (s .value) there out sc) there u out out′ sc sc′) (len : length out′ ≡ length out) where
-        pub sequence-stop : (u .number ≡ 0 → ⊥) → VisitedFrom (formAt Sequence (s .grammar) (s .templates) (s .value) at out₀ s₀) at u out₀ out′ s₀ sc′
-        sequence-stop z = going-stop (inv .going) _ (order-more _ _ (heads-more (fieldC (s .templates)) count visited item more (fieldC (s .templates) item) refl)) (below-visited formed (inv .going) e₁ e₂ v) len z
+    module _ (more : visited < count) {next : Record} (f : Fetched (s .templates) item next) where
+      -- one node of the sequence, and the nodes after it
+      abbrev nodesAfter : ℕ → State → End
+      nodesAfter n = itemsLeft s at out₀ s₀ x n (heads (fieldC (s .templates)) (count - (visited + 1)) (item + next .c))
 
-        pub sequence-next : u .number ≡ 0 → length sc′ ≡ length sc → (size : ℕ) → size ≡ fieldC (s .templates) item → size < 65536
-            → InSequence s at out₀ s₀ count out′ sc′ (item + size) u (visited + 1)
-        sequence-next z lens size e l = record {
-          along = along-next (inv .along) size e l;
-          going = going-next (inv .going) _ (order-more _ _ (heads-more (fieldC (s .templates)) count visited item more size e)) (below-visited formed (inv .going) e₁ e₂ v) len z lens;
-        }
+      abbrev brings : ℕ
+      brings = itemsOf (input (s .grammar) (s .templates) (s .value) (at .fuel) out₀) (frame (at .base) (at .vars) s₀) item
 
--- the items of a for's list, each the last variable in turn
+      row-more : {e : End} (y : State) → visitIn (input (s .grammar) (s .templates) (s .value) (at .fuel) out₀) (visit (input (s .grammar) (s .templates) (s .value) (at .fuel) out₀) (at .left - 1)) (filledAt (s .grammar) x) (frame (at .base) (at .vars) s₀) items item y ≡ e
+          → itemsLeft s at out₀ s₀ x items (heads (fieldC (s .templates)) (count - visited) item) y ≡ andThen e (nodesAfter (items + brings))
+      row-more y way = order-more _ _ items y (heads-more (fieldC (s .templates)) count visited item more (next .c) (f .c)) ∙ ap (λ (e : End). andThen e (nodesAfter (items + brings))) way
 
-abbrev pub listLeft : Sources → At → List ℕ → List ℕ → List ℕ → State → End
-listLeft s at out₀ s₀ = inOrder (λ x. visit (input (s .grammar) (s .templates) (s .value) (at .fuel) out₀) (at .left - 1) (at .node + 2) (frame (at .base) (at .vars) s₀ ++ x ∷ []))
+      pub sequence-along : Along (s .templates) (at .node) count (item + next .c) (visited + 1)
+      sequence-along = along-next (inv .along) (next .c) (f .c) (size-small f)
 
-pub record InFor (s : Sources) (at : At) (out₀ s₀ : List ℕ) (w count : ℕ) (out sc : List ℕ) (r : Run) (done : ℕ) : Type 0 where
-  pub value : Stands (s .value) w
-  pub list : kindOf (s .value) w ≡ 3
-  pub counted : count ≡ fieldD (s .value) w
-  pub few : count ≤ 65535
-  pub going : Going (listLeft s at out₀ s₀ (drop done (children (s .value) w))) (formAt For (s .grammar) (s .templates) (s .value) at out₀ s₀) at out₀ s₀ r out sc
+      pub item-below : NodeBelow (s .templates) (at .node) item
+      item-below = along-below (inv .along) more
 
-module _ {s : Sources} {at : At} {out₀ s₀ : List ℕ} (formed : Formed For s at out₀ s₀) where
-  pub for-start : (w : ℕ) → pathValue (s .templates) (s .value) (frame (at .base) (at .vars) s₀) (at .node + 1) ≡ some w → Stands (s .value) w
-      → (list : Record) → Fetched (s .value) w list → list .kind ≡ 3 → {r : Run} → r ≡ endedAt 0 at → InFor s at out₀ s₀ w (list .d) out₀ s₀ r 0
-  for-start w got value list f k e = record {
-    value = value;
-    list = sym (f .kind) ∙ k;
-    counted = f .d;
-    few = omega (arith, count-small f);
-    going = going-start e (formed .visitable .room) (for-is (s .grammar) (s .templates) (s .value) (at .fuel) out₀ _ (at .node) _ _ w got (list .kind) (f .kind) k);
-  }
+      -- a for among them
+      module _ (k : next .a ≡ 5) {here there : At} (e₁ : here ≡ afterAt at r) (e₂ : there ≡ belowAt here item 0) where
+        pub turns-visitable : Visitable s there out sc
+        turns-visitable = below-visitable formed (inv .going) e₁ e₂ item-below
 
-  module _ {w count : ℕ} {out sc : List ℕ} {r : Run} {done : ℕ} (inv : InFor s at out₀ s₀ w count out sc r done) where
-    length-list : length (children (s .value) w) ≡ count
-    unfolding children
-    length-list = length-heads (valueSize (s .value)) (fieldD (s .value) w) (w + 1) ∙ sym (inv .counted)
+        pub turns-for : formOf (s .templates) (there .node) ≡ For
+        turns-for = rw (below-node formed (inv .going) e₁ e₂) (is-for f k)
 
-    pub for-end : count ≤ done → VisitedFrom (formAt For (s .grammar) (s .templates) (s .value) at out₀ s₀) at r out₀ out s₀ sc
-    for-end h = going-end (inv .going) (λ x. order-done _ x (drop-done (children (s .value) w) done (omega (arith, length-list))))
+        abbrev asFor : Asked
+        asFor = Walk.items (filledAt (s .grammar) x) items
 
-    pub for-slot : at .base + at .vars < length sc
-    for-slot = omega (arith, vars-inside formed, inv .going .lens)
+        turns-row : (y : State) → itemsLeft s at out₀ s₀ x items (heads (fieldC (s .templates)) (count - visited) item) y
+            ≡ andThen (visits s at out₀ s₀ asFor item y) (nodesAfter (items + brings))
+        unfolding visitIn isFor input
+        turns-row y = row-more y (rw (is-for f k))
 
-    pub for-vars : {here there : At} → here ≡ afterAt at r → there ≡ belowAt here (at .node + 2) → there .vars < 2 ^ 16
-    for-vars e₁ e₂ = rw (e₂, e₁) (omega (arith, formed .visitable .alive))
+        module _ {u : Turns} {out′ sc′ : List ℕ} (v : Turned (s .grammar) (s .templates) (s .value) x items there u out out′ sc sc′) (len : length out′ ≡ length out) where
+          turns-visited : Visited (visits s at out₀ s₀ asFor item (stateOf (r .steps) (r .bytes) out)) (r .steps) (r .bytes) (u .run) out out′ (at .base + at .vars) sc sc′
+          turns-visited = asked-visited formed (inv .going) e₁ e₂ _ (v .visited)
 
-    module _ (more : done < count) where
-      parent : 3 ≤ kindOf (s .value) w
-      parent = omega (arith, inv .list)
+          pub turns-stop : (u .run .number ≡ 0 → ⊥) → VisitedFrom (formAt Sequence (s .grammar) (s .templates) (s .value) at out₀ s₀) at (u .run) out₀ out′ s₀ sc′
+          turns-stop z = going-stop (inv .going) _ (turns-row _) turns-visited len z
 
-      inside : done < fieldD (s .value) w
-      inside = omega (arith, inv .counted)
+          -- how many it brings does not hang on the output
+          brought : u .run .number ≡ 0 → u .items ≡ items + brings
+          unfolding itemsOf listed input
+          brought z = rw (← same-frame formed (inv .going)) (rw (e₂, e₁) at (v .more z))
 
-      pub for-there : (w < length (s .firsts)) × (getD (s .firsts) w 0 + done < length (s .places))
-      for-there = let c = child-there (s .value) (s .firsts) (s .places) (formed .visitable .lent .value-lent .children) w (inv .value) parent done inside in (c .head, c .entry)
-
-      module _ (item : ℕ) (is : item ≡ getD (s .places) (getD (s .firsts) w 0 + done) 0) (sc₁ : List ℕ) (bound : Bound (at .base) (at .vars) item sc sc₁) (lens₁ : length sc₁ ≡ length sc)
-          {here there inner : At} (e₁ : here ≡ afterAt at r) (e₂ : there ≡ belowAt here (at .node + 2)) (e₃ : inner ≡ boundAt there) where
-        item-is : item ≡ getD (children (s .value) w) done 0
-        item-is = is ∙ child-there (s .value) (s .firsts) (s .places) (formed .visitable .lent .value-lent .children) w (inv .value) parent done inside .is
-
-        item-stands : Stands (s .value) item
-        item-stands = rw item-is (child-stands (s .value) (s .firsts) (s .places) (formed .visitable .lent .value-lent .children) w (inv .value) parent done inside)
-
-        stacked : frame (at .base) (at .vars + 1) sc₁ ≡ frame (at .base) (at .vars) s₀ ++ item ∷ []
-        stacked = bound .more ∙ ap (λ (l : List ℕ). l ++ item ∷ []) (same-frame formed (inv .going))
-
-        pub for-visitable : Visitable s inner out sc₁
-        for-visitable = rw (e₃, e₂, e₁) (record {
-          lent = formed .visitable .lent;
-          near = omega (arith, formed .level, formed .visitable .near);
-          in-body = body-more (formed .visitable .in-body) (for-below (s .templates) (at .node) (formed .is) .stands);
-          alive = omega (arith, formed .level, formed .visitable .alive);
-          stored = omega (arith, formed .visitable .stored, inv .going .lens, lens₁);
-          held = λ l. rw stacked (held-more (s .value) (frame (at .base) (at .vars) s₀) item (formed .visitable .held (formed .level)) item-stands);
-          room = omega (arith, inv .going .grown .inside, inv .going .len);
-        })
-
-        pub for-falls : inner .fuel - inner .steps ≤ at .fuel - at .steps
-        for-falls = rw (e₃, e₂, e₁) (omega (arith, inv .going .grown .steps-grow))
-
-        module _ {u : Run} {out′ sc′ : List ℕ} (v : VisitedFrom (visitAt (s .grammar) (s .templates) (s .value) inner out sc₁) inner u out out′ sc₁ sc′) (len : length out′ ≡ length out) where
-          v′ : VisitedFrom (visitAt (s .grammar) (s .templates) (s .value) (boundAt (belowAt (afterAt at r) (at .node + 2))) out sc₁) (boundAt (belowAt (afterAt at r) (at .node + 2))) u out out′ sc₁ sc′
-          v′ = rw (e₃, e₂, e₁) at v
-
-          for-visited : Visited (visit (input (s .grammar) (s .templates) (s .value) (at .fuel) out₀) (at .left - 1) (at .node + 2) (frame (at .base) (at .vars) s₀ ++ item ∷ []) (stateOf (r .steps) (r .bytes) out))
-              (r .steps) (r .bytes) u out out′ (at .base + at .vars) sc sc′
-          for-visited = record {
-            ran = ran-is (visit-same (s .grammar) (s .templates) (s .value) (at .fuel) (at .left - 1) (at .node + 2) out out₀ _ _ _ (inv .going .len) stacked) (v′ .ran);
-            kept = take-less (at .base + at .vars) (at .base + (at .vars + 1)) sc′ sc₁ (omega arith) (v′ .kept) ∙ bound .kept;
+          pub turns-next : u .run .number ≡ 0 → length sc′ ≡ length sc → InSequence s at out₀ s₀ x count out′ sc′ (item + next .c) (u .items) (u .run) (visited + 1)
+          turns-next z lens = record {
+            along = sequence-along;
+            few = omega (arith, inv .few, v .few);
+            going = rw (brought z) (going-next (inv .going) _ (turns-row _) turns-visited len z lens);
           }
 
-          rest-is : drop done (children (s .value) w) ≡ item ∷ drop (done + 1) (children (s .value) w)
-          rest-is = drop-more (children (s .value) w) done (omega (arith, length-list)) ∙ ap (λ (x : ℕ). x ∷ drop (done + 1) (children (s .value) w)) (sym item-is)
+      -- any other node is one item
+      module _ (k : next .a ≡ 5 → ⊥) {here : At} (e₁ : here ≡ afterAt at r) where
+        pub apart-room : here .bytes ≤ length out
+        apart-room = rw e₁ (formed-after formed (inv .going) .visitable .room)
 
-          pub for-stop : (u .number ≡ 0 → ⊥) → VisitedFrom (formAt For (s .grammar) (s .templates) (s .value) at out₀ s₀) at u out₀ out′ s₀ sc′
-          for-stop z = going-stop (inv .going) _ (order-more _ _ rest-is) for-visited len z
+        abbrev itemRest : State → End
+        itemRest y = andThen (visits s at out₀ s₀ (piece (nonterminal (filledAt (s .grammar) x .nonterminal))) item y) (nodesAfter (items + 1))
 
-          pub for-next : u .number ≡ 0 → length sc′ ≡ length sc₁ → InFor s at out₀ s₀ w count out′ sc′ u (done + 1)
-          for-next z lens = record {
-            value = inv .value;
-            list = inv .list;
-            counted = inv .counted;
-            few = inv .few;
-            going = going-next (inv .going) _ (order-more _ _ rest-is) for-visited len z (lens ∙ lens₁);
-          }
+        apart-row : itemsLeft s at out₀ s₀ x items (heads (fieldC (s .templates)) (count - visited) item) (stateOf (r .steps) (r .bytes) out)
+            ≡ andThen (separate (length out₀) (filledAt (s .grammar) x) items (stateOf (r .steps) (r .bytes) out)) itemRest
+        unfolding visitIn visitItem itemsOf input
+        apart-row = row-more _ refl ∙ rw (not-for f k) (then-then _ _ _)
+
+        module _ {u : Run} {out′ : List ℕ} (v : RanFrom (separateAt (s .grammar) x items here out) here u out out′) (len : length out′ ≡ length out) where
+          apart-visited : Visited (separate (length out₀) (filledAt (s .grammar) x) items (stateOf (r .steps) (r .bytes) out)) (r .steps) (r .bytes) u out out′ (at .base + at .vars) sc sc
+          apart-visited = visited-ran _ sc (rw (e₁, inv .going .len) at v)
+
+          pub apart-stop : (u .number ≡ 0 → ⊥) → VisitedFrom (formAt Sequence (s .grammar) (s .templates) (s .value) at out₀ s₀) at u out₀ out′ s₀ sc
+          apart-stop z = going-stop (inv .going) _ apart-row apart-visited len z
+
+          module _ (z : u .number ≡ 0) where
+            apart-going : Going itemRest (formAt Sequence (s .grammar) (s .templates) (s .value) at out₀ s₀) at out₀ s₀ u out′ sc
+            apart-going = going-next (inv .going) _ apart-row apart-visited len z refl
+
+            module _ {after there : At} (e₂ : after ≡ afterAt at u) (e₃ : there ≡ belowAt after item 0) where
+              pub item-visitable : Visitable s there out′ sc
+              item-visitable = below-visitable formed apart-going e₂ e₃ item-below
+
+              pub item-falls : there .fuel - there .steps ≤ at .fuel - at .steps
+              item-falls = below-falls formed apart-going e₂ e₃
+
+              pub item-fetched : Fetched (s .templates) (there .node) next
+              item-fetched = rw (below-node formed apart-going e₂ e₃) f
+
+              module _ {w : Run} {out″ sc′ : List ℕ} (v′ : VisitedFrom (visitAt (s .grammar) (s .templates) (s .value) there out′ sc) there w out′ out″ sc sc′) (len′ : length out″ ≡ length out′) where
+                item-visited : Visited (visits s at out₀ s₀ (piece (nonterminal (filledAt (s .grammar) x .nonterminal))) item (stateOf (u .steps) (u .bytes) out′)) (u .steps) (u .bytes) w out′ out″ (at .base + at .vars) sc sc′
+                unfolding elementFor
+                item-visited = visited-is (visit-any _ _ _ _ _ _ _) (below-visited formed apart-going e₂ e₃ v′)
+
+                pub item-stop : (w .number ≡ 0 → ⊥) → VisitedFrom (formAt Sequence (s .grammar) (s .templates) (s .value) at out₀ s₀) at w out₀ out″ s₀ sc′
+                item-stop y = going-stop apart-going _ refl item-visited len′ y
+
+                pub item-next : w .number ≡ 0 → length sc′ ≡ length sc → InSequence s at out₀ s₀ x count out″ sc′ (item + next .c) (items + 1) w (visited + 1)
+                item-next y lens = record {
+                  along = sequence-along;
+                  few = omega (arith, inv .few);
+                  going = going-next apart-going _ refl item-visited len′ y lens;
+                }

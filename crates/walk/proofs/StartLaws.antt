@@ -1,7 +1,7 @@
 -- The whole walk: its first visit, of template 0's body with the value as its one variable, and what it leaves. Assumes nothing.
-use Prim.Native.Nat.{ℕ, _+_, _*_, _≤_, _<_}
+use Prim.Native.Nat.{ℕ, _+_, _≤_, _<_}
 use mathlib.Core.Path.{_≡_, refl, sym, ap, _∙_}
-use mathlib.Core.List.{List, [], _∷_, _++_}
+use mathlib.Core.List.{List, [], _++_}
 use mathlib.Core.Option.{none, some}
 use native.Mathlib.Omega.{arith}
 use lib.ListN.{length, take, drop, replicate, take-append-drop}
@@ -11,16 +11,19 @@ use Rattle.rules.specs.Limits.{deepest}
 use Rattle.rules.specs.Answers.{input, scratchNeeded}
 use Rattle.rules.specs.Walk.{stuck, start, walk}
 use Rattle.laws.specs.Faults.{on-none, on-some}
+use Rattle.stream.specs.Record.{Fetched}
+use Rattle.stream.specs.declared.record.Record.{Record}
 use Rattle.records.specs.Children.{whole}
 use Rattle.walk.specs.declared.at.At.{At}
 use Rattle.walk.specs.declared.state.Run.{Run}
-use Rattle.walk.specs.Frames.{frame, Bound}
+use Rattle.walk.specs.Frames.{Bound}
 use Rattle.walk.specs.Run.{Grown, Ran, VisitedFrom, Walked}
-use Rattle.walk.specs.Nodes.{startAt, endedAt, visitAt}
+use Rattle.walk.specs.Nodes.{startAt, endedAt, elementFor, visitAt}
 use Rattle.walk.specs.Asks.{Sources, Walkable, Visitable, mostStored}
 use Rattle.walk.proofs.PathLaws.{held-none, held-more}
 use Rattle.walk.proofs.RunLaws.{ran-is, ran-stuck}
 use Rattle.walk.proofs.BodyLaws.{body-first}
+use Rattle.walk.proofs.AskedLaws.{visit-any}
 
 -- what a run leaves: its text, then the output as it was
 left-output : (steps bytes : ℕ) (r : Run) (out out′ : List ℕ) → Grown steps bytes r out out′ → out′ ≡ take (r .bytes) out′ ++ drop (r .bytes) out
@@ -66,8 +69,11 @@ module _ {s : Sources} {sc : List ℕ} (walkable : Walkable s sc) where
     })
 
     walk-is : (out : List ℕ) → visitAt (s .grammar) (s .templates) (s .value) (startAt b fuel) out sc₁ ≡ walk (input (s .grammar) (s .templates) (s .value) fuel out)
-    unfolding walk template input deepest start
-    walk-is out = rw (bound .more, hb) (sym (on-some stuck _ found))
+    unfolding walk template input deepest start elementFor
+    walk-is out = rw (bound .more, hb) (visit-any _ _ _ _ _ _ _ ∙ sym (on-some stuck _ found))
+
+    pub start-fetched : {head : Record} → Fetched (s .templates) b head → Fetched (s .templates) (at .node) head
+    start-fetched f = rw is f
 
     pub start-walked : {r : Run} {out out′ sc₂ sc′ : List ℕ} → VisitedFrom (visitAt (s .grammar) (s .templates) (s .value) at out sc₁) at r out out′ sc₁ sc₂
         → length sc₂ ≡ length sc₁ → sc′ ≡ replicate (length sc₂) 0 → Walked (s .grammar) (s .templates) (s .value) fuel r out out′ sc sc′

@@ -2,21 +2,19 @@
 use Prim.Native.Nat.{ℕ, _+_, _*_, _≤_}
 use mathlib.Core.Path.{_≡_}
 use mathlib.Core.List.{List}
-use mathlib.Core.Bool.{Bool, true}
-use mathlib.Core.Option.{none}
+use mathlib.Core.Option.{none, some}
 use lib.ListN.{length}
 use Rattle.rules.specs.Blocks.{streamLength}
 use Rattle.rules.specs.Grammar.{productions}
-use Rattle.rules.specs.Templates.{templates, formOf}
+use Rattle.rules.specs.Records.{kindOf, fieldD}
+use Rattle.rules.specs.Templates.{templates, formOf, path}
+use Rattle.rules.specs.Walk.{pathValue}
 use Rattle.rules.specs.Answers.{scratchNeeded}
 use Rattle.rules.specs.declared.Form.{Form}
-use Rattle.rules.specs.declared.Form.the-variants.{Build}
-use Rattle.stream.specs.Record.{Fetched}
-use Rattle.stream.specs.declared.record.Record.{Record}
-use Rattle.records.specs.Children.{Children}
+use Rattle.records.specs.Children.{Stands, Children}
 use Rattle.walk.specs.declared.at.At.{At}
 use Rattle.walk.specs.Frames.{frame, Held}
-use Rattle.walk.specs.Bodies.{FewPaths, InBody, NodeBelow}
+use Rattle.walk.specs.Bodies.{FewPaths, InBody}
 
 -- what a walk reads: the three streams, and the tables of productions, of templates, and of the value's children
 pub record Sources : Type 0 where
@@ -79,6 +77,14 @@ pub record Visitable (s : Sources) (at : At) (out scratch : List ℕ) : Type 0 w
   pub stored : mostStored ≤ length scratch
   pub held : 1 ≤ at .left → Held (s .value) (frame (at .base) (at .vars) scratch)
   pub room : at .bytes ≤ length out
+
+-- the path of a for finds the list at w, which has so many items
+pub record Listed (t v : List ℕ) (at : At) (scratch : List ℕ) (w count : ℕ) : Type 0 where
+  pub found : pathValue t v (frame (at .base) (at .vars) scratch) (path (at .node)) ≡ some w
+  pub stands : Stands v w
+  pub list : kindOf v w ≡ 3
+  pub counted : count ≡ fieldD v w
+  pub few : count ≤ 65535
 
 -- a node of a form, which a level is left for
 pub record Formed (form : Form) (s : Sources) (at : At) (out scratch : List ℕ) : Type 0 where

@@ -2,5 +2,6 @@ pub mod Run
 pub mod Lookups
 pub mod Frames
 pub mod Nodes
+pub mod Turns
 pub mod Bodies
 pub mod Asks

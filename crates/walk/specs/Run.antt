@@ -9,6 +9,7 @@ use Rattle.rules.specs.Walk.{State, fuel-spent, too-deep, output-full, End, don
 use Rattle.rules.specs.Answers.{input}
 use Rattle.walk.specs.declared.at.At.{At}
 use Rattle.walk.specs.declared.state.Run.{Run}
+use Rattle.walk.specs.declared.state.Turns.{Turns}
 
 -- the state of a run: its steps, and the text that it has written
 abbrev pub stateOf : ℕ → ℕ → List ℕ → State
@@ -16,6 +17,9 @@ stateOf steps bytes out = record { steps = steps; text = take bytes out }
 
 abbrev pub runOf : ℕ → ℕ → ℕ → ℕ → Run
 runOf number place steps bytes = record { number = number; place = place; steps = steps; bytes = bytes }
+
+abbrev pub turnsOf : Run → ℕ → Turns
+turnsOf run items = record { run = run; items = items }
 
 -- the end that a run's number says
 unfoldable pub endNumbered : ℕ → ℕ → State → End

@@ -1,13 +1,16 @@
 // A node to visit, how it is made from another, and the runs that end or go on there.
 ghost use mathlib.Core.Path.{_≡_};
 ghost use Prim.Native.Nat.{_≤_, _<_, _^_};
-ghost use Rattle.walk.specs.Nodes.{countedAt, afterAt, belowAt, boundAt, framedAt, endedAt};
+ghost use lib.Dec.{leb};
+ghost use Rattle.walk.specs.Nodes.{countedAt, afterAt, belowAt, placedAt, boundAt, framedAt, endedAt};
 use crate::state::Run;
 
-// Its place; its variables, `vars` numbers of the scratch from `base` on; the levels that are left, its own among them; all the fuel; the
-// steps and the bytes so far.
+// Its place; the record of the element that it stands for, which says what its position asks for, or 0 where it stands for none: a body, an item,
+// a for; its variables, `vars` numbers of the scratch from `base` on; the levels that are left, its own among them; all the fuel; the steps and
+// the bytes so far.
 pub struct At {
     pub node: usize,
+    pub element: usize,
     pub base: usize,
     pub vars: usize,
     pub left: usize,
@@ -17,6 +20,13 @@ pub struct At {
 }
 
 impl At {
+    // All fuel is used.
+    pub fn spent(self) -> bool
+        ensures { λ r. ⌜ r ≡ leb (self .fuel) (self .steps) ⌝ }
+    {
+        self.fuel <= self.steps
+    }
+
     // The node, its step counted.
     pub fn counted(mut self) -> At
         requires { ⌜ self .steps < self .fuel ⌝ }
@@ -35,13 +45,22 @@ impl At {
         self
     }
 
-    // A node one level below, with the same variables.
-    pub fn below(mut self, node: usize) -> At
+    // A node one level below, for an element, with the same variables.
+    pub fn below(mut self, node: usize, element: usize) -> At
         requires { ⌜ 1 ≤ self .left ⌝ }
-        ensures { λ r. ⌜ r ≡ belowAt self node ⌝ }
+        ensures { λ r. ⌜ r ≡ belowAt self node element ⌝ }
     {
         self.node = node;
+        self.element = element;
         self.left -= 1;
+        self
+    }
+
+    // Another node, with all else the same.
+    pub fn placed(mut self, node: usize) -> At
+        ensures { λ r. ⌜ r ≡ placedAt self node ⌝ }
+    {
+        self.node = node;
         self
     }
 

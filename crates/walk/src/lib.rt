@@ -8,6 +8,7 @@ ghost use Rattle.walk.specs.Run.{Walked};
 
 mod at;
 mod paths;
+mod separator;
 pub mod state;
 mod tables;
 mod variables;
@@ -17,6 +18,7 @@ mod writer;
 use at::At;
 use at::stuck;
 use state::Run;
+use stream::record::fetch;
 use tables::Lookup;
 use tables::head_at;
 use variables::bind;
@@ -43,6 +45,7 @@ fn start(node: usize, fuel: u32) -> At
 {
     At {
         node: node,
+        element: 0,
         base: 0,
         vars: 1,
         left: LEVELS,
@@ -85,6 +88,7 @@ pub fn run(
         out,
         scratch,
         start(body, fuel),
+        fetch(t, body),
     );
     clear(scratch);
     r

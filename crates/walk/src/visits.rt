@@ -4,21 +4,28 @@
 ghost use mathlib.Core.Path.{_≡_};
 ghost use mathlib.Core.Bool.{cond};
 ghost use mathlib.Core.Option.{none};
-ghost use Prim.Native.Nat.{_+_, _≤_, _<_};
+ghost use Prim.Native.Nat.{_+_, _≤_, _<_, _^_};
 ghost use lib.Dec.{eqb};
 ghost use Rattle.rules.specs.Blocks.{streamLength};
-ghost use Rattle.rules.specs.Templates.{body, first, second};
+ghost use Rattle.rules.specs.Templates.{body, formOf, first, second};
 ghost use Rattle.stream.specs.Record.{Fetched};
-ghost use Rattle.walk.specs.Asks.{InReach, sources, Visitable, Formed};
-ghost use Rattle.walk.specs.Nodes.{visitAt, formAt};
+ghost use Rattle.walk.specs.Asks.{InReach, sources, Visitable, Formed, Listed};
+ghost use Rattle.walk.specs.Nodes.{visitAt, formAt, turnsAt};
 ghost use Rattle.walk.specs.Run.{VisitedFrom};
+ghost use Rattle.walk.specs.Turns.{Turned};
 use crate::at::At;
 use crate::at::ended;
 use crate::at::going;
 use crate::at::stuck;
 use crate::paths::pass;
 use crate::paths::path_value;
+use crate::separator::Separator;
+use crate::separator::fills;
+use crate::separator::separate;
+use crate::separator::separator_of;
 use crate::state::Run;
+use crate::state::Turns;
+use crate::state::turned;
 use crate::tables::Lookup;
 use crate::tables::child_at;
 use crate::tables::head_at;
@@ -27,7 +34,9 @@ use crate::writer::place;
 use crate::writer::write;
 use records::element::size_of;
 use records::node::form_of;
+use records::node::is_for;
 use records::node::size_at;
+use records::node::size_in;
 use rules::Form;
 use stream::record::Record;
 use stream::record::fetch;
@@ -53,7 +62,8 @@ fn branch_of(t: &[u8], node: usize, a: u8) -> usize
     yes + size_at(t, yes)
 }
 
-// A sequence visits its items in order.
+// A sequence visits its items in order, with its separator between them; n of them so far. A for among them brings any number. The two ways stay apart
+// until the next turn, as those of a build.
 fn sequence_items(
     g: &[u8],
     t: &[u8],
@@ -70,24 +80,103 @@ fn sequence_items(
     requires { ⌜ (Formed Form.Sequence (sources (now g) (now t) (now v) (now ps) (now ts) (now firsts) (now places)) at (now out) (now scratch)) × (Fetched (now t) (at .node) head) ⌝ }
     ensures { λ r. ⌜ VisitedFrom (formAt Form.Sequence (now (g .entry)) (now (t .entry)) (now (v .entry)) at (now (out .entry)) (now (scratch .entry))) at r (now (out .entry)) (now (out .exit)) (now (scratch .entry)) (now (scratch .exit)) ⌝ }
 {
+    let e = fetch(g, at.element);
+    if !fills(at.element, e) {
+        return stuck(at);
+    }
+    let sep = separator_of(at, e);
     let count = head.d;
     let mut item = at.node + 1;
+    let mut n = 0;
     let mut r = going(at);
     let mut visited = 0;
     while visited < count {
-        let below = at.after(r).below(item);
-        r = visit(g, t, v, ps, ts, firsts, places, out, scratch, below);
-        if r.number != 0 {
-            return r;
-        }
-        item += size_at(t, item);
+        let next = fetch(t, item);
+        let here = at.after(r);
         let turn = visited + 1;
         visited = turn;
+        if is_for(next) {
+            let below = here.below(item, 0);
+            item += size_in(next);
+            let end = for_node(g, t, v, ps, ts, firsts, places, out, scratch, below, sep, n);
+            r = end.run;
+            if r.number != 0 {
+                return r;
+            }
+            n = end.items;
+        } else {
+            let written = separate(g, sep, n, out, here);
+            if written.number != 0 {
+                return written;
+            }
+            let below = at.after(written).below(item, 0);
+            item += size_in(next);
+            n += 1;
+            r = visit(g, t, v, ps, ts, firsts, places, out, scratch, below, next);
+            if r.number != 0 {
+                return r;
+            }
+        }
     }
     r
 }
 
-// A for visits its body once for each item of its list, the item being one variable more.
+// A for in a sequence, which has had so many items before it: the body once for each item of its list. It is tried as any node, but here, since
+// it hands back how many items there are then.
+fn for_node(
+    g: &[u8],
+    t: &[u8],
+    v: &[u8],
+    ps: &[u16],
+    ts: &[u16],
+    firsts: &[u16],
+    places: &[u16],
+    out: &mut [u8],
+    scratch: &mut [u16],
+    at: At,
+    sep: Separator,
+    before: usize,
+) -> Turns
+    requires { ⌜ (Visitable (sources (now g) (now t) (now v) (now ps) (now ts) (now firsts) (now places)) at (now out) (now scratch)) × (formOf (now t) (at .node) ≡ Form.For) × (before < 2 ^ 32) ⌝ }
+    ensures { λ r. ⌜ Turned (now (g .entry)) (now (t .entry)) (now (v .entry)) sep before at r (now (out .entry)) (now (out .exit)) (now (scratch .entry)) (now (scratch .exit)) ⌝ }
+{
+    if at.spent() {
+        return turned(ended(10, at), before);
+    }
+    let here = at.counted();
+    if at.left == 0 {
+        return turned(ended(11, here), before);
+    }
+    let path = here.node + 1;
+    let Lookup::Found(w) = path_value(t, v, firsts, places, scratch, here.base, here.vars, path)
+    else {
+        return turned(stuck(here), before);
+    };
+    let list = fetch(v, w as usize);
+    if list.kind != 3 {
+        return turned(stuck(here), before);
+    }
+    let count = list.d;
+    let run = for_items(
+        g,
+        t,
+        v,
+        ps,
+        ts,
+        firsts,
+        places,
+        out,
+        scratch,
+        here,
+        w,
+        count,
+        sep,
+        before,
+    );
+    turned(run, before + count as usize)
+}
+
+// A for visits its body once for each of the `count` items of the list at w, the item being one variable more.
 fn for_items(
     g: &[u8],
     t: &[u8],
@@ -99,27 +188,27 @@ fn for_items(
     out: &mut [u8],
     scratch: &mut [u16],
     at: At,
+    w: u16,
+    count: u16,
+    sep: Separator,
+    before: usize,
 ) -> Run
-    requires { ⌜ Formed Form.For (sources (now g) (now t) (now v) (now ps) (now ts) (now firsts) (now places)) at (now out) (now scratch) ⌝ }
-    ensures { λ r. ⌜ VisitedFrom (formAt Form.For (now (g .entry)) (now (t .entry)) (now (v .entry)) at (now (out .entry)) (now (scratch .entry))) at r (now (out .entry)) (now (out .exit)) (now (scratch .entry)) (now (scratch .exit)) ⌝ }
+    requires { ⌜ (Formed Form.For (sources (now g) (now t) (now v) (now ps) (now ts) (now firsts) (now places)) at (now out) (now scratch)) × (Listed (now t) (now v) at (now scratch) w count) × (before < 2 ^ 32) ⌝ }
+    ensures { λ r. ⌜ VisitedFrom (turnsAt (now (g .entry)) (now (t .entry)) (now (v .entry)) sep before at (now (out .entry)) (now (scratch .entry))) at r (now (out .entry)) (now (out .exit)) (now (scratch .entry)) (now (scratch .exit)) ⌝ }
 {
-    let path = at.node + 1;
-    let Lookup::Found(w) = path_value(t, v, firsts, places, scratch, at.base, at.vars, path) else {
-        return stuck(at);
-    };
-    let list = fetch(v, w as usize);
-    if list.kind != 3 {
-        return stuck(at);
-    }
-    let count = list.d;
     let body = at.node + 2;
+    let head = fetch(t, body);
     let mut r = going(at);
     let mut done = 0;
     while done < count {
+        let written = separate(g, sep, before + done as usize, out, at.after(r));
+        if written.number != 0 {
+            return written;
+        }
         let item = child_at(firsts, places, w, done);
         bind(scratch, at.base, at.vars, item);
-        let below = at.after(r).below(body).bound();
-        r = visit(g, t, v, ps, ts, firsts, places, out, scratch, below);
+        let below = at.after(written).below(body, 0).bound();
+        r = visit(g, t, v, ps, ts, firsts, places, out, scratch, below, head);
         if r.number != 0 {
             return r;
         }
@@ -162,7 +251,7 @@ fn build_items(
         let turn = taken + 1;
         taken = turn;
         if e.a == 0 {
-            r = write(g, element, e, out, here);
+            r = write(g, element, e.b, out, here);
             if r.number != 0 {
                 return r;
             }
@@ -171,14 +260,15 @@ fn build_items(
             if head.d <= used {
                 return stuck(here);
             }
-            let below = here.below(child);
-            r = visit(g, t, v, ps, ts, firsts, places, out, scratch, below);
+            let next = fetch(t, child);
+            let below = here.below(child, element);
+            element += size_of(e);
+            child += size_in(next);
+            used += 1;
+            r = visit(g, t, v, ps, ts, firsts, places, out, scratch, below, next);
             if r.number != 0 {
                 return r;
             }
-            element += size_of(e);
-            child += size_at(t, child);
-            used += 1;
         }
     }
     r
@@ -226,8 +316,9 @@ fn expand_body(
     ) {
         return stuck(at);
     }
-    let below = at.below(body).framed(next, count);
-    visit(g, t, v, ps, ts, firsts, places, out, scratch, below)
+    let below = at.below(body, 0).framed(next, count);
+    let first = fetch(t, body);
+    visit(g, t, v, ps, ts, firsts, places, out, scratch, below, first)
 }
 
 // An if visits only the branch taken.
@@ -255,8 +346,9 @@ fn if_branch(
         return stuck(at);
     }
     let branch = branch_of(t, at.node, head.a);
-    let below = at.below(branch);
-    visit(g, t, v, ps, ts, firsts, places, out, scratch, below)
+    let below = at.below(branch, at.element);
+    let first = fetch(t, branch);
+    visit(g, t, v, ps, ts, firsts, places, out, scratch, below, first)
 }
 
 // A visit of a node: it is tried for 10, counts one step, and is tried for 11; then its form decides.
@@ -271,25 +363,25 @@ pub fn visit(
     out: &mut [u8],
     scratch: &mut [u16],
     at: At,
+    head: Record,
 ) -> Run
-    requires { ⌜ Visitable (sources (now g) (now t) (now v) (now ps) (now ts) (now firsts) (now places)) at (now out) (now scratch) ⌝ }
+    requires { ⌜ (Visitable (sources (now g) (now t) (now v) (now ps) (now ts) (now firsts) (now places)) at (now out) (now scratch)) × (Fetched (now t) (at .node) head) ⌝ }
     ensures { λ r. ⌜ VisitedFrom (visitAt (now (g .entry)) (now (t .entry)) (now (v .entry)) at (now (out .entry)) (now (scratch .entry))) at r (now (out .entry)) (now (out .exit)) (now (scratch .entry)) (now (scratch .exit)) ⌝ }
 {
-    if at.fuel <= at.steps {
+    if at.spent() {
         return ended(10, at);
     }
     let here = at.counted();
     if at.left == 0 {
         return ended(11, here);
     }
-    let head = fetch(t, here.node);
     match form_of(head) {
         Form::Build => build_items(g, t, v, ps, ts, firsts, places, out, scratch, here, head),
-        Form::Literal => write(t, here.node, head, out, here),
+        Form::Literal => write(t, here.node, head.b, out, here),
         Form::Place => place(t, v, firsts, places, out, scratch, here),
         Form::Expand => expand_body(g, t, v, ps, ts, firsts, places, out, scratch, here, head),
         Form::If => if_branch(g, t, v, ps, ts, firsts, places, out, scratch, here),
-        Form::For => for_items(g, t, v, ps, ts, firsts, places, out, scratch, here),
+        Form::For => stuck(here),
         Form::Sequence => sequence_items(g, t, v, ps, ts, firsts, places, out, scratch, here, head),
         Form::Unknown => stuck(here),
     }

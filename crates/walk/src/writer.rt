@@ -2,7 +2,6 @@
 ghost use Prim.Native.Nat.{_≤_};
 ghost use lib.ListN.{length};
 ghost use Rattle.rules.specs.Records.{textOf};
-ghost use Rattle.stream.specs.Record.{Fetched};
 ghost use Rattle.walk.specs.Asks.{Follows, InReach};
 ghost use Rattle.walk.specs.Nodes.{writeAt, placeAt};
 ghost use Rattle.walk.specs.Run.{RanFrom};
@@ -12,26 +11,25 @@ use crate::at::stuck;
 use crate::paths::path_value;
 use crate::state::Run;
 use crate::tables::Lookup;
-use records::text::text_of;
-use stream::record::Record;
 use stream::record::fetch;
 use stream::text::copy_text;
+use stream::text::text_after;
 
-// Writes the text of the head at record i, a keyword's, a literal's or a value's, after what is written so far, whole or not at all: it is
-// copied to the beginning of what is left of the output.
-pub fn write(s: &[u8], i: usize, head: Record, out: &mut [u8], at: At) -> Run
-    requires { ⌜ (Fetched (now s) i head) × (at .bytes ≤ length (now out)) ⌝ }
-    ensures { λ r. ⌜ RanFrom (writeAt at (textOf (now (s .entry)) i) (now (out .entry))) at r (now (out .entry)) (now (out .exit)) ⌝ }
+// Writes the n bytes of text after the head at record i, a keyword's, a literal's, a value's or a separator's, behind what is written so far,
+// whole or not at all: it is copied to the beginning of what is left of the output.
+pub fn write(s: &[u8], i: usize, n: u16, out: &mut [u8], at: At) -> Run
+    requires { ⌜ at .bytes ≤ length (now out) ⌝ }
+    ensures { λ r. ⌜ RanFrom (writeAt at (textOf (now (s .entry)) n i) (now (out .entry))) at r (now (out .entry)) (now (out .exit)) ⌝ }
 {
     let bytes = at.bytes;
     let left = out.len() - bytes;
-    let n = copy_text(s, text_of(s, i, head), &mut out[bytes..]);
-    if left < n {
+    let long = copy_text(s, text_after(s, i, n as usize), &mut out[bytes..]);
+    if left < long {
         return ended(12, at);
     }
     Run {
         place: at.node,
-        bytes: bytes + n,
+        bytes: bytes + long,
         steps: at.steps,
         number: 0,
     }
@@ -59,5 +57,5 @@ pub fn place(
     if head.kind != 1 {
         return stuck(at);
     }
-    write(v, i, head, out, at)
+    write(v, i, head.b, out, at)
 }

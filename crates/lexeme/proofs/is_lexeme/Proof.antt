@@ -7,14 +7,17 @@ use Rattle.lexeme.proofs.is_lexeme.Tie as tie
 fetch-requires : tie.Need-fetch-requires
 fetch-requires c κs = search needs
 
-text-of-requires : tie.Need-text-of-requires
-text-of-requires c κs = search needs
+cast-text-after : tie.Need-cast-text-after
+cast-text-after c = search needs
+
+text-after-requires : tie.Need-text-after-requires
+text-after-requires c κs = search needs
 
 admits-requires : tie.Need-admits-requires
 admits-requires c κs = search needs
 
 returns : tie.Need-returns
-returns c = c .admits .ensures ∙ ap (isLexeme _ _) (c .before .text-of .ensures .text)
+returns c = c .admits .ensures ∙ ap (isLexeme _ _) (rw (c .before .before .before .fetch .ensures .b) at (c .before .text-after .ensures .text))
 
 pub is-lexeme-spec : {M : Type 1} → statement M
-is-lexeme-spec = tie.close (tie.spec fetch-requires text-of-requires admits-requires returns)
+is-lexeme-spec = tie.close (tie.spec fetch-requires cast-text-after text-after-requires admits-requires returns)

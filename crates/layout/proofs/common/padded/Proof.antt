@@ -6,7 +6,7 @@ use Rattle.layout.proofs.common.padded.Statement.{statement}
 use Rattle.layout.proofs.common.padded.Tie as tie
 
 returns : tie.Need-returns
-returns c = λ e. padding-none _ _ _ e (c .if1 .taken)
+returns c = padding-none _ _ _ (c .if1 .taken)
 
 units-requires : tie.Need-units-requires
 units-requires c κs = omega arith
@@ -22,7 +22,7 @@ zero-from-requires : tie.Need-zero-from-requires
 zero-from-requires c κs = omega arith
 
 returns-2 : tie.Need-returns-2
-returns-2 c = λ e. c .zero-from .ensures ∙ padding-is _ _ _ e _ (c .before .before .units .ensures) _ (c .before .fetch .ensures) (c .before .before .before .if1 .left)
+returns-2 c = c .zero-from .ensures ∙ padding-is _ _ _ _ (c .before .before .units .ensures) _ (c .before .fetch .ensures) (c .before .before .before .if1 .left)
 
 pub padded-spec : {M : Type 1} → statement M
 padded-spec =

@@ -6,7 +6,7 @@ use Rattle.layout.proofs.tree.padded_in.Statement.{statement}
 use Rattle.layout.proofs.tree.padded_in.Tie as tie
 
 returns : tie.Need-returns
-returns c = λ p e b. padding-none _ _ _ b (c .if1 .taken)
+returns c = λ p e. padding-none _ _ _ (c .if1 .taken)
 
 units-requires : tie.Need-units-requires
 units-requires c κs = omega arith
@@ -22,7 +22,7 @@ zero-from-requires : tie.Need-zero-from-requires
 zero-from-requires c κs = omega arith
 
 returns-2 : tie.Need-returns-2
-returns-2 c = λ p e b. c .zero-from .ensures ∙ padding-is _ _ _ b _ (c .before .before .before .units .ensures) _ (c .before .fetch-in .ensures _ (c .before .before .forward .ensures _ e)) (c .before .before .before .before .if1 .left)
+returns-2 c = λ p e. c .zero-from .ensures ∙ padding-is _ _ _ _ (c .before .before .before .units .ensures) _ (c .before .fetch-in .ensures _ (c .before .before .forward .ensures _ e)) (c .before .before .before .before .if1 .left)
 
 pub padded-in-spec : {M : Type 1} → statement M
 padded-in-spec =

@@ -28,10 +28,10 @@ cast-t11 : tie.Need-cast-t11
 cast-t11 c = search needs
 
 returns-2 : tie.Need-returns-2
-returns-2 c = λ p e f. right p _ _ 0 0 (text-right _ p _ _ _ (f .b) (c .before .before .before .before .before .before .pre .size-of .is _ _ f) (c .before .before .before .units .ensures) (c .before .before .if1 .left) (sym (c .if2 .taken) ∙ c .before .padded-in .ensures p e (f .b))) refl
+returns-2 c = λ p e f. right p _ _ 0 0 (text-right _ p _ _ _ (f .b) (c .before .before .before .before .before .before .pre .size-of .is _ _ f) (c .before .before .before .units .ensures) (c .before .before .if1 .left) (sym (c .if2 .taken) ∙ c .before .padded-in .ensures p e)) refl
 
 returns-3 : tie.Need-returns-3
-returns-3 c = λ p e f. wrong p _ 0 (text-unpadded _ p _ _ _ (f .b) (c .before .before .before .before .before .before .pre .size-of .is _ _ f) (c .before .before .before .units .ensures) (sym (c .if2 .left) ∙ c .before .padded-in .ensures p e (f .b)))
+returns-3 c = λ p e f. wrong p _ 0 (text-unpadded _ p _ _ _ (f .b) (c .before .before .before .before .before .before .pre .size-of .is _ _ f) (c .before .before .before .units .ensures) (sym (c .if2 .left) ∙ c .before .padded-in .ensures p e))
 
 pub text-head-spec : {M : Type 1} → statement M
 text-head-spec =

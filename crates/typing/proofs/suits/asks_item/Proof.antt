@@ -15,6 +15,9 @@ enum-told-3 c = search needs
 enum-known-p : tie.Need-enum-known-p
 enum-known-p c = search needs
 
+enum-told-4 : tie.Need-enum-told-4
+enum-told-4 c = search needs
+
 returns : tie.Need-returns
 unfolding asksItem
 returns c = cc
@@ -31,7 +34,21 @@ returns-4 : tie.Need-returns-4
 unfolding asksItem
 returns-4 c = cc
 
+returns-5 : tie.Need-returns-5
+unfolding asksItem
+returns-5 c = cc
+
 pub asks-item-spec : {M : Type 1} → statement M
 asks-item-spec =
     tie.close
-    (tie.spec enum-told enum-told-2 enum-told-3 enum-known-p returns returns-2 returns-3 returns-4)
+    (tie.spec
+    enum-told
+    enum-told-2
+    enum-told-3
+    enum-known-p
+    enum-told-4
+    returns
+    returns-2
+    returns-3
+    returns-4
+    returns-5)

@@ -15,6 +15,9 @@ enum-told-2 c = search needs
 enum-known-p-2 : tie.Need-enum-known-p-2
 enum-known-p-2 c = search needs
 
+enum-told-3 : tie.Need-enum-told-3
+enum-told-3 c = search needs
+
 returns : tie.Need-returns
 unfolding asksNonterminal
 returns c = cc
@@ -31,6 +34,10 @@ returns-4 : tie.Need-returns-4
 unfolding asksNonterminal
 returns-4 c = cc
 
+returns-5 : tie.Need-returns-5
+unfolding asksNonterminal
+returns-5 c = cc
+
 pub asks-nonterminal-spec : {M : Type 1} → statement M
 asks-nonterminal-spec =
     tie.close
@@ -39,7 +46,9 @@ asks-nonterminal-spec =
     enum-known-p
     enum-told-2
     enum-known-p-2
+    enum-told-3
     returns
     returns-2
     returns-3
-    returns-4)
+    returns-4
+    returns-5)

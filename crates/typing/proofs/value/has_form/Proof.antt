@@ -7,11 +7,14 @@ use Rattle.typing.proofs.value.has_form.Tie as tie
 enum-known-kind : tie.Need-enum-known-kind
 enum-known-kind c = search needs
 
-text-of-requires : tie.Need-text-of-requires
-text-of-requires c κs = (c .before .before .before .before .before .before .before .before .before .pre .1)
+cast-text-after : tie.Need-cast-text-after
+cast-text-after c = search needs
+
+text-after-requires : tie.Need-text-after-requires
+text-after-requires c κs = search needs
 
 admits-requires : tie.Need-admits-requires
-admits-requires c κs = c .before .before .before .before .before .before .before .before .before .before .pre .0
+admits-requires c κs = c .before .before .before .before .before .before .before .before .before .before .before .pre .0
 
 enum-told : tie.Need-enum-told
 enum-told c = search needs
@@ -26,7 +29,7 @@ enum-told-3 : tie.Need-enum-told-3
 enum-told-3 c = search needs
 
 returns : tie.Need-returns
-returns c = λ t. c .admits .ensures ∙ text-read _ _ t _ _ (c .before .before .before .before .before .before .before .before .before .before .before .pre .1) _ _ (c .before .text-of .ensures) (c .before .before .if1 .taken) ∙ by-kind _ _ t _ (c .before .before .before .before .before .kind .given .1)
+returns c = λ t. c .admits .ensures ∙ text-read _ _ t _ _ (c .before .before .before .before .before .before .before .before .before .before .before .before .pre .1) _ _ (c .before .text-after .ensures) (c .before .before .before .if1 .taken) ∙ by-kind _ _ t _ (c .before .before .before .before .before .before .kind .given .1)
 
 returns-2 : tie.Need-returns-2
 returns-2 c = λ t. text-other _ _ t _ _ (c .before .before .before .before .before .before .before .before .before .pre .1) _ (c .if1 .left) ∙ by-kind _ _ t _ (c .before .before .before .kind .given .1)
@@ -51,7 +54,8 @@ has-form-spec =
     tie.close
     (tie.spec
     enum-known-kind
-    text-of-requires
+    cast-text-after
+    text-after-requires
     admits-requires
     enum-told
     enum-told-2

@@ -42,7 +42,7 @@ same-length : tie.Need-same-length
 same-length c = search needs
 
 returns-3 : tie.Need-returns-3
-returns-3 c = ran-is (place-text _ _ _ _ _ _ (got (c .before .before .before .before .before .before .before .before .before .before .path-value .ensures .is) (c .before .before .before .before .before .before .before .before .w .given .1)) _ (c .before .before .before .before .before .before .fetch .ensures .kind) (c .before .before .before .before .if1 .left)) (c .before .before .write .ensures)
+returns-3 c = ran-is (place-text _ _ _ _ _ _ (got (c .before .before .before .before .before .before .before .before .before .before .path-value .ensures .is) (c .before .before .before .before .before .before .before .before .w .given .1)) _ (c .before .before .before .before .before .before .fetch .ensures .kind) (c .before .before .before .before .if1 .left) _ (c .before .before .before .before .before .before .fetch .ensures .b)) (c .before .before .write .ensures)
 
 pub place-spec : {M : Type 1} → statement M
 place-spec =

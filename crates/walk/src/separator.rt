@@ -1,0 +1,56 @@
+// What stands between the items of a sequence.
+ghost use Prim.Native.Nat.{_≤_};
+ghost use mathlib.Core.Path.{_≡_};
+ghost use lib.ListN.{length};
+ghost use Rattle.walk.specs.Nodes.{fillsAt, Between, separateAt};
+ghost use Rattle.walk.specs.Run.{RanFrom};
+use crate::at::At;
+use crate::at::going;
+use crate::state::Run;
+use crate::writer::write;
+use records::element::is_repetition;
+use records::element::text_length;
+use stream::record::Record;
+
+// The place of the sequence, which is that of a separator's 12; the record of the element that it stands for, behind which the separator lies;
+// how many bytes that has.
+pub struct Separator {
+    pub sequence: usize,
+    pub element: usize,
+    pub length: u16,
+}
+
+// Whether the position of an element asks for a repetition: e is its record. Element 0 stands for a nonterminal.
+pub fn fills(element: usize, e: Record) -> bool
+    ensures { λ r. ⌜ r ≡ fillsAt element e ⌝ }
+{
+    if element == 0 {
+        return false;
+    }
+    is_repetition(e)
+}
+
+// The separator of a sequence: e is the record of the element that it stands for.
+pub fn separator_of(at: At, e: Record) -> Separator
+    ensures { λ r. ⌜ Between at e r ⌝ }
+{
+    Separator {
+        sequence: at.node,
+        element: at.element,
+        length: text_length(e),
+    }
+}
+
+// Writes the separator before an item, unless that is the first. (Most repetitions have none, and then the writer is not asked.)
+pub fn separate(g: &[u8], sep: Separator, before: usize, out: &mut [u8], at: At) -> Run
+    requires { ⌜ at .bytes ≤ length (now out) ⌝ }
+    ensures { λ r. ⌜ RanFrom (separateAt (now (g .entry)) sep before at (now (out .entry))) at r (now (out .entry)) (now (out .exit)) ⌝ }
+{
+    if before == 0 {
+        return going(at);
+    }
+    if sep.length == 0 {
+        return going(at);
+    }
+    write(g, sep.element, sep.length, out, at.placed(sep.sequence))
+}
