@@ -44,12 +44,19 @@ pub enum Element {
     Nonterminal(u16),
     /// Any number of texts of a nonterminal.
     Repetition(u16),
+    /// Any number of texts of a nonterminal, with these bytes between neighbours.
+    Separated(u16, Vec<u8>),
 }
 
 impl Element {
     /// A keyword from a text.
     pub fn keyword(text: impl Into<Vec<u8>>) -> Self {
         Element::Keyword(text.into())
+    }
+
+    /// A repetition of a nonterminal with a separator.
+    pub fn separated(nonterminal: u16, separator: impl Into<Vec<u8>>) -> Self {
+        Element::Separated(nonterminal, separator.into())
     }
 }
 
@@ -129,5 +136,9 @@ fn push_element(records: &mut Vec<Record>, element: &Element) {
         Element::Class(number) => records.push(record(4, 1, *number, 0, 0)),
         Element::Nonterminal(number) => records.push(record(4, 2, *number, 0, 0)),
         Element::Repetition(number) => records.push(record(4, 3, *number, 0, 0)),
+        Element::Separated(number, separator) => {
+            records.push(record(4, 4, *number, word(separator.len()), 0));
+            records.extend(text_units(separator));
+        }
     }
 }

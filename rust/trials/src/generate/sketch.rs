@@ -159,7 +159,9 @@ impl Sketch<'_> {
                 Element::Keyword(_) => {}
                 Element::Class(class) => children.push(self.lexeme(*class, scope)),
                 Element::Nonterminal(n) => children.push(self.node(*n, scope, depth + 1)),
-                Element::Repetition(n) => children.push(self.sequence(*n, scope, depth + 1)),
+                Element::Repetition(n) | Element::Separated(n, _) => {
+                    children.push(self.sequence(*n, scope, depth + 1));
+                }
             }
         }
         if self.slips() && children.pop().is_none() {
