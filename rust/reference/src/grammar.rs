@@ -44,7 +44,9 @@ pub(crate) enum Symbol<'a> {
     Keyword(&'a [u8]),
     Class(u16),
     Nonterminal(u16),
-    Repetition(u16),
+    /// Texts of a nonterminal in a row, with the separator between neighbours; element 3 has an
+    /// empty one.
+    Repetition(u16, &'a [u8]),
 }
 
 impl<'a> Grammar<'a> {
@@ -117,12 +119,14 @@ fn read_production<'a>(reader: &mut Reader<'a>, number: usize) -> Result<Product
 fn read_element<'a>(reader: &mut Reader<'a>) -> Result<Element<'a>, Broken> {
     let place = reader.place();
     let head = reader.record_of(4)?;
-    ask(head.c() == 0 && head.d() == 0)?;
+    let (b, c) = (head.b(), head.c());
+    ask(head.d() == 0)?;
     let symbol = match head.a() {
-        0 => Symbol::Keyword(reader.text(head.b())?),
-        1 => Symbol::Class(head.b()),
-        2 => Symbol::Nonterminal(head.b()),
-        3 => Symbol::Repetition(head.b()),
+        0 if c == 0 => Symbol::Keyword(reader.text(b)?),
+        1 if c == 0 => Symbol::Class(b),
+        2 if c == 0 => Symbol::Nonterminal(b),
+        3 if c == 0 => Symbol::Repetition(b, &[]),
+        4 => Symbol::Repetition(b, reader.text(c)?),
         _ => return Err(Broken),
     };
     Ok(Element { place, symbol })

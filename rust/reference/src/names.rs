@@ -10,7 +10,7 @@ pub(crate) fn judge_grammar(grammar: &Grammar<'_>) -> Result<(), Refusal> {
         let exists = match element.symbol {
             Symbol::Keyword(_) => true,
             Symbol::Class(class) => usize::from(class) < grammar.classes.len(),
-            Symbol::Nonterminal(n) | Symbol::Repetition(n) => grammar.has_nonterminal(n),
+            Symbol::Nonterminal(n) | Symbol::Repetition(n, _) => grammar.has_nonterminal(n),
         };
         if !exists {
             return Err(Refusal::at(5, Kind::Grammar, element.place));

@@ -151,7 +151,7 @@ fn asks(symbol: Symbol<'_>) -> Option<Position> {
         Symbol::Keyword(_) => None,
         Symbol::Class(class) => Some(Position::Class(class)),
         Symbol::Nonterminal(n) => Some(Position::Nonterminal(n)),
-        Symbol::Repetition(n) => Some(Position::Repetition(n)),
+        Symbol::Repetition(n, _) => Some(Position::Repetition(n)),
     }
 }
 

@@ -44,6 +44,15 @@ struct Stop {
     place: usize,
 }
 
+/// The items of one sequence. Its fors bring items to it, and are none themselves.
+struct Row<'a> {
+    /// The record of the sequence.
+    place: usize,
+    separator: &'a [u8],
+    /// Whether an item has been reached.
+    begun: bool,
+}
+
 struct Walk<'a> {
     grammar: &'a Grammar<'a>,
     set: &'a Templates<'a>,
@@ -77,10 +86,8 @@ impl Walk<'_> {
                 Content::YesNo(false) => self.visit(set.nodes[index + 1].next, depth + 1, base),
                 _ => unreachable!("an if's path finds a yes/no"),
             },
-            Form::For(path) => self.repeat(index + 1, path, depth, base),
-            Form::Sequence => set
-                .children(index)
-                .try_for_each(|item| self.visit(item, depth + 1, base)),
+            Form::Sequence => unreachable!("a sequence stands for a repetition of a build"),
+            Form::For(_) => unreachable!("a for stands in a sequence"),
         }
     }
 
@@ -106,14 +113,60 @@ impl Walk<'_> {
         let grammar = self.grammar;
         let mut child = index + 1;
         for element in &grammar.productions[usize::from(production)].elements {
-            if let Symbol::Keyword(text) = element.symbol {
-                self.write(text, self.set.nodes[index].place)?;
-            } else {
-                self.visit(child, depth + 1, base)?;
-                child = self.set.nodes[child].next;
+            match element.symbol {
+                Symbol::Keyword(text) => {
+                    self.write(text, self.set.nodes[index].place)?;
+                    continue;
+                }
+                Symbol::Repetition(_, separator) => {
+                    self.sequence(child, separator, depth + 1, base)?;
+                }
+                Symbol::Class(_) | Symbol::Nonterminal(_) => self.visit(child, depth + 1, base)?,
+            }
+            child = self.set.nodes[child].next;
+        }
+        Ok(())
+    }
+
+    /// Visits a sequence and its items, with the separator of its repetition between them.
+    fn sequence(
+        &mut self,
+        index: usize,
+        separator: &[u8],
+        depth: usize,
+        base: usize,
+    ) -> Result<(), Stop> {
+        let set = self.set;
+        let place = set.nodes[index].place;
+        self.count_step(place, depth)?;
+        let mut row = Row {
+            place,
+            separator,
+            begun: false,
+        };
+        for child in set.children(index) {
+            match &set.nodes[child].form {
+                Form::For(path) => self.repeat(child, path, &mut row, depth + 1, base)?,
+                _ => self.item(child, &mut row, depth + 1, base)?,
             }
         }
         Ok(())
+    }
+
+    /// Visits an item of a sequence. The separator comes before every item but the first, and before
+    /// the item's fuel and depth are tried.
+    fn item(
+        &mut self,
+        index: usize,
+        row: &mut Row<'_>,
+        depth: usize,
+        base: usize,
+    ) -> Result<(), Stop> {
+        if row.begun {
+            self.write(row.separator, row.place)?;
+        }
+        row.begun = true;
+        self.visit(index, depth, base)
     }
 
     /// Enters a body with a fresh set of variables, those that the paths find.
@@ -133,12 +186,20 @@ impl Walk<'_> {
         Ok(())
     }
 
-    /// Visits a for's body once for each item, the item being one variable more.
-    fn repeat(&mut self, body: usize, path: &Path, depth: usize, base: usize) -> Result<(), Stop> {
+    /// Visits a for of a sequence, and its body once for each item, the item being one variable more.
+    fn repeat(
+        &mut self,
+        index: usize,
+        path: &Path,
+        row: &mut Row<'_>,
+        depth: usize,
+        base: usize,
+    ) -> Result<(), Stop> {
+        self.count_step(self.set.nodes[index].place, depth)?;
         let value = self.value;
         for item in value.children(self.find(path, base)) {
             self.variables.push(item);
-            self.visit(body, depth + 1, base)?;
+            self.item(index + 1, row, depth + 1, base)?;
             self.variables.pop();
         }
         Ok(())
@@ -152,7 +213,7 @@ impl Walk<'_> {
         })
     }
 
-    /// Keywords and lexemes are written whole or not at all.
+    /// Keywords, lexemes and separators are written whole or not at all.
     fn write(&mut self, text: &[u8], place: usize) -> Result<(), Stop> {
         match self.out[self.bytes..].get_mut(..text.len()) {
             Some(part) => {
