@@ -1,11 +1,11 @@
-//! Earley's method, with counted classes, repetitions and empty derivations.
+//! Earley's method, with counted classes, repetitions with separators and empty derivations.
 
 use std::collections::{HashMap, HashSet};
 
 use crate::grammar::{Element, Grammar};
 
-/// A production with a dot: before element `element`, with `count` characters of a class read, and
-/// begun at byte `origin`.
+/// A production with a dot: before element `element` or, by `count`, inside it, and begun at byte
+/// `origin`. Of a class `count` characters are read; of a repetition it is where the dot stands.
 #[derive(Clone, Copy, Debug, PartialEq, Eq, Hash)]
 struct Item {
     production: usize,
@@ -14,7 +14,16 @@ struct Item {
     origin: usize,
 }
 
+/// Where the dot stands in a repetition that has begun; 0 is before all of it.
+const BEHIND_ITEM: u32 = 1;
+const BEHIND_SEPARATOR: u32 = 2;
+
 impl Item {
+    /// The dot elsewhere in the same element.
+    fn with(self, count: u32) -> Item {
+        Item { count, ..self }
+    }
+
     /// The dot behind the element.
     fn advanced(self) -> Item {
         Item {
@@ -95,10 +104,20 @@ impl<'a> Run<'a> {
             }
             Some(Element::Class(class)) => self.read_character(item, *class, at),
             Some(Element::Nonterminal(n)) => self.ask(*n, item.advanced(), at),
-            Some(Element::Repetition(n)) => {
-                self.sets[at].add(item.advanced());
-                self.ask(*n, item, at);
-            }
+            Some(Element::Repetition(n, separator)) => self.repeat(item, *n, separator, at),
+        }
+    }
+
+    /// A repetition ends here, unless a separator stands right before, or goes on: with an item at
+    /// its beginning and behind a separator, with a separator behind an item.
+    fn repeat(&mut self, item: Item, nonterminal: u16, separator: &[u8], at: usize) {
+        if item.count != BEHIND_SEPARATOR {
+            self.sets[at].add(item.advanced());
+        }
+        if item.count != BEHIND_ITEM {
+            self.ask(nonterminal, item.with(BEHIND_ITEM), at);
+        } else if self.text[at..].starts_with(separator) {
+            self.sets[at + separator.len()].add(item.with(BEHIND_SEPARATOR));
         }
     }
 
@@ -112,8 +131,7 @@ impl<'a> Run<'a> {
         }
         if item.count < class.most {
             if let Some(length) = class.character(&self.text[at..]) {
-                let count = item.count + 1;
-                self.sets[at + length].add(Item { count, ..item });
+                self.sets[at + length].add(item.with(item.count + 1));
             }
         }
     }

@@ -28,7 +28,8 @@ pub(crate) enum Element {
     Keyword(Vec<u8>),
     Class(usize),
     Nonterminal(u16),
-    Repetition(u16),
+    /// Texts of a nonterminal, with these bytes between neighbours; element 3 has none.
+    Repetition(u16, Vec<u8>),
 }
 
 /// Bytes 4 to 507 of each block, one behind the other.
@@ -105,16 +106,15 @@ impl Grammar {
 
 /// An element and the bytes that its text takes behind it.
 fn read_element(record: &[u8], behind: &[u8]) -> Option<(Element, usize)> {
-    let number = word(record, 2);
+    let (number, length) = (word(record, 2), word(record, 4));
+    let text = |length: u16| behind.get(..length.into()).map(<[u8]>::to_vec);
+    let units = |length: u16| usize::from(length).div_ceil(8) * 8;
     Some(match record[1] {
-        0 => {
-            let length = usize::from(number);
-            let text = behind.get(..length)?.to_vec();
-            (Element::Keyword(text), length.div_ceil(8) * 8)
-        }
+        0 => (Element::Keyword(text(number)?), units(number)),
         1 => (Element::Class(number.into()), 0),
         2 => (Element::Nonterminal(number), 0),
-        3 => (Element::Repetition(number), 0),
+        3 => (Element::Repetition(number, Vec::new()), 0),
+        4 => (Element::Repetition(number, text(length)?), units(length)),
         _ => return None,
     })
 }

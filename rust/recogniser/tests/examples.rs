@@ -98,6 +98,79 @@ fn empty_derivations_and_left_recursion() {
     }
 }
 
+/// Words in brackets with a separator between them.
+fn separated(separator: &[u8]) -> Grammar {
+    let mut grammar = Grammar::new();
+    grammar.class(1, 9, &[(0x61, 0x7A)]);
+    let row = Element::separated(1, separator);
+    grammar.production(0, [keyword("["), row, keyword("]")]);
+    grammar.production(1, [Class(0)]);
+    grammar
+}
+
+#[test]
+fn one_separator_between_neighbours_and_none_elsewhere() {
+    let grammar = separated(b", ");
+    for text in ["[]", "[a]", "[a, b]", "[ab, cd, ef]"] {
+        assert!(derives(&grammar, 0, text.as_bytes()), "{text}");
+    }
+    for text in [
+        "[, ]", "[a, ]", "[, a]", "[a,b]", "[a b]", "[a, , b]", "[a, b, ]", "[a, b", "a, b",
+    ] {
+        assert!(!derives(&grammar, 0, text.as_bytes()), "{text}");
+    }
+}
+
+#[test]
+fn separators_of_any_bytes() {
+    let grammar = separated(&[0xFF, 0]);
+    assert!(derives(&grammar, 0, b"[a\xFF\0b]"));
+    assert!(!derives(&grammar, 0, b"[a\xFFb]"));
+    let long = "; and then ".repeat(40);
+    let grammar = separated(long.as_bytes());
+    assert!(derives(
+        &grammar,
+        0,
+        format!("[a{long}b{long}c]").as_bytes()
+    ));
+    assert!(!derives(
+        &grammar,
+        0,
+        format!("[a{long}{long}c]").as_bytes()
+    ));
+    // A separator that a word may begin with, or be.
+    let grammar = separated(b"a");
+    for (text, derived) in [("[bac]", true), ("[aa]", true), ("[ab]", true)] {
+        assert_eq!(derives(&grammar, 0, text.as_bytes()), derived, "{text}");
+    }
+    assert!(!derives(&grammar, 0, b"[b c]"));
+}
+
+#[test]
+fn empty_items_and_empty_separators() {
+    // Items that may be empty: any number of commas, as each has an item on either side.
+    let mut grammar = Grammar::new();
+    grammar.class(0, 1, &[(0x61, 0x61)]);
+    grammar.production(0, [Element::separated(1, ",")]);
+    grammar.production(1, [Class(0)]);
+    for text in ["", "a", ",", "a,", ",a", ",,,", "a,,a"] {
+        assert!(derives(&grammar, 0, text.as_bytes()), "{text}");
+    }
+    for text in ["aa", "a,aa", "b", ",b"] {
+        assert!(!derives(&grammar, 0, text.as_bytes()), "{text}");
+    }
+    // An empty separator is as good as none, and the run ends though both derive nothing.
+    for element in [Element::separated(1, ""), Repetition(1)] {
+        grammar.productions[0].elements = vec![element, keyword(".")];
+        for text in [".", "a.", "aaaa."] {
+            assert!(derives(&grammar, 0, text.as_bytes()), "{text}");
+        }
+        for text in ["", "a", "..", "a,a."] {
+            assert!(!derives(&grammar, 0, text.as_bytes()), "{text}");
+        }
+    }
+}
+
 #[test]
 fn a_nonterminal_that_never_ends_derives_nothing() {
     let mut grammar = Grammar::new();
