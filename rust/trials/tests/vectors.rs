@@ -1,5 +1,6 @@
-//! The shared vectors, when they are there (`PAGE_MACHINE_VECTORS`, or `shared/vectors` beside the
-//! repository), held against both machines. Each folder has three streams, what the paper's program
+//! The shared vectors of the latest request that has landed, when they are there
+//! (`PAGE_MACHINE_VECTORS`, or `shared/vectors` beside the repository), held against both machines.
+//! A later request may change the answers of an earlier folder. Each folder has three streams, what the paper's program
 //! prints, and more calls; `vectors.txt` has checks, packing and unpacking.
 
 use std::fs;
@@ -10,14 +11,17 @@ use trials::generate::Streams;
 use trials::run::try_streams;
 use trials::{Fields, Machine, Random, Reference, SECOND};
 
+/// The folder of vectors: `base`, or the letter of the latest request that has landed.
+const STAGE: &str = "a";
+
 const MACHINES: [&dyn Machine; 2] = [&Reference, &SECOND];
 
 #[test]
 fn every_folder_is_answered_as_expected() {
-    let Some(base) = vectors() else { return };
+    let Some(stage) = vectors() else { return };
     for machine in MACHINES {
         let (mut folders, mut calls) = (0, 0);
-        for folder in folders_of(&base) {
+        for folder in folders_of(&stage) {
             let streams = streams(&folder);
             prints_what_is_expected(machine, &streams, &folder);
             calls += answers_calls(machine, &streams, &folder);
@@ -30,8 +34,8 @@ fn every_folder_is_answered_as_expected() {
 
 #[test]
 fn every_line_is_answered_as_expected() {
-    let Some(base) = vectors() else { return };
-    let lines = fs::read_to_string(base.join("vectors.txt")).expect("vectors.txt");
+    let Some(stage) = vectors() else { return };
+    let lines = fs::read_to_string(stage.join("vectors.txt")).expect("vectors.txt");
     for machine in MACHINES {
         let mut tried = 0;
         let mut unpacked = Vec::new();
@@ -48,8 +52,8 @@ fn every_line_is_answered_as_expected() {
 
 #[test]
 fn both_machines_agree_on_every_folder() {
-    let Some(base) = vectors() else { return };
-    for folder in folders_of(&base) {
+    let Some(stage) = vectors() else { return };
+    for folder in folders_of(&stage) {
         let streams = streams(&folder);
         for seed in 0..10 {
             try_streams(&Reference, &SECOND, &mut Random::new(seed), &streams)
@@ -58,7 +62,7 @@ fn both_machines_agree_on_every_folder() {
     }
 }
 
-/// The folder `base` of the vectors, if it can be found.
+/// The folder of the stage, if it can be found; `PAGE_MACHINE_VECTORS` may also name it itself.
 fn vectors() -> Option<PathBuf> {
     let rust = Path::new(env!("CARGO_MANIFEST_DIR")).join("..");
     let folders = match std::env::var_os("PAGE_MACHINE_VECTORS") {
@@ -70,7 +74,7 @@ fn vectors() -> Option<PathBuf> {
     };
     let found = folders
         .iter()
-        .flat_map(|folder| [folder.join("base"), folder.clone()])
+        .flat_map(|folder| [folder.join(STAGE), folder.clone()])
         .find(|folder| folder.join("vectors.txt").is_file());
     if found.is_none() {
         println!("skipped: no vectors found; set PAGE_MACHINE_VECTORS to their folder");
@@ -79,14 +83,14 @@ fn vectors() -> Option<PathBuf> {
 }
 
 /// The folders of sets, in order.
-fn folders_of(base: &Path) -> Vec<PathBuf> {
-    let mut folders: Vec<PathBuf> = fs::read_dir(base)
+fn folders_of(stage: &Path) -> Vec<PathBuf> {
+    let mut folders: Vec<PathBuf> = fs::read_dir(stage)
         .expect("a readable folder of vectors")
         .map(|entry| entry.expect("an entry").path())
         .filter(|path| path.is_dir())
         .collect();
     folders.sort();
-    assert!(!folders.is_empty(), "no vectors in {}", base.display());
+    assert!(!folders.is_empty(), "no vectors in {}", stage.display());
     folders
 }
 
