@@ -10,7 +10,7 @@ pub fn damage(random: &mut Random, streams: &mut Streams, other: &Streams) {
     let index = random.below(3);
     let kind = index as u8 + 1;
     let stream = streams.part_mut(index);
-    match random.below(20) {
+    match random.below(22) {
         0..=7 => change_field(random, stream, kind),
         8 | 9 => move_records(random, stream, kind),
         10 | 11 => flip(random, stream),
@@ -22,6 +22,7 @@ pub fn damage(random: &mut Random, streams: &mut Streams, other: &Streams) {
         15 => move_blocks(random, stream, other.parts()[index]),
         16 | 17 => change_length(random, stream),
         18 => *stream = other.parts()[index].to_vec(),
+        19 | 20 => change_repetition(random, &mut streams.grammar),
         _ => *stream = other.parts()[random.below(3)].to_vec(),
     }
 }
@@ -52,6 +53,35 @@ fn change_field(random: &mut Random, stream: &mut Vec<u8>, kind: u8) {
         }
     }
     *stream = blocks(kind, &records);
+}
+
+/// Changes a repetition of the grammar: its form, the length of its separator, its d, or the
+/// separator's units; the checks are mended.
+fn change_repetition(random: &mut Random, stream: &mut Vec<u8>) {
+    let mut records = records_of(stream);
+    let is_one = |&at: &usize| records[at][0] == 4 && [3, 4].contains(&records[at][1]);
+    let found: Vec<usize> = (0..records.len()).filter(is_one).collect();
+    if found.is_empty() {
+        return;
+    }
+    let at = *random.pick(&found);
+    let length = u16::from_le_bytes([records[at][4], records[at][5]]);
+    match random.below(5) {
+        0 => records[at][1] = *random.pick(&[0, 1, 2, 3, 4, 5]),
+        1 | 2 => {
+            let length = odd_word(random, length).to_le_bytes();
+            records[at][4..6].copy_from_slice(&length);
+        }
+        3 => records[at][random.between(6, 7)] = odd_byte(random, 0),
+        _ => {
+            let last = at + usize::from(length).div_ceil(8);
+            if let Some(unit) = records.get_mut(last.max(at + 1)) {
+                let byte = random.between(4, 7);
+                unit[byte] = odd_byte(random, unit[byte]);
+            }
+        }
+    }
+    *stream = blocks(1, &records);
 }
 
 /// A record of some of them, mostly one that isn't a unit of text.

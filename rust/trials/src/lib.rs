@@ -6,6 +6,7 @@
 
 pub mod compare;
 pub mod damage;
+pub mod faulty;
 pub mod generate;
 pub mod machine;
 pub mod mutants;

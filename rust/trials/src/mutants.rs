@@ -1,7 +1,8 @@
 //! Machines with one fault each: the trials must tell every one of them from the reference.
 
-use build::{blocks, mend, records_of, BLOCK};
+use build::{blocks, mend, records_of, Record, BLOCK};
 
+use crate::faulty::{productions, text_length, walk, Fault};
 use crate::machine::{Fields, Machine, Reference};
 
 /// A fault put on top of the reference.
@@ -45,11 +46,28 @@ pub enum Mutant {
     PacksKindFour,
     /// Judges the number of a single block.
     JudgesSingleNumber,
+    /// Doesn't look at d of a repetition with a separator.
+    ForgivesSeparatorsD,
+    /// Doesn't look at the padding of a separator.
+    ForgivesSeparatorsPadding,
+    /// Takes an element of form 5 for one of form 4.
+    TakesFormFive,
+    /// Doesn't look whether the nonterminal of a repetition with a separator exists.
+    ForgivesSeparatedNames,
+    /// Walks with a fault in its separators.
+    Separates(Fault),
 }
 
 impl Mutant {
     /// All of them.
-    pub const ALL: [Mutant; 19] = [
+    #[must_use]
+    pub fn all() -> Vec<Mutant> {
+        let separates = Fault::ALL.map(Mutant::Separates);
+        [&Self::OTHERS[..], &separates].concat()
+    }
+
+    /// All but those of a faulty walk.
+    const OTHERS: [Mutant; 23] = [
         Mutant::DepthBeforeFuel,
         Mutant::OneStepMore,
         Mutant::CountsTheUnreached,
@@ -69,6 +87,10 @@ impl Mutant {
         Mutant::RefusesGreek,
         Mutant::PacksKindFour,
         Mutant::JudgesSingleNumber,
+        Mutant::ForgivesSeparatorsD,
+        Mutant::ForgivesSeparatorsPadding,
+        Mutant::TakesFormFive,
+        Mutant::ForgivesSeparatedNames,
     ];
 
     /// The stream as the faulty machine takes it.
@@ -82,7 +104,23 @@ impl Mutant {
             }),
             Mutant::ForgivesTails => while drop_zero_block(&mut taken) {},
             Mutant::CutsLongStreams => taken.truncate(65_536),
-            Mutant::ForgivesUnusedFields => clear_unused_fields(&mut taken),
+            Mutant::ForgivesUnusedFields => change_records(&mut taken, 2, clear_unused_fields),
+            Mutant::ForgivesSeparatorsD => change_records(&mut taken, 1, |records| {
+                for at in separated(records, 4) {
+                    records[at][6..].fill(0);
+                }
+            }),
+            Mutant::ForgivesSeparatorsPadding => change_records(&mut taken, 1, |records| {
+                for at in separated(records, 4) {
+                    clear_padding(records, at);
+                }
+            }),
+            Mutant::TakesFormFive => change_records(&mut taken, 1, |records| {
+                for at in separated(records, 5) {
+                    records[at][1] = 4;
+                }
+            }),
+            Mutant::ForgivesSeparatedNames => change_records(&mut taken, 1, mend_names),
             _ => {}
         }
         taken
@@ -113,20 +151,64 @@ fn drop_zero_block(stream: &mut Vec<u8>) -> bool {
     empty
 }
 
-/// Clears b and d of the nodes of form 2, 4 and 5 of a templates stream.
-fn clear_unused_fields(stream: &mut Vec<u8>) {
-    let mut records = records_of(stream);
-    if !stream.len().is_multiple_of(BLOCK) || stream.get(2) != Some(&2) {
+/// Changes the records of a stream of a kind whose blocks are sound.
+fn change_records(stream: &mut Vec<u8>, kind: u8, change: impl Fn(&mut [Record])) {
+    if stream.get(2) != Some(&kind) {
         return;
     }
-    for record in &mut records {
+    let before = records_of(stream);
+    let mut records = before.clone();
+    change(&mut records);
+    if records != before && Reference.unpack(kind, stream, &mut vec![0; 65_536])[0] == 0 {
+        *stream = blocks(kind, &records);
+    }
+}
+
+/// Clears b and d of the nodes of form 2, 4 and 5 of a templates stream.
+fn clear_unused_fields(records: &mut [Record]) {
+    for record in records {
         if record[0] == 5 && [2, 4, 5].contains(&record[1]) {
             (record[2], record[3], record[6], record[7]) = (0, 0, 0, 0);
         }
     }
-    let cleared = blocks(2, &records);
-    if records_of(stream) != records && Reference.unpack(2, stream, &mut vec![0; 65_536])[0] == 0 {
-        *stream = cleared;
+}
+
+/// The elements of a form of a grammar, as far as its records can be followed.
+fn separated(records: &[Record], form: u8) -> Vec<usize> {
+    let (mut found, mut at) = (Vec::new(), 0);
+    while let Some(&record) = records.get(at) {
+        at += 1;
+        if record[0] == 4 {
+            if record[1] == form {
+                found.push(at - 1);
+            }
+            at += text_length(&record).div_ceil(8);
+        }
+    }
+    found
+}
+
+/// Lets each repetition with a separator that names no nonterminal name the first one.
+fn mend_names(records: &mut [Record]) {
+    let heads = productions(records);
+    let named: Vec<[u8; 2]> = heads
+        .iter()
+        .map(|&head| [records[head][2], records[head][3]])
+        .collect();
+    for at in separated(records, 4) {
+        let number = &mut records[at][2..4];
+        if let Some(first) = named.first().filter(|_| !named.iter().any(|n| n == number)) {
+            number.copy_from_slice(first);
+        }
+    }
+}
+
+/// Clears what follows the text of an element in its last unit.
+fn clear_padding(records: &mut [Record], element: usize) {
+    let length = text_length(&records[element]);
+    let last = element + length.div_ceil(8);
+    if let Some(unit) = records.get_mut(last).filter(|_| !length.is_multiple_of(8)) {
+        unit[length % 8..].fill(0);
     }
 }
 
@@ -162,6 +244,13 @@ impl Machine for Mutant {
                     scratch.fill(0);
                 }
                 fields
+            }
+            Mutant::Separates(fault) => {
+                let fields = Reference.evaluate(parts, fuel, &mut out.to_vec(), scratch);
+                match fields[0] {
+                    1..=9 => fields,
+                    _ => walk(parts, fuel, out, *fault),
+                }
             }
             _ => {
                 let fields = Reference.evaluate(parts, fuel, out, scratch);

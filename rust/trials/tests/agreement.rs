@@ -2,6 +2,7 @@
 
 use build::{mend, Element, Grammar, Node, Path, Templates, Value};
 use trials::compare::{self, Call};
+use trials::faulty::Fault;
 use trials::generate::{self, Streams};
 use trials::mutants::Mutant;
 use trials::run::run;
@@ -27,11 +28,20 @@ fn no_difference_and_every_number_is_reached() {
 
 #[test]
 fn every_mutant_is_found() {
-    for mutant in Mutant::ALL {
+    for mutant in Mutant::all() {
         match run(&Reference, &mutant, seed(), 0..4_000) {
             Ok(_) => panic!("{} isn't found", mutant.name()),
             Err(failure) => println!("found after {:>4} cases: {failure}", failure.case + 1),
         }
+    }
+}
+
+/// The walk that the faults in separators are put into is right without one.
+#[test]
+fn a_walk_without_a_fault_is_no_mutant() {
+    let right = Mutant::Separates(Fault::None);
+    if let Err(failure) = run(&Reference, &right, seed(), 0..4_000) {
+        panic!("{failure}");
     }
 }
 
@@ -94,7 +104,8 @@ fn all_forms() -> Streams {
     let mut grammar = Grammar::new();
     grammar.class(0, 9, &[(0x61, 0x7A), (0x1F00, 0x1FFF)]);
     grammar.class(1, 1, &[(0x10000, 0x10FFFF)]);
-    grammar.production(5, [keyword("begin "), Element::Repetition(6), keyword("")]);
+    let (row, list) = (Element::Repetition(6), Element::separated(6, ", and then "));
+    grammar.production(5, [keyword("begin "), row, keyword(""), list]);
     grammar.production(
         6,
         [Element::Class(0), Element::Nonterminal(7), keyword(";")],
@@ -116,7 +127,7 @@ fn all_forms() -> Streams {
         Node::build(2, [Node::literal("\u{10348}")]),
         Node::expand(1, [Path::variable(0).field(1), Path::variable(0)]),
     ]);
-    templates.template(5, [root], Node::build(0, [items]));
+    templates.template(5, [root], Node::build(0, [items.clone(), items]));
     let body = Node::build(1, [Node::literal("ἀ"), either(Path::variable(0))]);
     templates.template(6, [yes_no, root], body);
     let entry =
@@ -168,6 +179,28 @@ fn every_byte_of_the_papers_example() {
     for number in [0, 2, 3, 5, 6, 7, 8] {
         assert!(reached[number] > 0, "{number} isn't reached");
     }
+}
+
+/// Every fuel and every length of the output: limits before, in and behind each piece of the text.
+#[test]
+fn every_fuel_and_room_of_a_set_of_all_forms() {
+    let streams = all_forms();
+    let call = |fuel, out| {
+        let scratch = 4_800;
+        let call = Call { fuel, out, scratch };
+        compare::evaluate(&Reference, &SECOND, streams.parts(), call)
+            .unwrap_or_else(|difference| panic!("{difference}"))
+    };
+    let [number, _, _, steps, bytes] = call(1_000, 1_000);
+    assert_eq!(number, 0);
+    let mut reached = [0; 13];
+    for fuel in 0..=steps as u32 {
+        for out in 0..=bytes as usize {
+            reached[call(fuel, out)[0] as usize] += 1;
+        }
+    }
+    println!("{reached:?}");
+    assert!(reached[10] > 0 && reached[12] > 0 && reached[0] == 1);
 }
 
 #[test]

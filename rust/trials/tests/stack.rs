@@ -18,8 +18,9 @@ const FULL: u16 = 128 * 63;
 /// Characters of the last class, some in each of its last three ranges.
 const LETTERS: &str = "abαβ\u{4E00}\u{4E11}";
 
-/// Nonterminal 0: `(` 0 `)`, or `{` 0* `}`, or nothing, or a lexeme of the last class. So many
-/// classes without ranges stand before that class, which has so many ranges.
+/// Nonterminal 0: `(` 0 `)`, or `{` 0* `}`, or nothing, or a lexeme of the last class, or `[` 0* `]`
+/// with a separator between the items. So many classes without ranges stand before that class, which
+/// has so many ranges.
 fn grammar(before: usize, ranges: u32) -> Grammar {
     let keyword = |text: &str| Element::keyword(text);
     let mut grammar = Grammar::new();
@@ -36,12 +37,14 @@ fn grammar(before: usize, ranges: u32) -> Grammar {
     grammar.production(0, [keyword("{"), Element::Repetition(0), keyword("}")]);
     grammar.production(0, []);
     grammar.production(0, [Element::Class(class)]);
+    let list = Element::separated(0, ", ");
+    grammar.production(0, [keyword("["), list, keyword("]")]);
     grammar
 }
 
 /// A small grammar, and one of 256 classes that fills 128 blocks: tables may grow with them.
 fn grammars() -> [Vec<u8>; 2] {
-    let full = grammar(255, 7_793);
+    let full = grammar(255, 7_786);
     assert_eq!(full.records().len(), usize::from(FULL));
     [grammar(0, 3), full].map(|grammar| grammar.stream())
 }
@@ -89,6 +92,12 @@ fn below(levels: usize, body: Node) -> Node {
 fn each(body: Node) -> Node {
     let each = Node::each(Path::variable(0), body);
     Node::build(1, [Node::sequence([each])])
+}
+
+/// The same, with a separator between the items.
+fn listed(body: Node) -> Node {
+    let each = Node::each(Path::variable(0), body);
+    Node::build(4, [Node::sequence([each])])
 }
 
 fn nothing() -> Node {
@@ -175,10 +184,23 @@ fn text_in_lists() -> Case {
     (name, templates.stream(), value.stream(), [0, 0, 0, 1, 0])
 }
 
-/// Walks over 8,000 items, which lie at depth 200 or would lie at 201.
+/// Walks over thousands of items, which lie at depth 200 or would lie at 201.
 fn wide_walks() -> Vec<Case> {
-    let wide = || Value::list(vec![Value::list([]); 8_000]).stream();
+    let list = |count| Value::list(vec![Value::list([]); count]).stream();
+    let wide = || list(8_000);
     vec![
+        (
+            "700 separated builds at depth 200",
+            templates([below(196, listed(nothing()))]),
+            list(700),
+            [0, 0, 0, 199 + 700, 394 + 2 * 699],
+        ),
+        (
+            "an expand in each of 50 separated lists",
+            templates([listed(expand(0, 1))]),
+            lists(50),
+            [0, 0, 0, 199, 100],
+        ),
         (
             "8,000 builds at depth 200",
             templates([below(196, each(nothing()))]),

@@ -7,12 +7,12 @@ use build::{
 
 use super::grammars::draw_class;
 use super::lexemes::{lexeme, near_lexeme};
-use super::Streams;
+use super::{separators, Streams};
 use crate::random::Random;
 
 /// A set of one of the families.
 pub(super) fn set(random: &mut Random) -> Streams {
-    match random.below(19) {
+    match random.below(22) {
         0 => deep_body(random),
         1 => deep_value(random),
         2 => thousands_deep(random),
@@ -28,6 +28,7 @@ pub(super) fn set(random: &mut Random) -> Streams {
         13 => long_texts(random),
         14 => tails(random),
         15..=17 => words(random),
+        18..=20 => separators::set(random),
         _ => most_blocks(random),
     }
 }

@@ -47,7 +47,7 @@ pub(super) fn grammar(random: &mut Random) -> Drawn {
     for production in &mut rows {
         for element in &mut production.elements {
             if random.once_in(4) {
-                *element = Element::Repetition(*random.pick(&nonterminals));
+                *element = repetition(random, &nonterminals);
             }
         }
     }
@@ -56,6 +56,24 @@ pub(super) fn grammar(random: &mut Random) -> Drawn {
         grammar,
         nonterminals,
     }
+}
+
+/// A repetition of one of the nonterminals, with a separator or without.
+fn repetition(random: &mut Random, nonterminals: &[u16]) -> Element {
+    let nonterminal = *random.pick(nonterminals);
+    match random.below(12) {
+        0..=5 => Element::Repetition(nonterminal),
+        6 => {
+            let length = *random.pick(&[63, 64, 65, 504, 505, 1_100]);
+            Element::separated(nonterminal, any_bytes(random, length))
+        }
+        _ => Element::separated(nonterminal, *random.pick(KEYWORDS)),
+    }
+}
+
+/// So many bytes, mostly no UTF-8.
+pub(super) fn any_bytes(random: &mut Random, length: usize) -> Vec<u8> {
+    (0..length).map(|_| random.byte()).collect()
 }
 
 /// A class that has a lexeme.

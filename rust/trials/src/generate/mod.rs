@@ -3,6 +3,7 @@
 mod families;
 mod grammars;
 mod lexemes;
+mod separators;
 mod sketch;
 mod values;
 

@@ -367,6 +367,7 @@ fn slip_grammar(random: &mut Random, grammar: &mut Grammar) {
                 Element::Class(beyond + 1),
                 Element::Nonterminal(nonterminal),
                 Element::Repetition(nonterminal),
+                Element::separated(nonterminal, ", "),
             ];
             let production = random.below(grammar.productions.len());
             let odd = random.pick(&odd).clone();

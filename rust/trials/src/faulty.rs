@@ -1,0 +1,377 @@
+//! A walk over the records of an accepted set that goes wrong with separators in one way.
+//!
+//! Without a fault it answers as the reference does (a test says so), though it shares no code with
+//! it: it reads the records where they lie.
+
+use build::{records_of, Record};
+
+use crate::machine::Fields;
+
+/// What is wrong with a walk's separators.
+#[derive(Clone, Copy, Debug, PartialEq, Eq)]
+pub enum Fault {
+    /// Nothing.
+    None,
+    /// Writes none.
+    Forgets,
+    /// Writes one before the first item, too.
+    BeforeTheFirst,
+    /// Writes one behind every item instead.
+    BehindEach,
+    /// Begins anew at each for.
+    AnewAtEachFor,
+    /// Takes a for for an item.
+    CountsFors,
+    /// Forgets items that write nothing.
+    ForgetsEmptyItems,
+    /// Goes on counting in a sequence below an item.
+    SharesCounts,
+    /// Tries the item's fuel first.
+    FuelFirst,
+    /// Tries the item's depth first.
+    DepthFirst,
+    /// Tries the item's fuel and depth and counts its step first.
+    StepFirst,
+    /// Gives 12 the item's place.
+    PlaceOfTheItem,
+    /// Counts the item's step at a 12.
+    CountsTheItem,
+    /// Writes as much as fits.
+    InPart,
+}
+
+impl Fault {
+    /// All that go wrong.
+    pub const ALL: [Fault; 13] = [
+        Fault::Forgets,
+        Fault::BeforeTheFirst,
+        Fault::BehindEach,
+        Fault::AnewAtEachFor,
+        Fault::CountsFors,
+        Fault::ForgetsEmptyItems,
+        Fault::SharesCounts,
+        Fault::FuelFirst,
+        Fault::DepthFirst,
+        Fault::StepFirst,
+        Fault::PlaceOfTheItem,
+        Fault::CountsTheItem,
+        Fault::InPart,
+    ];
+}
+
+/// Walks a set on a value, all of which the reference has accepted, and leaves the scratch to the
+/// caller.
+pub(crate) fn walk(streams: [&[u8]; 3], fuel: u32, out: &mut [u8], fault: Fault) -> Fields {
+    let [grammar, templates, value] = streams.map(records_of);
+    let mut walk = Walk {
+        productions: productions(&grammar),
+        bodies: bodies(&templates),
+        grammar,
+        templates,
+        value,
+        fuel,
+        out,
+        fault,
+        steps: 0,
+        bytes: 0,
+        items: 0,
+    };
+    let end = walk.visit(walk.bodies[0], 1, &[0]);
+    let (number, kind, place) = match end {
+        Ok(()) => (0, 0, 0),
+        Err((number, place)) => (number, 2, place as u64),
+    };
+    [number, kind, place, walk.steps.into(), walk.bytes as u64]
+}
+
+fn word(record: &Record, at: usize) -> usize {
+    u16::from_le_bytes([record[at], record[at + 1]]).into()
+}
+
+fn b(record: &Record) -> usize {
+    word(record, 2)
+}
+
+fn c(record: &Record) -> usize {
+    word(record, 4)
+}
+
+fn d(record: &Record) -> usize {
+    word(record, 6)
+}
+
+/// The bytes of text behind an element.
+pub(crate) fn text_length(element: &Record) -> usize {
+    match element[1] {
+        0 => b(element),
+        4 => c(element),
+        _ => 0,
+    }
+}
+
+/// The heads of the productions.
+pub(crate) fn productions(grammar: &[Record]) -> Vec<usize> {
+    let (mut heads, mut at) = (Vec::new(), 0);
+    while let Some(head) = grammar.get(at).filter(|head| [1, 3, 4].contains(&head[0])) {
+        match head[0] {
+            1 => at += 1 + d(head),
+            3 => {
+                heads.push(at);
+                at += 1;
+            }
+            _ => at += 1 + text_length(head).div_ceil(8),
+        }
+    }
+    heads
+}
+
+/// The body of each template.
+fn bodies(templates: &[Record]) -> Vec<usize> {
+    let (mut bodies, mut at) = (Vec::new(), 0);
+    while let Some(head) = templates.get(at).filter(|head| [1, 3].contains(&head[0])) {
+        match (head[0], head[1]) {
+            (1, 3) => at += 1 + d(head),
+            (1, _) => at += 1,
+            (_, parameters) => {
+                bodies.push(at + 1 + usize::from(parameters));
+                at += c(head);
+            }
+        }
+    }
+    bodies
+}
+
+/// The text behind a head.
+fn text(records: &[Record], head: usize, length: usize) -> Vec<u8> {
+    let units = &records[head + 1..head + 1 + length.div_ceil(8)];
+    units.as_flattened()[..length].to_vec()
+}
+
+/// So many things in a row, from a record on.
+fn in_a_row(start: usize, count: usize, size: impl Fn(usize) -> usize) -> Vec<usize> {
+    let next = |&at: &usize| Some(at + size(at));
+    std::iter::successors(Some(start), next)
+        .take(count)
+        .collect()
+}
+
+/// The number of a limit, and its place.
+type Stop = (u64, usize);
+
+struct Walk<'a> {
+    grammar: Vec<Record>,
+    templates: Vec<Record>,
+    value: Vec<Record>,
+    productions: Vec<usize>,
+    bodies: Vec<usize>,
+    fuel: u32,
+    out: &'a mut [u8],
+    fault: Fault,
+    steps: u32,
+    bytes: usize,
+    /// Items so far of the sequence that was entered last.
+    items: usize,
+}
+
+impl Walk<'_> {
+    fn visit(&mut self, node: usize, depth: usize, variables: &[usize]) -> Result<(), Stop> {
+        self.reach(node, depth)?;
+        self.enter(node, depth, variables)
+    }
+
+    fn reach(&mut self, node: usize, depth: usize) -> Result<(), Stop> {
+        self.fuel_left(node)?;
+        self.steps += 1;
+        match depth {
+            ..=200 => Ok(()),
+            _ => Err((11, node)),
+        }
+    }
+
+    fn fuel_left(&self, node: usize) -> Result<(), Stop> {
+        match self.steps < self.fuel {
+            true => Ok(()),
+            false => Err((10, node)),
+        }
+    }
+
+    fn enter(&mut self, node: usize, depth: usize, variables: &[usize]) -> Result<(), Stop> {
+        let head = self.templates[node];
+        match head[1] {
+            0 => self.build(node, depth, variables),
+            1 => self.write(&text(&self.templates, node, b(&head)), node),
+            2 => {
+                let found = self.find(node + 1, variables);
+                self.write(&text(&self.value, found, b(&self.value[found])), node)
+            }
+            3 => {
+                let paths = node + 1..node + 1 + d(&head);
+                let found: Vec<usize> = paths.map(|path| self.find(path, variables)).collect();
+                self.visit(self.bodies[b(&head)], depth + 1, &found)
+            }
+            _ => {
+                let no = usize::from(self.value[self.find(node + 1, variables)][1] == 0);
+                self.visit(self.nodes(node + 2, 2)[no], depth + 1, variables)
+            }
+        }
+    }
+
+    fn build(&mut self, node: usize, depth: usize, variables: &[usize]) -> Result<(), Stop> {
+        let production = self.productions[b(&self.templates[node])];
+        let elements = in_a_row(production + 1, d(&self.grammar[production]), |at| {
+            1 + text_length(&self.grammar[at]).div_ceil(8)
+        });
+        let mut child = node + 1;
+        for at in elements {
+            let element = self.grammar[at];
+            let behind = text(&self.grammar, at, text_length(&element));
+            match element[1] {
+                0 => {
+                    self.write(&behind, node)?;
+                    continue;
+                }
+                1 | 2 => self.visit(child, depth + 1, variables)?,
+                _ => {
+                    let around = self.items;
+                    self.sequence(child, &behind, depth + 1, variables)?;
+                    self.items = around;
+                }
+            }
+            child += c(&self.templates[child]);
+        }
+        Ok(())
+    }
+
+    fn sequence(
+        &mut self,
+        node: usize,
+        separator: &[u8],
+        depth: usize,
+        variables: &[usize],
+    ) -> Result<(), Stop> {
+        self.reach(node, depth)?;
+        if self.fault != Fault::SharesCounts {
+            self.items = 0;
+        }
+        let row = (node, separator);
+        for child in self.nodes(node + 1, d(&self.templates[node])) {
+            if self.templates[child][1] == 5 {
+                self.each(child, row, depth + 1, variables)?;
+            } else {
+                self.item(child, row, depth + 1, variables)?;
+            }
+        }
+        Ok(())
+    }
+
+    fn each(
+        &mut self,
+        node: usize,
+        row: (usize, &[u8]),
+        depth: usize,
+        variables: &[usize],
+    ) -> Result<(), Stop> {
+        if self.fault == Fault::CountsFors {
+            self.separate(node, row)?;
+            self.items += 1;
+        }
+        self.reach(node, depth)?;
+        if self.fault == Fault::AnewAtEachFor {
+            self.items = 0;
+        }
+        let list = self.find(node + 1, variables);
+        for item in self.values(list) {
+            let inside = [variables, &[item]].concat();
+            self.item(node + 2, row, depth + 1, &inside)?;
+        }
+        Ok(())
+    }
+
+    fn item(
+        &mut self,
+        node: usize,
+        row: (usize, &[u8]),
+        depth: usize,
+        variables: &[usize],
+    ) -> Result<(), Stop> {
+        if self.fault == Fault::FuelFirst {
+            self.fuel_left(node)?;
+        }
+        if self.fault == Fault::DepthFirst && depth > 200 {
+            return self.reach(node, depth);
+        }
+        if self.fault == Fault::StepFirst {
+            self.reach(node, depth)?;
+            self.separate(node, row)?;
+        } else {
+            self.separate(node, row)?;
+            self.reach(node, depth)?;
+        }
+        let before = self.bytes;
+        self.enter(node, depth, variables)?;
+        if self.fault == Fault::BehindEach {
+            self.write(row.1, row.0)?;
+        }
+        if self.fault != Fault::ForgetsEmptyItems || self.bytes > before {
+            self.items += 1;
+        }
+        Ok(())
+    }
+
+    /// The separator that is due before an item.
+    fn separate(&mut self, node: usize, (sequence, separator): (usize, &[u8])) -> Result<(), Stop> {
+        let due = match self.fault {
+            Fault::Forgets | Fault::BehindEach => false,
+            Fault::BeforeTheFirst => true,
+            _ => self.items > 0,
+        };
+        let room = self.out.len() - self.bytes;
+        if !due {
+            return Ok(());
+        }
+        if separator.len() > room && self.fault == Fault::InPart {
+            self.write(&separator[..room], sequence)?;
+        }
+        if separator.len() > room && self.fault == Fault::CountsTheItem {
+            self.steps += 1;
+        }
+        let place = match self.fault {
+            Fault::PlaceOfTheItem => node,
+            _ => sequence,
+        };
+        self.write(separator, place)
+    }
+
+    fn write(&mut self, text: &[u8], place: usize) -> Result<(), Stop> {
+        let end = self.bytes + text.len();
+        let part = self.out.get_mut(self.bytes..end).ok_or((12, place))?;
+        part.copy_from_slice(text);
+        self.bytes = end;
+        Ok(())
+    }
+
+    /// So many nodes in a row.
+    fn nodes(&self, start: usize, count: usize) -> Vec<usize> {
+        in_a_row(start, count, |at| c(&self.templates[at]))
+    }
+
+    /// The children of a list or record.
+    fn values(&self, head: usize) -> Vec<usize> {
+        in_a_row(head + 1, d(&self.value[head]), |at| {
+            match self.value[at][0] {
+                2 => 1,
+                _ => c(&self.value[at]),
+            }
+        })
+    }
+
+    /// The value that a path finds.
+    fn find(&self, path: usize, variables: &[usize]) -> usize {
+        let [_, variable, steps, fields @ ..] = self.templates[path];
+        let fields = &fields[..usize::from(steps)];
+        let start = variables[usize::from(variable)];
+        fields.iter().fold(start, |record, &field| {
+            self.values(record)[usize::from(field)]
+        })
+    }
+}
