@@ -9,6 +9,7 @@
 //! | `streams` | refusals 1 to 3, each at its edge, alone and ahead of what is tried later |
 //! | `sets` | refusals 4 to 7 |
 //! | `runs` | refusals 8 to 12, and runs that finish |
+//! | `separators` | repetitions with a separator: layout, names, typing, runs |
 //!
 //! To add a case, add it to one of these, then `cargo run -p cases`.
 
@@ -19,6 +20,7 @@ mod expected;
 mod file;
 mod records;
 mod runs;
+mod separators;
 mod sets;
 mod streams;
 
@@ -31,7 +33,14 @@ pub use file::file;
 /// All cases, in the order in which they are run.
 #[must_use]
 pub fn all() -> Vec<Case> {
-    [blocks::all(), streams::all(), sets::all(), runs::all()].concat()
+    [
+        blocks::all(),
+        streams::all(),
+        sets::all(),
+        runs::all(),
+        separators::all(),
+    ]
+    .concat()
 }
 
 /// The files that this crate makes, each with what is to be in it.

@@ -78,7 +78,8 @@ fn grammar_layout() -> Vec<Case> {
         in_grammar("3 class with a range too few", 0, record(1, 0, 1, 4, 3)),
         in_grammar("3 range with byte 7", 1, odd_range),
         in_grammar("3 production with c", 3, record(3, 0, 0, 1, 3)),
-        in_grammar("3 element of form 4", 6, record(4, 4, 1, 0, 0)),
+        in_grammar("3 element of form 5", 6, record(4, 5, 1, 0, 0)),
+        in_grammar("3 repetition with c", 6, record(4, 3, 1, 1, 0)),
         in_grammar("3 keyword with a byte after it", 5, long_keyword),
     ]
 }
