@@ -62,7 +62,9 @@
  *        counted as a step)
  *   11   a node is reached at depth 201 (it is counted as    2        the node
  *        a step)
- *   12   a keyword or lexeme passes the end of the output    2        the node
+ *   12   a keyword, lexeme or separator passes the end of    2        the node; of a
+ *        the output                                                   separator the
+ *                                                                     sequence
  *
  * feed_pack and feed_unpack answer 0, 1, 2 and 12 of their own, as said there,
  * always with kind 0 and steps 0.
@@ -124,8 +126,8 @@ void feed_check(const uint8_t *grammar, size_t grammar_length,
  * Afterwards, for 0 and 10 to 12:
  *            the first `bytes` bytes of the output are what the walk produced,
  *            the rest of the output is untouched, and all of the lent scratch
- *            is zero, past FEED_SCRATCH too. A keyword or lexeme is written
- *            whole or not at all.
+ *            is zero, past FEED_SCRATCH too. A keyword, lexeme or separator is
+ *            written whole or not at all.
  */
 void feed_evaluate(const uint8_t *grammar, size_t grammar_length,
                    const uint8_t *templates, size_t templates_length,

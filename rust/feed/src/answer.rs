@@ -95,9 +95,9 @@ pub enum Refusal {
         /// The node, in the templates.
         node: u64,
     },
-    /// 12: a keyword or lexeme passes the end of the output.
+    /// 12: a keyword, lexeme or separator passes the end of the output.
     OutputFull {
-        /// The node that writes it, in the templates.
+        /// The node that writes it, in the templates; of a separator the sequence.
         node: u64,
     },
     /// 12 of [`pack`](crate::pack) and [`unpack`](crate::unpack): what they would write doesn't fit.
@@ -282,7 +282,7 @@ impl Refusal {
             Self::ScratchTooShort => "the scratch has fewer than 4,800 16-bit numbers",
             Self::FuelSpent { .. } => "a node is reached with all fuel used",
             Self::TooDeep { .. } => "a node is reached at depth 201",
-            Self::OutputFull { .. } => "a keyword or lexeme passes the end of the output",
+            Self::OutputFull { .. } => "a keyword, lexeme or separator passes the end of the output",
             Self::NoRoom => "what is to be written doesn't fit the output",
             Self::Unknown { .. } => "a refusal that this wrapper doesn't know",
         }
@@ -421,7 +421,7 @@ mod tests {
         );
         assert_eq!(
             said([12, 2, 4, 7, 15]),
-            "the templates, record 4: a keyword or lexeme passes the end of the output (refusal 12)"
+            "the templates, record 4: a keyword, lexeme or separator passes the end of the output (refusal 12)"
         );
     }
 

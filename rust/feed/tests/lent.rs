@@ -131,6 +131,45 @@ fn m11_and_m12_a_set_that_expands_itself() {
     case(&endless(), 200, 65_536, [10, 2, 4, 200, 0], "");
 }
 
+/// The example with a comma and a blank between its entries.
+fn commas() -> Set {
+    let grammar = packed(
+        1,
+        &[
+            [1, 0, 1, 0, 4, 0, 2, 0],
+            [2, 0x61, 0, 0, 0x7a, 0, 0, 0],
+            [2, 0x70, 0x03, 0, 0xff, 0x03, 0, 0],
+            [3, 0, 0, 0, 0, 0, 3, 0],
+            [4, 0, 1, 0, 0, 0, 0, 0],
+            *b"[\0\0\0\0\0\0\0",
+            [4, 4, 1, 0, 2, 0, 0, 0],
+            *b", \0\0\0\0\0\0",
+            [4, 0, 1, 0, 0, 0, 0, 0],
+            *b"]\0\0\0\0\0\0\0",
+            [3, 1, 1, 0, 0, 0, 3, 0],
+            [4, 0, 1, 0, 0, 0, 0, 0],
+            *b"<\0\0\0\0\0\0\0",
+            [4, 1, 0, 0, 0, 0, 0, 0],
+            [4, 0, 1, 0, 0, 0, 0, 0],
+            *b">\0\0\0\0\0\0\0",
+        ],
+    );
+    Set {
+        grammar,
+        ..example()
+    }
+}
+
+#[test]
+fn a_separator_comes_before_its_item_whole_or_not_at_all() {
+    let set = commas();
+    case(&set, 7, 18, [0, 0, 0, 7, 18], "[<ab>, <αβγδ>]");
+    case(&set, 5, 18, [10, 2, 8, 5, 7], "[<ab>, ");
+    case(&set, 5, 6, [12, 2, 5, 5, 5], "[<ab>");
+    let (answer, _) = evaluate(&set, 7, 6, SCRATCH);
+    assert_eq!(answer.refusal(), Some(Refusal::OutputFull { node: 5 }));
+}
+
 #[test]
 fn the_scratch_is_judged_after_the_value() {
     let short = |set: &Set| evaluate(set, 1_000_000, 100, SCRATCH - 1).0.fields();
