@@ -165,7 +165,14 @@ impl<'a> Names<'a> {
                 records.extend(text_units(&text.bytes));
             }
             Element::One(name) => records.push(self.one(name)?),
-            Element::Many(name) => records.push(Record::new(4, 3, [self.repeated(name)?, 0, 0])),
+            Element::Many(name, None) => {
+                records.push(Record::new(4, 3, [self.repeated(name)?, 0, 0]));
+            }
+            Element::Many(name, Some(separator)) => {
+                let length = text_length(separator)?;
+                records.push(Record::new(4, 4, [self.repeated(name)?, length, 0]));
+                records.extend(text_units(&separator.bytes));
+            }
         }
         Ok(())
     }
@@ -572,6 +579,10 @@ mod tests {
         assert_eq!(text_of(SMALL), "<ttab>");
         assert_eq!(text_of(&SMALL.replace("done: yes", "done: no")), "<tnab>");
         assert_eq!(text_of(&SMALL.replace("[\"a\" \"b\"]", "[]")), "<tt>");
+        let commas = SMALL.replace("part*", "part*(\", \")");
+        assert_eq!(text_of(&commas), "<tt, a, b>");
+        let none = SMALL.replace("part*", "part*(\"\")");
+        assert_eq!(text_of(&none), "<ttab>");
     }
 
     #[test]

@@ -66,8 +66,8 @@ pub enum Element {
     Keyword(Text),
     /// A class or a nonterminal.
     One(Name),
-    /// A repetition of a nonterminal.
-    Many(Name),
+    /// A repetition of a nonterminal, with a separator or without.
+    Many(Name, Option<Text>),
 }
 
 /// A type.

@@ -4,6 +4,7 @@ use crate::due::due;
 use crate::layout::{lines, Line};
 use crate::paper::quotes;
 use crate::record::{Found, Kind, Record};
+use crate::separator::separator;
 use crate::words::{counted, cut, quoted};
 use feed::{Answer, Refusal, Stream};
 
@@ -84,6 +85,7 @@ pub fn explain(set: Set<'_>, lent: Lent) -> Explanation {
         }
         Some(refusal) => {
             text.push_str(&refused("evaluate", refusal, set));
+            text.push_str(&unfitting(refusal, evaluate, lent, set));
             text.push_str(&met(refusal, evaluate, lent, &output));
         }
     }
@@ -110,7 +112,7 @@ fn refused(call: &str, refusal: Refusal, set: Set<'_>) -> String {
 
 /// The form of the node that a refusal is about.
 fn node_form(refusal: Refusal, set: Set<'_>) -> Option<u8> {
-    let Refusal::Typing { node } = refusal else {
+    let (Refusal::Typing { node } | Refusal::OutputFull { node }) = refusal else {
         return None;
     };
     let found = Found::read(set.templates, Some(Kind::Templates));
@@ -118,6 +120,29 @@ fn node_form(refusal: Refusal, set: Set<'_>) -> Option<u8> {
         .ok()
         .and_then(|node| found.records.get(node).copied())
         .map(Record::a)
+}
+
+/// The separator that does not fit, where that is what the walk met.
+fn unfitting(refusal: Refusal, answer: Answer, lent: Lent, set: Set<'_>) -> String {
+    let Refusal::OutputFull { node } = refusal else {
+        return String::new();
+    };
+    let [grammar, templates] = [Kind::Grammar, Kind::Templates]
+        .map(|kind| Found::read(set.bytes(kind), Some(kind)).records);
+    let between = usize::try_from(node)
+        .ok()
+        .and_then(|node| separator(&grammar, &templates, node));
+    let Some(between) = between else {
+        return String::new();
+    };
+    let bytes = usize::try_from(answer.bytes).unwrap_or(usize::MAX);
+    let left = lent.output.saturating_sub(bytes);
+    format!(
+        "  = the separator {} has {}, and {left} {} left\n",
+        cut(&quoted(&between), WIDEST),
+        counted(between.len(), "byte", "bytes"),
+        if left == 1 { "is" } else { "are" }
+    )
 }
 
 /// What a walk that met a limit had done until then.
@@ -359,6 +384,29 @@ mod tests {
             },
         );
         assert!(scratch.ends_with("  4799 numbers are lent\n"));
+    }
+
+    #[test]
+    fn a_separator_without_room() {
+        let lent = Lent {
+            output: 6,
+            ..Lent::default()
+        };
+        let text = explained("m*", "m*(\", \")", lent);
+        assert!(
+            text.contains("evaluate: the templates, record 5: a keyword, lexeme or separator passes the end of the output (refusal 12)\n"),
+            "{text}"
+        );
+        assert!(text.contains("that is 12 with the sequence's place"));
+        assert!(text.contains(">         5      sequence of 1 item, size 6\n"));
+        assert!(
+            text.ends_with(
+                "  = the separator \", \" has 2 bytes, and 1 is left\n  \
+             the walk took 5 steps with fuel 1000000 and wrote 5 of 6 bytes; \
+             the text so far ends with \"[<ab>\"\n"
+            ),
+            "{text}"
+        );
     }
 
     #[test]

@@ -181,15 +181,24 @@ fn production(record: Record, number: usize) -> Head {
 }
 
 fn element(record: Record) -> Head {
-    let named = record.b();
+    let (named, c) = (record.b(), record.c());
     let head = match record.a() {
         0 => Head::new(format!("keyword of {}", bytes(named))).text(named),
         1 => Head::new(format!("class {named}")),
         2 => Head::new(format!("nonterminal {named}")),
         3 => Head::new(format!("repetition of nonterminal {named}")),
+        4 => Head::new(format!(
+            "repetition of nonterminal {named} with a separator of {}",
+            bytes(c)
+        ))
+        .text(c),
         other => unknown(format!("element of form {other}")),
     };
-    head.unused(&[("c", record.c()), ("d", record.d())])
+    let head = match record.a() {
+        4 => head,
+        _ => head.unused(&[("c", c)]),
+    };
+    head.unused(&[("d", record.d())])
 }
 
 fn type_head(record: Record, number: usize) -> Head {

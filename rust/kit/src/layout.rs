@@ -262,8 +262,8 @@ mod tests {
         Found::read(&bytes, Some(kind)).records
     }
 
-    const SMALL: &str = r#"class c 1 to 4 { 'a'-'z' } production p of n = "[" c n* "]" type t = text c
-        template m (x: t) of n = build p (place x sequence ()) value [yes, "ab"]"#;
+    const SMALL: &str = r#"class c 1 to 4 { 'a'-'z' } production p of n = "[" c n* "]" n*(", ") type t = text c
+        template m (x: t) of n = build p (place x sequence () sequence ()) value [yes, "ab"]"#;
 
     fn texts(kind: Kind, records: &[Record]) -> Vec<String> {
         lines(kind, records).iter().map(Line::indented).collect()
@@ -282,14 +282,16 @@ mod tests {
             [
                 "        0  class 0: 1 to 4 characters, 1 range",
                 "        1    range U+0061-U+007A",
-                "        2  production 0 of nonterminal 0: 4 elements",
+                "        2  production 0 of nonterminal 0: 5 elements",
                 "        3    keyword of 1 byte",
                 "        4      \"[\"",
                 "        5    class 0",
                 "        6    repetition of nonterminal 0",
                 "        7    keyword of 1 byte",
                 "        8      \"]\"",
-                "     9-62  54 zero records",
+                "        9    repetition of nonterminal 0 with a separator of 2 bytes",
+                "       10      \", \"",
+                "    11-62  52 zero records",
             ]
         );
     }
@@ -297,15 +299,16 @@ mod tests {
     #[test]
     fn templates_and_values_are_read() {
         assert_eq!(
-            texts(Kind::Templates, &of(SMALL, Kind::Templates))[..7],
+            texts(Kind::Templates, &of(SMALL, Kind::Templates))[..8],
             [
                 "        0  type 0: text of class 0",
-                "        1  template 0 of nonterminal 0: 1 parameter, size 6",
+                "        1  template 0 of nonterminal 0: 1 parameter, size 7",
                 "        2    parameter 0: type 0",
-                "        3    build production 0: 2 children, size 4",
+                "        3    build production 0: 3 children, size 5",
                 "        4      place, size 2",
                 "        5        path: variable 0",
                 "        6      sequence of 0 items, size 1",
+                "        7      sequence of 0 items, size 1",
             ]
         );
         assert_eq!(
@@ -351,8 +354,24 @@ mod tests {
             said(5, "no record of the grammar has kind 9")
         );
         assert_eq!(
+            broken(Kind::Grammar, 6, 4, 2),
+            said(6, "the unused field c is 2, not zero")
+        );
+        assert_eq!(
+            broken(Kind::Grammar, 9, 6, 2),
+            said(9, "the unused field d is 2, not zero")
+        );
+        assert_eq!(
+            broken(Kind::Grammar, 9, 1, 5),
+            said(9, "there is no such form")
+        );
+        assert_eq!(
+            broken(Kind::Grammar, 10, 7, 1),
+            said(10, "its padding is not zero")
+        );
+        assert_eq!(
             broken(Kind::Templates, 3, 4, 9),
-            said(3, "it takes 4 records")
+            said(3, "it takes 5 records")
         );
         assert_eq!(
             broken(Kind::Templates, 5, 0, 5),

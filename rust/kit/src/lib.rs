@@ -20,6 +20,7 @@ pub mod paper;
 pub mod parser;
 pub mod record;
 pub mod rows;
+pub mod separator;
 pub mod words;
 
 pub use assemble::{assemble, Streams};

@@ -1,9 +1,16 @@
-//! The rules in document 01's own words.
+//! The rules in the papers' own words: document 01, and 02 for what its requests have changed.
 
 use feed::Refusal;
 
-/// The sentences that a refusal stands on; a refusal of typing also has the form of its node.
+/// The form of a sequence.
+const SEQUENCE: u8 = 6;
+
+/// The sentences that a refusal stands on; a refusal of typing or of room also has the form of its
+/// node.
 pub fn quotes(refusal: Refusal, node_form: Option<u8>) -> Vec<&'static str> {
+    if matches!(refusal, Refusal::OutputFull { .. }) && node_form == Some(SEQUENCE) {
+        return vec![SEPARATOR];
+    }
     let mut found = vec![what_stops(refusal)];
     found.extend(match refusal {
         Refusal::Layout { .. } => LAYOUT,
@@ -73,6 +80,11 @@ const LAYOUT: &[&str] = &[
      length 0 has no unit. After the last thing come zero records only, fewer than 63.",
     "Size is the number of records of a thing, head and all below it.",
 ];
+
+const SEPARATOR: &str = "The separator is written before every item but the first, \
+                         whether from a for, the sequence itself or several fors in a row. \
+                         It comes before the item's fuel and depth are tried, and where it passes \
+                         the end, none of it is written and that is 12 with the sequence's place.";
 
 const LEXEME: &str = "A lexeme of a class is well-formed UTF-8 (RFC 3629) with a character count \
                       from least to most, each character in some range. \

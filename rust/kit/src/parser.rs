@@ -238,12 +238,22 @@ impl Parser {
             _ => {
                 let name = self.name("a keyword, a class or a nonterminal")?;
                 Ok(Some(if self.accept_sign('*') {
-                    Element::Many(name)
+                    Element::Many(name, self.separator()?)
                 } else {
                     Element::One(name)
                 }))
             }
         }
+    }
+
+    /// `("text")` after a repetition, if it has a separator.
+    fn separator(&mut self) -> Parsed<Option<Text>> {
+        if !self.accept_sign('(') {
+            return Ok(None);
+        }
+        let text = self.text()?;
+        self.sign(')')?;
+        Ok(Some(text))
     }
 
     /// `type NAME = FORM`
@@ -470,6 +480,25 @@ mod tests {
     }
 
     #[test]
+    fn every_form_of_element_is_read() {
+        let found = parse(r#"production p of n = "x" a b* c*(", ") "y" d* ("") e"#);
+        let elements = &found.expect("a description").productions[0].elements;
+        let said: Vec<String> = elements
+            .iter()
+            .map(|element| match element {
+                Element::Keyword(text) => format!("{:?}", text.bytes),
+                Element::One(name) => name.word.clone(),
+                Element::Many(name, None) => format!("{}*", name.word),
+                Element::Many(name, Some(text)) => format!("{}*{:?}", name.word, text.bytes),
+            })
+            .collect();
+        assert_eq!(
+            said,
+            ["[120]", "a", "b*", "c*[44, 32]", "[121]", "d*[]", "e"]
+        );
+    }
+
+    #[test]
     fn every_form_of_value_is_read() {
         let found = parse("value { name: \"x\" yes: no [yes, {}] }").expect("a description");
         let Some(Value {
@@ -521,6 +550,14 @@ mod tests {
         assert_eq!(
             mistake("class t x"),
             "line 1, column 9: the least number of characters is expected here, not `x`"
+        );
+        assert_eq!(
+            mistake("production p of n = m*(x)"),
+            "line 1, column 24: a text in quotes is expected here, not `x`"
+        );
+        assert_eq!(
+            mistake("production p of n = m*(\",\" \";\")"),
+            "line 1, column 28: `)` is expected here, not a text"
         );
         assert_eq!(
             mistake("template t (a: b) of n = place 256"),
