@@ -20,14 +20,26 @@ const DATE: u16 = 3;
 
 /// A feed whose value takes `scale` quarters of 128 blocks.
 pub fn feed(scale: usize) -> Streams {
-    Streams::of(&grammar(), &templates(), &value(FULL * scale / 4))
+    let item = item_elements("psc:chapters", Element::Repetition(MARK));
+    of(grammar(item, mark_elements()), scale)
+}
+
+/// The same with each item's marks as a line with commas.
+pub fn with_commas(scale: usize) -> Streams {
+    let item = item_elements("itunes:summary", Element::separated(MARK, ", "));
+    let mark = vec![Element::Class(COUNT), keyword(" "), Element::Class(TITLE)];
+    of(grammar(item, mark), scale)
+}
+
+fn of(grammar: Grammar, scale: usize) -> Streams {
+    Streams::of(&grammar, &templates(), &value(FULL * scale / 4))
 }
 
 fn keyword(text: &str) -> Element {
     Element::keyword(text)
 }
 
-fn grammar() -> Grammar {
+fn grammar(item: Vec<Element>, mark: Vec<Element>) -> Grammar {
     let mut grammar = Grammar::new();
     let plain = [
         (0x20, 0x21),
@@ -55,8 +67,8 @@ fn grammar() -> Grammar {
         &[(0x20, 0x20), (0x2B, 0x3A), (0x41, 0x5A), (0x61, 0x7A)],
     );
     grammar.production(CHANNEL, channel_elements());
-    grammar.production(ITEM, item_elements());
-    grammar.production(MARK, mark_elements());
+    grammar.production(ITEM, item);
+    grammar.production(MARK, mark);
     grammar.production(RATING, [keyword("<itunes:explicit>true</itunes:explicit>")]);
     grammar.production(
         RATING,
@@ -80,8 +92,8 @@ fn channel_elements() -> Vec<Element> {
     ]
 }
 
-/// An item: texts, its recording, a rating and its marks.
-fn item_elements() -> Vec<Element> {
+/// An item: texts, its recording, a rating and, in an element of this name, its marks.
+fn item_elements(name: &str, marks: Element) -> Vec<Element> {
     vec![
         keyword("<item><title>"),
         Element::Class(TITLE),
@@ -97,9 +109,9 @@ fn item_elements() -> Vec<Element> {
         Element::Class(COUNT),
         keyword("\" type=\"audio/mpeg\"/>"),
         Element::Nonterminal(RATING),
-        keyword("\n<psc:chapters>"),
-        Element::Repetition(MARK),
-        keyword("</psc:chapters>\n</item>\n"),
+        keyword(&format!("\n<{name}>")),
+        marks,
+        keyword(&format!("</{name}>\n</item>\n")),
     ]
 }
 

@@ -16,7 +16,7 @@ pub struct Family {
 }
 
 /// All families.
-pub const FAMILIES: [Family; 17] = [
+pub const FAMILIES: [Family; 20] = [
     Family {
         name: "the paper's example",
         set: |_| example(),
@@ -30,6 +30,11 @@ pub const FAMILIES: [Family; 17] = [
     Family {
         name: "podcast feed, full size",
         set: podcast::feed,
+        grows: true,
+    },
+    Family {
+        name: "podcast feed, chapters with commas",
+        set: podcast::with_commas,
         grows: true,
     },
     Family {
@@ -59,7 +64,17 @@ pub const FAMILIES: [Family; 17] = [
     },
     Family {
         name: "thousands of one-character texts",
-        set: one_character_texts,
+        set: |scale| one_character_texts(Element::Repetition(1), scale),
+        grows: true,
+    },
+    Family {
+        name: "thousands of one-character texts, commas between",
+        set: |scale| one_character_texts(Element::separated(1, ", "), scale),
+        grows: true,
+    },
+    Family {
+        name: "hundreds of texts, 1,200 bytes between",
+        set: long_separators,
         grows: true,
     },
     Family {
@@ -110,9 +125,14 @@ fn keyword(text: &str) -> Element {
 
 /// Nonterminal 0: `[` 1* `]`. Nonterminal 1: `<` class 0 `>`.
 fn entries(least: u16, most: u16, ranges: &[(u32, u32)]) -> Grammar {
+    repeated_entries(Element::Repetition(1), least, most, ranges)
+}
+
+/// The same with another repetition of nonterminal 1.
+fn repeated_entries(repetition: Element, least: u16, most: u16, ranges: &[(u32, u32)]) -> Grammar {
     let mut grammar = Grammar::new();
     grammar.class(least, most, ranges);
-    grammar.production(0, [keyword("["), Element::Repetition(1), keyword("]")]);
+    grammar.production(0, [keyword("["), repetition, keyword("]")]);
     grammar.production(1, [keyword("<"), Element::Class(0), keyword(">")]);
     grammar
 }
@@ -280,10 +300,21 @@ fn many_fields(scale: usize) -> Streams {
     Streams::of(&grammar, &templates, &value)
 }
 
-fn one_character_texts(scale: usize) -> Streams {
-    let grammar = entries(1, 1, &[(0x61, 0x7A), (0x370, 0x3FF)]);
+fn one_character_texts(repetition: Element, scale: usize) -> Streams {
+    letters(repetition, 1_000 * scale)
+}
+
+/// Separators of several blocks, and a short text before each.
+fn long_separators(scale: usize) -> Streams {
+    let separator = Element::separated(1, "; then: ".repeat(150));
+    letters(separator, 100 * scale)
+}
+
+/// So many texts of one character each, as entries.
+fn letters(repetition: Element, count: usize) -> Streams {
+    let grammar = repeated_entries(repetition, 1, 1, &[(0x61, 0x7A), (0x370, 0x3FF)]);
     let letters = ["a", "β", "z", "ω"];
-    let texts = (0..1_000 * scale).map(|number| Value::text(letters[number % 4]));
+    let texts = (0..count).map(|number| Value::text(letters[number % 4]));
     Streams::of(&grammar, &entries_templates(0), &Value::list(texts))
 }
 
