@@ -1,7 +1,7 @@
 //! The shared vectors of the latest request that has landed, when they are there
 //! (`PAGE_MACHINE_VECTORS`, or `shared/vectors` beside the repository), held against both machines.
-//! A later request may change the answers of an earlier folder. Each folder has three streams, what the paper's program
-//! prints, and more calls; `vectors.txt` has checks, packing and unpacking.
+//! A later request may change the answers of an earlier folder. Each folder has three streams, what
+//! the paper's program prints, and more calls; `vectors.txt` has checks, packing and unpacking.
 
 use std::fs;
 use std::path::{Path, PathBuf};
