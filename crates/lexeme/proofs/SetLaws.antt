@@ -96,10 +96,15 @@ up-end from to before set₁ w f l = record {
     go x k true q = f .below x (ltb-true (x / 16) from q)
     go x k false q = let n : from ≤ x / 16 = ltb-false (x / 16) from q in f .above x (omega (arith, f .far))
 
--- a range that begins and ends in one number, or ends before it begins
+-- a character that isn't in a range
 unchanged : (low high : ℕ) (before after : List ℕ) (x : ℕ) → isIn after x ≡ isIn before x → within low high x ≡ false → isIn after x ≡ (isIn before x || within low high x)
 unchanged low high before after x e f = e ∙ sym (or-false (isIn before x)) ∙ ap (λ (b : Bool). isIn before x || b) (sym f)
 
+-- a range above the characters that a set tells apart
+pub range-above : (low high : ℕ) (set₀ : List ℕ) → 2048 ≤ low → (x : ℕ) → x < 2048 → isIn set₀ x ≡ (isIn set₀ x || within low high x)
+range-above low high set₀ l x k = unchanged low high set₀ set₀ x refl (none-below low high x (omega arith))
+
+-- one that begins and ends in one number, or ends before it begins
 pub range-short : (low high : ℕ) (set₀ set₁ : List ℕ) → Added low high (low / 16) set₀ set₁ → high / 16 ≤ low / 16
     → (x : ℕ) → x < 2048 → isIn set₁ x ≡ (isIn set₀ x || within low high x)
 range-short low high set₀ set₁ a l x k = go (ltb (x / 16) (low / 16)) refl (ltb (low / 16) (x / 16)) refl

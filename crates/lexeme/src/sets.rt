@@ -113,11 +113,15 @@ fn fill(set: &mut [u16], from: usize, to: usize)
     }
 }
 
-// The characters from low to high go into a set: some of the first and of the last of their numbers, and all of those between.
+// The characters from low to high go into a set: some of the first and of the last of their numbers, and all of those between. Of a class of
+// thousands of ranges most lie wholly above what a set tells apart, and these have nothing to put into it.
 fn add_range(set: &mut [u16], low: usize, high: usize)
     requires { ⌜ (length (now set) ≡ 128) × (high < 2 ^ 32) ⌝ }
     ensures { λ _. ⌜ ((x : ℕ) → x < 2048 → isIn (now (set .exit)) x ≡ (isIn (now (set .entry)) x || within low high x)) ⌝ }
 {
+    if CHARACTERS <= low {
+        return;
+    }
     let from = low / BITS;
     let to = high / BITS;
     add_at(set, low, high, from);
