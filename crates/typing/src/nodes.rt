@@ -6,6 +6,7 @@ ghost use lib.ListN.{length, take};
 ghost use Rattle.rules.specs.Faults.{every};
 ghost use Rattle.rules.specs.Blocks.{streamLength};
 ghost use Rattle.rules.specs.Typing.{misfit};
+ghost use Rattle.stream.specs.Record.{Fetched};
 ghost use Rattle.typing.specs.Answers.{siteOf, positionIn, entryOf, bindings, Bound, sitesIn, Checked};
 ghost use Rattle.typing.specs.Asks.{CheckerTables, FrameReady, RowReady, Scope};
 use crate::Below;
@@ -18,8 +19,10 @@ use crate::Tested;
 use crate::VARIABLES;
 use crate::asked::position_at;
 use crate::suits::own_test;
-use records::node::size_at;
+use records::node::size_in;
 use rules::Position;
+use stream::record::Record;
+use stream::record::fetch;
 
 // The position of node i of a row.
 fn position_in(g: &[u8], asked: &[u16; RECORDS], positions: Positions, i: usize) -> Position
@@ -72,6 +75,7 @@ fn row(
             position: position,
             count: count,
         };
+        let head = fetch(t, at);
         let one = check(
             g,
             t,
@@ -83,19 +87,20 @@ fn row(
             templates,
             scope,
             f,
+            head,
             left,
         );
         if let Judged::Offends(p, unsuited) = one {
             return Judged::Offends(p, unsuited);
         }
-        at += size_at(t, at);
+        at += size_in(head);
         i += 1;
     }
     Judged::Suits
 }
 
 // The first node from the frame's on that does not suit its position, where `left` levels are left. A build, an if, a for and a sequence
-// differ only in the row that stands below them.
+// differ only in the row that stands below them. The node's head comes from the caller: a row needs it too, for the node's size.
 pub fn check(
     g: &[u8],
     t: &[u8],
@@ -107,9 +112,10 @@ pub fn check(
     templates: &[u16],
     scope: &mut [u16; VARIABLES],
     f: Frame,
+    head: Record,
     left: usize,
 ) -> Judged
-    requires { ⌜ (CheckerTables (now g) (now t) (now classes) (now sets) (now productions) (now asked) (now types) (now templates)) × (FrameReady left (now t) f) × (length (now scope) ≡ 24) ⌝ }
+    requires { ⌜ (CheckerTables (now g) (now t) (now classes) (now sets) (now productions) (now asked) (now types) (now templates)) × (FrameReady left (now t) f) × (length (now scope) ≡ 24) × (Fetched (now t) (f .node) head) ⌝ }
     ensures { λ r. ⌜ Checked (misfit (now (g .entry)) (now (t .entry)) left (siteOf (now (scope .entry)) f)) (f .count) (now (scope .entry)) (now (scope .exit)) r ⌝ }
 {
     let position = f.position;
@@ -127,6 +133,7 @@ pub fn check(
         templates,
         scope,
         f,
+        head,
     );
     let Tested::Above(below) = own else {
         return Judged::Offends(f.node, position);

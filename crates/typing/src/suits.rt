@@ -275,7 +275,7 @@ fn suits_sequence(f: Frame, r: Record) -> Tested
     })
 }
 
-// A node's own test, by its form: whether it suits its position, and what stands below it.
+// A node's own test, from its head r, by its form: whether it suits its position, and what stands below it.
 pub fn own_test(
     g: &[u8],
     t: &[u8],
@@ -287,11 +287,11 @@ pub fn own_test(
     templates: &[u16],
     scope: &[u16; VARIABLES],
     f: Frame,
+    r: Record,
 ) -> Tested
-    requires { ⌜ (CheckerTables (now g) (now t) (now classes) (now sets) (now productions) (now asked) (now types) (now templates)) × (RoomBelow 1 (f .node)) × (Scope (now scope) (f .count)) ⌝ }
-    ensures { λ r. ⌜ Tests (now (g .entry)) (now (t .entry)) (now (asked .entry)) (siteOf (now (scope .entry)) f) (formOf (now (t .entry)) (f .node)) r ⌝ }
+    requires { ⌜ (CheckerTables (now g) (now t) (now classes) (now sets) (now productions) (now asked) (now types) (now templates)) × (RoomBelow 1 (f .node)) × (Scope (now scope) (f .count)) × (Fetched (now t) (f .node) r) ⌝ }
+    ensures { λ a. ⌜ Tests (now (g .entry)) (now (t .entry)) (now (asked .entry)) (siteOf (now (scope .entry)) f) (formOf (now (t .entry)) (f .node)) a ⌝ }
 {
-    let r = fetch(t, f.node);
     match form_of(r) {
         Form::Build => suits_build(g, productions, asked, f, r),
         Form::Literal => leaf(suits_literal(g, t, classes, sets, f)),

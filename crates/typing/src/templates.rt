@@ -107,6 +107,7 @@ pub fn templates_typing(
             templates,
             &mut scope,
             f,
+            fetch(t, f.node),
             LEVELS,
         );
         if let Judged::Offends(p, _) = one {

@@ -1,5 +1,6 @@
 -- What is wrong in the nodes that are left is what is wrong in the whole row. The measure is twice the levels left, and one more for a row. Assumes nothing.
 use Prim.Native.Nat.{ℕ, _+_, _-_, _*_, _<_}
+use mathlib.Core.Path.{_∙_}
 use native.Mathlib.Omega.{arith}
 use Rattle.typing.proofs.LimitLaws.{ready-few, row-room, below-ready}
 use Rattle.typing.proofs.NodeLaws.{misfit-deep, misfit-own, Turn, turn-start, turn-ready, turn-stop, turn-next, turn-end, checked-own, checked-below}
@@ -12,7 +13,8 @@ use Rattle.typing.proofs.nodes.+check+row.Lts-check as check-lts
 use Rattle.typing.proofs.nodes.row.Reads as row
 use Rattle.typing.proofs.nodes.row.Kinds as row-kinds
 use Rattle.typing.proofs.nodes.+check+row.Lts-row as row-lts
-use Rattle.records.proofs.node.size_at.Reads as size-at-reads
+use Rattle.records.proofs.node.size_in.Reads as size-in-reads
+use Rattle.stream.proofs.record.fetch.Reads as fetch-reads
 use Rattle.typing.proofs.nodes.bind.Reads as bind-reads
 use Rattle.typing.proofs.nodes.position_in.Reads as position-in-reads
 use Rattle.typing.proofs.suits.own_test.Reads as own-test-reads
@@ -20,7 +22,7 @@ use Rattle.typing.proofs.nodes.+check+row.{statement}
 use Rattle.typing.proofs.nodes.+check+row.Tie.{close}
 
 abbrev μ-check : Measures 9 check-kinds.ps ℕ
-μ-check κs a = 2 * a .1 .1 .1 .1 .1 .1 .1 .1 .1 .1 .0
+μ-check κs a = 2 * a .1 .1 .1 .1 .1 .1 .1 .1 .1 .1 .1 .0
 
 abbrev μ-row : Measures 9 row-kinds.ps ℕ
 μ-row κs a = 2 * a .1 .1 .1 .1 .1 .1 .1 .1 .1 .1 .1 .0 + 1
@@ -41,13 +43,13 @@ abbrev check-claims : (t : ℕ) → check-lts.Claims
 check-claims t = (own-test-reads.Asked, own-test-reads.Learnt, bind-reads.Asked, bind-reads.Learnt, row-below t, row.Post)
 
 abbrev row-claims : (t : ℕ) → row-lts.Claims
-row-claims t = (position-in-reads.Asked, position-in-reads.Learnt, check-below t, check.Post, size-at-reads.Asked, size-at-reads.Learnt)
+row-claims t = (position-in-reads.Asked, position-in-reads.Learnt, fetch-reads.Asked, fetch-reads.Learnt, check-below t, check.Post, size-in-reads.Asked, size-in-reads.Learnt)
 
 check-returns : (t : ℕ) → check-lts.Need-returns (check-claims t) (check-at t) check.Post
 check-returns t c = checked-own _ (c .before .before .before .before .before .before .before .before .pre .1 .2) (misfit-deep _ _ _ _ (c .if1 .taken))
 
 check-own-test-requires : (t : ℕ) → check-lts.Need-own-test-requires (check-claims t) (check-at t) check.Post
-check-own-test-requires t c κs = (c .before .before .before .before .before .before .before .before .before .pre .1 .0, omega (arith, c .before .before .before .before .before .before .before .before .before .pre .1 .1 .near, c .before .if1 .left), (record { full = (c .before .before .before .before .before .before .before .before .before .pre .1 .2); few = ready-few (c .before .if1 .left) (c .before .before .before .before .before .before .before .before .before .pre .1 .1) }))
+check-own-test-requires t c κs = (c .before .before .before .before .before .before .before .before .before .pre .1 .0, omega (arith, c .before .before .before .before .before .before .before .before .before .pre .1 .1 .near, c .before .if1 .left), (record { full = (c .before .before .before .before .before .before .before .before .before .pre .1 .2); few = ready-few (c .before .if1 .left) (c .before .before .before .before .before .before .before .before .before .pre .1 .1) }), c .before .before .before .before .before .before .before .before .before .pre .1 .3)
 
 check-enum-known-own : (t : ℕ) → check-lts.Need-enum-known-own (check-claims t) (check-at t) check.Post
 check-enum-known-own t c = search needs
@@ -82,32 +84,35 @@ row-loop-holds t c = turn-start _ _ _ (c .before .before .before .before .before
 row-position-in-requires : (t : ℕ) → row-lts.Need-position-in-requires (row-claims t) (row-at t) row.Post row-Inv-loop row-μ-loop
 row-position-in-requires t c κs = (c .before .before .before .before .before .before .before .before .before .before .pre .1 .0 .builds .sized, omega (arith, c .before .before .before .before .before .before .before .before .before .before .pre .1 .1 .many, (c .if1 .taken)), c .before .before .before .before .before .before .before .before .before .before .pre .1 .1 .inside _ (c .if1 .taken))
 
+row-fetch-requires : (t : ℕ) → row-lts.Need-fetch-requires (row-claims t) (row-at t) row.Post row-Inv-loop row-μ-loop
+row-fetch-requires t c κs = c .before .before .before .before .before .before .before .before .before .before .before .pre .1 .0 .types .sized
+
 row-check-requires : (t : ℕ) → row-lts.Need-check-requires (row-claims t) (row-at t) row.Post row-Inv-loop row-μ-loop
-row-check-requires t c κs = (omega (arith, c .before .before .before .before .before .before .before .before .before .before .before .before .pre .0), (c .before .before .before .before .before .before .before .before .before .before .before .before .pre .1 .0, turn-ready (c .before .before .before .before .loop .inv) (c .before .before .if1 .taken) _ (c .before .before .before .before .before .before .before .before .before .before .before .before .pre .1 .1), (c .before .before .before .before .loop .inv) .full))
+row-check-requires t c κs = (omega (arith, c .before .before .before .before .before .before .before .before .before .before .before .before .before .pre .0), (c .before .before .before .before .before .before .before .before .before .before .before .before .before .pre .1 .0, turn-ready (c .before .before .before .before .before .loop .inv) (c .before .before .before .if1 .taken) _ (c .before .before .before .before .before .before .before .before .before .before .before .before .before .pre .1 .1), (c .before .before .before .before .before .loop .inv) .full, c .before .fetch .ensures))
 
 row-enum-known-one : (t : ℕ) → row-lts.Need-enum-known-one (row-claims t) (row-at t) row.Post row-Inv-loop row-μ-loop
 row-enum-known-one t c = search needs
 
 row-returns : (t : ℕ) → row-lts.Need-returns (row-claims t) (row-at t) row.Post row-Inv-loop row-μ-loop
-row-returns t c = turn-stop (c .before .before .before .before .before .before .before .before .loop .inv) (c .before .before .before .before .before .before .if1 .taken) _ (c .before .before .before .before .before .position-in .ensures) _ (c .before .before .before .check .ensures) (c .before .one .given .1)
+row-returns t c = turn-stop (c .before .before .before .before .before .before .before .before .before .loop .inv) (c .before .before .before .before .before .before .before .if1 .taken) _ (c .before .before .before .before .before .before .position-in .ensures) _ (c .before .before .before .check .ensures) (c .before .one .given .1)
 
 row-enum-told : (t : ℕ) → row-lts.Need-enum-told (row-claims t) (row-at t) row.Post row-Inv-loop row-μ-loop
 row-enum-told t c = search needs
 
-row-size-at-requires : (t : ℕ) → row-lts.Need-size-at-requires (row-claims t) (row-at t) row.Post row-Inv-loop row-μ-loop
-row-size-at-requires t c κs = c .before .before .before .before .before .before .before .before .before .before .before .before .before .before .before .pre .1 .0 .types .sized
+row-size-in-requires : (t : ℕ) → row-lts.Need-size-in-requires (row-claims t) (row-at t) row.Post row-Inv-loop row-μ-loop
+row-size-in-requires t c κs = search needs
 
 row-add-at : (t : ℕ) → row-lts.Need-add-at (row-claims t) (row-at t) row.Post row-Inv-loop row-μ-loop
-row-add-at t c = record { fits = omega (arith, c .before .before .before .before .before .before .before .before .before .before .before .before .before .before .before .before .pre .1 .1 .near, c .before .before .before .before .before .before .before .before .before .before .before .before .before .before .before .before .pre .1 .1 .many, (c .before .before .before .before .before .before .before .before .loop .inv) .here, c .before .before .before .before .before .before .if1 .taken, c .size-at .ensures .1) }
+row-add-at t c = record { fits = omega (arith, c .before .before .before .before .before .before .before .before .before .before .before .before .before .before .before .before .before .pre .1 .1 .near, c .before .before .before .before .before .before .before .before .before .before .before .before .before .before .before .before .before .pre .1 .1 .many, (c .before .before .before .before .before .before .before .before .before .loop .inv) .here, c .before .before .before .before .before .before .before .if1 .taken, c .size-in .ensures .1) }
 
 row-add-i : (t : ℕ) → row-lts.Need-add-i (row-claims t) (row-at t) row.Post row-Inv-loop row-μ-loop
-row-add-i t c = record { fits = omega (arith, c .before .before .before .before .before .before .before .before .before .before .before .before .before .before .before .before .pre .1 .1 .many, c .before .before .before .before .before .before .if1 .taken) }
+row-add-i t c = record { fits = omega (arith, c .before .before .before .before .before .before .before .before .before .before .before .before .before .before .before .before .before .pre .1 .1 .many, c .before .before .before .before .before .before .before .if1 .taken) }
 
 row-loop-less : (t : ℕ) → row-lts.Need-loop-less (row-claims t) (row-at t) row.Post row-Inv-loop row-μ-loop
-row-loop-less t c = omega (arith, c .before .before .before .before .before .before .if1 .taken)
+row-loop-less t c = omega (arith, c .before .before .before .before .before .before .before .if1 .taken)
 
 row-loop-again : (t : ℕ) → row-lts.Need-loop-again (row-claims t) (row-at t) row.Post row-Inv-loop row-μ-loop
-row-loop-again t c = turn-next (c .before .before .before .before .before .before .before .before .loop .inv) (c .before .before .before .before .before .before .if1 .taken) _ (c .before .before .before .before .before .position-in .ensures) _ (c .before .before .before .check .ensures) (c .before .enum-told .given .1) _ (c .size-at .ensures .0) (c .size-at .ensures .1)
+row-loop-again t c = turn-next (c .before .before .before .before .before .before .before .before .before .loop .inv) (c .before .before .before .before .before .before .before .if1 .taken) _ (c .before .before .before .before .before .before .position-in .ensures) _ (c .before .before .before .check .ensures) (c .before .enum-told .given .1) _ (c .size-in .ensures .0 ∙ c .before .before .before .before .before .fetch .ensures .c) (c .size-in .ensures .1)
 
 row-returns-2 : (t : ℕ) → row-lts.Need-returns-2 (row-claims t) (row-at t) row.Post row-Inv-loop row-μ-loop
 row-returns-2 t c = turn-end (c .before .before .loop .inv) (c .if1 .left)
@@ -139,11 +144,12 @@ pub +check+row-spec : {M : Type 1} → statement M
     row-μ-loop
     (row-loop-holds t)
     (row-position-in-requires t)
+    (row-fetch-requires t)
     (row-check-requires t)
     (row-enum-known-one t)
     (row-returns t)
     (row-enum-told t)
-    (row-size-at-requires t)
+    (row-size-in-requires t)
     (row-add-at t)
     (row-add-i t)
     (row-loop-less t)

@@ -50,26 +50,29 @@ body-frame-requires c κs = (c .before .before .before .before .before .before .
 parameter-types-requires : tie.Need-parameter-types-requires Inv-loop μ-loop
 parameter-types-requires c κs = (c .before .before .before .before .before .before .before .before .before .before .before .before .before .before .before .before .pre .sized-t, omega (arith, c .body-frame .ensures .count-is, few-parameters _ _ (c .before .before .before .before .before .before .before .before .before .before .before .before .before .before .before .before .pre .templates-are) (c .before .before .before .before .before .before .before .before .before .before .before .before .before .before .before .before .pre .limits) _ (c .before .before .loop-test .taken)))
 
+fetch-requires : tie.Need-fetch-requires Inv-loop μ-loop
+fetch-requires c κs = c .before .before .before .before .before .before .before .before .before .before .before .before .before .before .before .before .before .before .before .pre .sized-t
+
 check-requires : tie.Need-check-requires Inv-loop μ-loop
-check-requires c κs = (record { lexemes = c .before .before .before .before .before .before .before .before .before .before .before .before .before .before .before .before .before .before .before .pre .lexemes; builds = record { productions-are = c .before .before .before .before .before .before .before .before .before .before .before .before .before .before .before .before .before .before .before .pre .productions-are; filled = c .before .before .before .before .before .before .loop .inv .0; sized = c .before .before .before .before .before .before .before .before .before .before .before .before .before .before .before .before .before .before .before .pre .sized-g }; types = record { types-are = c .before .before .before .before .before .before .before .before .before .before .before .before .before .before .before .before .before .before .before .pre .types-are; sized = c .before .before .before .before .before .before .before .before .before .before .before .before .before .before .before .before .before .before .before .pre .sized-t }; templates-are = c .before .before .before .before .before .before .before .before .before .before .before .before .before .before .before .before .before .before .before .pre .templates-are }, body-ready _ _ (c .before .before .before .before .before .before .before .before .before .before .before .before .before .before .before .before .before .before .before .pre .templates-are) (c .before .before .before .before .before .before .before .before .before .before .before .before .before .before .before .before .before .before .before .pre .limits) _ (c .before .before .before .before .before .loop-test .taken) _ (c .before .before .before .body-frame .ensures), c .before .before .parameter-types .ensures .1)
+check-requires c κs = (record { lexemes = c .before .before .before .before .before .before .before .before .before .before .before .before .before .before .before .before .before .before .before .before .pre .lexemes; builds = record { productions-are = c .before .before .before .before .before .before .before .before .before .before .before .before .before .before .before .before .before .before .before .before .pre .productions-are; filled = c .before .before .before .before .before .before .before .loop .inv .0; sized = c .before .before .before .before .before .before .before .before .before .before .before .before .before .before .before .before .before .before .before .before .pre .sized-g }; types = record { types-are = c .before .before .before .before .before .before .before .before .before .before .before .before .before .before .before .before .before .before .before .before .pre .types-are; sized = c .before .before .before .before .before .before .before .before .before .before .before .before .before .before .before .before .before .before .before .before .pre .sized-t }; templates-are = c .before .before .before .before .before .before .before .before .before .before .before .before .before .before .before .before .before .before .before .before .pre .templates-are }, body-ready _ _ (c .before .before .before .before .before .before .before .before .before .before .before .before .before .before .before .before .before .before .before .before .pre .templates-are) (c .before .before .before .before .before .before .before .before .before .before .before .before .before .before .before .before .before .before .before .before .pre .limits) _ (c .before .before .before .before .before .before .loop-test .taken) _ (c .before .before .before .before .body-frame .ensures), c .before .before .before .parameter-types .ensures .1, c .fetch .ensures)
 
 enum-known-one : tie.Need-enum-known-one Inv-loop μ-loop
 enum-known-one c = search needs
 
 returns-2 : tie.Need-returns-2 Inv-loop μ-loop
-returns-2 c = every-stop _ (c .before .before .before .before .before .before .before .before .before .before .loop .inv .1) (drop-more _ _ (c .before .before .before .before .before .before .before .before .before .loop-test .taken)) (body-wrong _ _ _ _ (c .before .before .before .before .before .before .before .body-frame .ensures) _ (c .before .before .before .before .before .before .parameter-types .ensures .0) _ (c .before .before .before .check .ensures .says) (c .before .one .given .1))
+returns-2 c = every-stop _ (c .before .before .before .before .before .before .before .before .before .before .before .loop .inv .1) (drop-more _ _ (c .before .before .before .before .before .before .before .before .before .before .loop-test .taken)) (body-wrong _ _ _ _ (c .before .before .before .before .before .before .before .before .body-frame .ensures) _ (c .before .before .before .before .before .before .before .parameter-types .ensures .0) _ (c .before .before .before .check .ensures .says) (c .before .one .given .1))
 
 enum-told-3 : tie.Need-enum-told-3 Inv-loop μ-loop
 enum-told-3 c = search needs
 
 add-k : tie.Need-add-k Inv-loop μ-loop
-add-k c = record { fits = omega (arith, c .before .before .before .before .before .before .before .before .loop-test .taken, c .before .before .before .before .before .before .before .before .before .before .before .before .before .before .before .before .before .before .before .before .before .before .good) }
+add-k c = record { fits = omega (arith, c .before .before .before .before .before .before .before .before .before .loop-test .taken, c .before .before .before .before .before .before .before .before .before .before .before .before .before .before .before .before .before .before .before .before .before .before .before .good) }
 
 loop-less : tie.Need-loop-less Inv-loop μ-loop
-loop-less c = omega (arith, c .before .before .before .before .before .before .before .before .loop-test .taken)
+loop-less c = omega (arith, c .before .before .before .before .before .before .before .before .before .loop-test .taken)
 
 loop-again : tie.Need-loop-again Inv-loop μ-loop
-loop-again c = (c .before .before .before .before .before .before .before .before .before .loop .inv .0, every-next _ (c .before .before .before .before .before .before .before .before .before .loop .inv .1) (drop-more _ _ (c .before .before .before .before .before .before .before .before .loop-test .taken)) (body-right _ _ _ _ (c .before .before .before .before .before .before .body-frame .ensures) _ (c .before .before .before .before .before .parameter-types .ensures .0) _ (c .before .before .check .ensures .says) (c .enum-told3 .given .1)))
+loop-again c = (c .before .before .before .before .before .before .before .before .before .before .loop .inv .0, every-next _ (c .before .before .before .before .before .before .before .before .before .before .loop .inv .1) (drop-more _ _ (c .before .before .before .before .before .before .before .before .before .loop-test .taken)) (body-right _ _ _ _ (c .before .before .before .before .before .before .before .body-frame .ensures) _ (c .before .before .before .before .before .before .parameter-types .ensures .0) _ (c .before .before .check .ensures .says) (c .enum-told3 .given .1)))
 
 returns-3 : tie.Need-returns-3 Inv-loop μ-loop
 returns-3 c = every-end _ (c .before .loop .inv .1) (drop-done _ _ (c .loop-test .left))
@@ -90,6 +93,7 @@ templates-typing-spec =
     shared-slice-read-q
     body-frame-requires
     parameter-types-requires
+    fetch-requires
     check-requires
     enum-known-one
     returns-2
