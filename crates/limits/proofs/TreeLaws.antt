@@ -14,6 +14,7 @@ use Rattle.rules.specs.Names.{nodeNamed}
 use Rattle.rules.specs.declared.Form.{Form}
 use Rattle.rules.specs.declared.Form.the-variants.{If, For}
 use Rattle.laws.specs.Faults.{tree-right, tree-wrong, tree-deep, at-both}
+use Rattle.laws.specs.Rows.{every-none}
 use Rattle.limits.specs.Rows.{valuesWithin, nodeWithin, nodesWithin, nodesNamed}
 use Rattle.limits.proofs.FormLaws.{Among, several, bare, many-nodes, no-nodes}
 
@@ -52,7 +53,7 @@ unfolding every at
 every-at f loops [] = refl
 every-at f loops (p ∷ ps) = at-both _ _ _ ∙ ap (both _) (every-at f loops ps)
 
--- a node with so many loops around it: it is too deep, the loops are too many, or all depends on the row below it
+-- a node with so many loops around it: it is too deep, the loops are too many, all depends on the row below it, or none is below it
 module _ (t : List ℕ) (left loops q : ℕ) where
   pub node-deep : left ≡ 0 → nodeWithin t left loops q ≡ some q
   unfolding nodeWithin at looped
@@ -68,6 +69,11 @@ module _ (t : List ℕ) (left loops q : ℕ) where
   node-below h l form inside count from hf hi hr =
       ap (at (λ x. x .node)) (tree-right fewLoops (loopedBelow t) left (looped loops q) h (le-leb loops 16 l))
       ∙ every-at (tree fewLoops (loopedBelow t) (left - 1)) (loopsBelow (formOf t q) loops) (nodesBelow t q) ∙ rw (hi, hf, hr)
+
+  pub node-leaf : 0 < left → loops ≤ 16 → (count from : ℕ) → heads (fieldC t) count from ≡ nodesBelow t q → count ≡ 0
+      → nodeWithin t left loops q ≡ none
+  unfolding nodesWithin
+  node-leaf h l count from hr e = node-below h l _ _ count from refl refl hr ∙ sym (every-none _ _ count from e)
 
 -- a node and what it names
 module _ (g t : List ℕ) (left q : ℕ) (more : 0 < left) (named : Bool) (hn : named ≡ nodeNamed g t q) where

@@ -56,13 +56,18 @@ fn nodes_within(t: &[u8], first: usize, count: usize, left: usize, loops: usize)
         let node = node_at(t, at);
         let form = node.form;
         let below = node.below;
-        let inside = loops_inside(form, loops);
-        let fault = nodes_within(t, below.first, below.count, left - 1, inside);
-        if let Fault::At(p) = fault {
-            return Fault::At(p);
+        let after = at + node.size;
+        let turn = i + 1;
+        // Most nodes have none below them, and cost no call.
+        if below.count != 0 {
+            let inside = loops_inside(form, loops);
+            let fault = nodes_within(t, below.first, below.count, left - 1, inside);
+            if let Fault::At(p) = fault {
+                return Fault::At(p);
+            }
         }
-        at += node.size;
-        i += 1;
+        at = after;
+        i = turn;
     }
     Fault::Nowhere
 }

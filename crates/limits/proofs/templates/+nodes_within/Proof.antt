@@ -8,7 +8,7 @@ use Rattle.limits.specs.Rows.{nodeWithin, nodesWithin}
 use Rattle.laws.specs.Faults.{every-next, every-stop, every-end}
 use Rattle.laws.specs.Rows.{heads-more, heads-done, heads-all, every-none, every-offends}
 use Rattle.stream.proofs.BlockLaws.{found, unfound}
-use Rattle.limits.proofs.TreeLaws.{node-deep, node-many, node-below}
+use Rattle.limits.proofs.TreeLaws.{node-deep, node-many, node-below, node-leaf}
 use borrow.Author.Needs.{needs}
 use borrow.Fn.Kinds.{In}
 use borrow.Fn.PlainCycle.{Measures, is, falls, and}
@@ -63,6 +63,12 @@ nodes-within-loop-holds t c = (omega arith, omega arith, heads-all (every _) _ _
 nodes-within-node-at-requires : (t : ℕ) → nodes-within-lts.Need-node-at-requires (nodes-within-claims t) (nodes-within-at t) nodes-within.Post nodes-within-Inv-loop nodes-within-μ-loop
 nodes-within-node-at-requires t c κs = search needs
 
+nodes-within-add-after : (t : ℕ) → nodes-within-lts.Need-add-after (nodes-within-claims t) (nodes-within-at t) nodes-within.Post nodes-within-Inv-loop nodes-within-μ-loop
+nodes-within-add-after t c = search needs
+
+nodes-within-add-turn : (t : ℕ) → nodes-within-lts.Need-add-turn (nodes-within-claims t) (nodes-within-at t) nodes-within.Post nodes-within-Inv-loop nodes-within-μ-loop
+nodes-within-add-turn t c = search needs
+
 nodes-within-loops-inside-requires : (t : ℕ) → nodes-within-lts.Need-loops-inside-requires (nodes-within-claims t) (nodes-within-at t) nodes-within.Post nodes-within-Inv-loop nodes-within-μ-loop
 nodes-within-loops-inside-requires t c κs = search needs
 
@@ -70,28 +76,28 @@ nodes-within-sub-nodes-within : (t : ℕ) → nodes-within-lts.Need-sub-nodes-wi
 nodes-within-sub-nodes-within t c = search needs
 
 nodes-within-nodes-within-requires : (t : ℕ) → nodes-within-lts.Need-nodes-within-requires (nodes-within-claims t) (nodes-within-at t) nodes-within.Post nodes-within-Inv-loop nodes-within-μ-loop
-nodes-within-nodes-within-requires t c κs = (omega arith, record { sized = c .before .before .before .before .before .before .before .before .before .pre .1 .sized; near = record { place = omega arith; few = c .before .before .node-at .ensures .below .few } })
+nodes-within-nodes-within-requires t c κs = (omega arith, record { sized = c .before .before .before .before .before .before .before .before .before .before .before .before .pre .1 .sized; near = record { place = omega arith; few = c .before .before .before .before .before .node-at .ensures .below .few } })
 
 nodes-within-enum-known-fault : (t : ℕ) → nodes-within-lts.Need-enum-known-fault (nodes-within-claims t) (nodes-within-at t) nodes-within.Post nodes-within-Inv-loop nodes-within-μ-loop
 nodes-within-enum-known-fault t c = search needs
 
 nodes-within-returns-4 : (t : ℕ) → nodes-within-lts.Need-returns-4 (nodes-within-claims t) (nodes-within-at t) nodes-within.Post nodes-within-Inv-loop nodes-within-μ-loop
-nodes-within-returns-4 t c = every-stop _ (c .before .before .before .before .before .before .before .before .loop .inv .2) (heads-more _ _ _ _ (c .before .before .before .before .before .before .before .loop-test .taken) _ (c .before .before .before .before .before .before .node-at .ensures .size)) (node-below _ _ _ _ (omega arith) (omega arith) _ _ _ _ (c .before .before .before .before .before .before .node-at .ensures .form) (c .before .before .before .before .loops-inside .ensures) (c .before .before .before .before .before .before .node-at .ensures .below .below) ∙ (found _ _ _ (c .before .before .before .nodes-within .ensures) (c .before .fault .given .1)))
+nodes-within-returns-4 t c = every-stop _ (c .before .before .before .before .before .before .before .before .before .before .before .loop .inv .2) (heads-more _ _ _ _ (c .before .before .before .before .before .before .before .before .before .before .loop-test .taken) _ (c .before .before .before .before .before .before .before .before .before .node-at .ensures .size)) (node-below _ _ _ _ (omega arith) (omega arith) _ _ _ _ (c .before .before .before .before .before .before .before .before .before .node-at .ensures .form) (c .before .before .before .before .loops-inside .ensures) (c .before .before .before .before .before .before .before .before .before .node-at .ensures .below .below) ∙ (found _ _ _ (c .before .before .before .nodes-within .ensures) (c .before .fault .given .1)))
 
 nodes-within-enum-told : (t : ℕ) → nodes-within-lts.Need-enum-told (nodes-within-claims t) (nodes-within-at t) nodes-within.Post nodes-within-Inv-loop nodes-within-μ-loop
 nodes-within-enum-told t c = search needs
-
-nodes-within-add-at : (t : ℕ) → nodes-within-lts.Need-add-at (nodes-within-claims t) (nodes-within-at t) nodes-within.Post nodes-within-Inv-loop nodes-within-μ-loop
-nodes-within-add-at t c = search needs
-
-nodes-within-add-i : (t : ℕ) → nodes-within-lts.Need-add-i (nodes-within-claims t) (nodes-within-at t) nodes-within.Post nodes-within-Inv-loop nodes-within-μ-loop
-nodes-within-add-i t c = search needs
 
 nodes-within-loop-less : (t : ℕ) → nodes-within-lts.Need-loop-less (nodes-within-claims t) (nodes-within-at t) nodes-within.Post nodes-within-Inv-loop nodes-within-μ-loop
 nodes-within-loop-less t c = search needs
 
 nodes-within-loop-again : (t : ℕ) → nodes-within-lts.Need-loop-again (nodes-within-claims t) (nodes-within-at t) nodes-within.Post nodes-within-Inv-loop nodes-within-μ-loop
-nodes-within-loop-again t c = (omega arith, omega arith, every-next _ (c .before .before .before .before .before .before .before .before .loop .inv .2) (heads-more _ _ _ _ (c .before .before .before .before .before .before .before .loop-test .taken) _ (c .before .before .before .before .before .before .node-at .ensures .size)) (node-below _ _ _ _ (omega arith) (omega arith) _ _ _ _ (c .before .before .before .before .before .before .node-at .ensures .form) (c .before .before .before .before .loops-inside .ensures) (c .before .before .before .before .before .before .node-at .ensures .below .below) ∙ (unfound _ _ (c .before .before .before .nodes-within .ensures) (c .before .enum-told .given .1))))
+nodes-within-loop-again t c = (omega arith, omega arith, every-next _ (c .before .before .before .before .before .before .before .before .before .before .loop .inv .2) (heads-more _ _ _ _ (c .before .before .before .before .before .before .before .before .before .loop-test .taken) _ (c .before .before .before .before .before .before .before .before .node-at .ensures .size)) (node-below _ _ _ _ (omega arith) (omega arith) _ _ _ _ (c .before .before .before .before .before .before .before .before .node-at .ensures .form) (c .before .before .before .loops-inside .ensures) (c .before .before .before .before .before .before .before .before .node-at .ensures .below .below) ∙ (unfound _ _ (c .before .before .nodes-within .ensures) (c .enum-told .given .1))))
+
+nodes-within-loop-less-2 : (t : ℕ) → nodes-within-lts.Need-loop-less-2 (nodes-within-claims t) (nodes-within-at t) nodes-within.Post nodes-within-Inv-loop nodes-within-μ-loop
+nodes-within-loop-less-2 t c = search needs
+
+nodes-within-loop-again-2 : (t : ℕ) → nodes-within-lts.Need-loop-again-2 (nodes-within-claims t) (nodes-within-at t) nodes-within.Post nodes-within-Inv-loop nodes-within-μ-loop
+nodes-within-loop-again-2 t c = (omega arith, omega arith, every-next _ (c .before .before .before .before .before .before .loop .inv .2) (heads-more _ _ _ _ (c .before .before .before .before .before .loop-test .taken) _ (c .before .before .before .before .node-at .ensures .size)) (node-leaf _ _ _ _ (omega arith) (omega arith) _ _ (c .before .before .before .before .node-at .ensures .below .below) (c .if4 .left)))
 
 nodes-within-returns-5 : (t : ℕ) → nodes-within-lts.Need-returns-5 (nodes-within-claims t) (nodes-within-at t) nodes-within.Post nodes-within-Inv-loop nodes-within-μ-loop
 nodes-within-returns-5 t c = every-end _ (c .before .loop .inv .2) (heads-done _ _ _ _ (c .loop-test .left))
@@ -114,14 +120,16 @@ pub +nodes-within-spec : {M : Type 1} → statement M
     (nodes-within-returns-3 t)
     (nodes-within-loop-holds t)
     (nodes-within-node-at-requires t)
+    (nodes-within-add-after t)
+    (nodes-within-add-turn t)
     (nodes-within-loops-inside-requires t)
     (nodes-within-sub-nodes-within t)
     (nodes-within-nodes-within-requires t)
     (nodes-within-enum-known-fault t)
     (nodes-within-returns-4 t)
     (nodes-within-enum-told t)
-    (nodes-within-add-at t)
-    (nodes-within-add-i t)
     (nodes-within-loop-less t)
     (nodes-within-loop-again t)
+    (nodes-within-loop-less-2 t)
+    (nodes-within-loop-again-2 t)
     (nodes-within-returns-5 t)
