@@ -10,13 +10,12 @@ use borrow.Author.Tests.{lt-ltb, le-ltb}
 use Rattle.rules.specs.Faults.{exists}
 use Rattle.rules.specs.Records.{fieldA, fieldB, nth}
 use Rattle.rules.specs.Grammar.{class, classes, production, productions, elementNumbered, elementAt, nonterminalExists}
-use Rattle.rules.specs.Templates.{type, types, template, templates, typeNumbered, typeAt, formOf}
-use Rattle.rules.specs.Names.{elementNamed, typeNamed, formNamed, nodeNamed}
+use Rattle.rules.specs.Templates.{type, types, template, templates, typeNumbered, typeAt}
+use Rattle.rules.specs.Names.{elementNamed, typeNamed, formNamed}
 use Rattle.rules.specs.declared.Form.{Form}
 use Rattle.rules.specs.declared.Form.the-variants.{Build, Expand}
 use Rattle.stream.specs.declared.record.Record.{Record}
 use Rattle.stream.specs.Record.{Fetched}
-use Rattle.limits.proofs.FormLaws.{Among, nameless, names-nothing}
 
 -- entry n of a list exists exactly if n is below its length
 pub exists-nth : (xs : List ℕ) (n : ℕ) → exists (nth xs n) ≡ ltb n (length xs)
@@ -30,7 +29,7 @@ pub class-there : (g : List ℕ) (b count : ℕ) → count ≡ length (classes g
 unfolding class
 class-there g b count h = sym (exists-nth (classes g) b ∙ rw h)
 
-pub production-there : (g : List ℕ) (b count : ℕ) → count ≡ length (productions g) → ltb b count ≡ exists (production g b)
+production-there : (g : List ℕ) (b count : ℕ) → count ≡ length (productions g) → ltb b count ≡ exists (production g b)
 unfolding production
 production-there g b count h = sym (exists-nth (productions g) b ∙ rw h)
 
@@ -38,7 +37,7 @@ pub type-there : (t : List ℕ) (b count : ℕ) → count ≡ length (types t) �
 unfolding type
 type-there t b count h = sym (exists-nth (types t) b ∙ rw h)
 
-pub template-there : (t : List ℕ) (b count : ℕ) → count ≡ length (templates t) → ltb b count ≡ exists (template t b)
+template-there : (t : List ℕ) (b count : ℕ) → count ≡ length (templates t) → ltb b count ≡ exists (template t b)
 unfolding template
 template-there t b count h = sym (exists-nth (templates t) b ∙ rw h)
 
@@ -108,16 +107,12 @@ pub type-other : (g t : List ℕ) (p a : ℕ) → a ≡ fieldA t p → (a ≡ 0 
 unfolding typeAt
 type-other g t p a e h k = rw (← e) (type-numbered g t a p h k)
 
--- a node by its form: a build, an expand, or another, which names nothing
-module _ (g t : List ℕ) (p : ℕ) (form : Form) (hf : form ≡ formOf t p) where
-  pub node-build : form ≡ Build → (b : ℕ) → b ≡ fieldB t p → exists (production g b) ≡ nodeNamed g t p
-  unfolding nodeNamed formNamed
-  node-build e b k = sym (rw (← hf, e, k))
+-- a node by its form, a build or an expand: the number b against a count. (The other forms name nothing, as FormLaws says.)
+module _ (g t : List ℕ) (form : Form) (b : ℕ) where
+  pub node-build : form ≡ Build → (count : ℕ) → count ≡ length (productions g) → ltb b count ≡ formNamed g t form b
+  unfolding formNamed
+  node-build e count h = production-there g b count h ∙ sym (rw e)
 
-  pub node-expand : form ≡ Expand → (b : ℕ) → b ≡ fieldB t p → exists (template t b) ≡ nodeNamed g t p
-  unfolding nodeNamed formNamed
-  node-expand e b k = sym (rw (← hf, e, k))
-
-  pub node-other : Among nameless form → true ≡ nodeNamed g t p
-  unfolding nodeNamed
-  node-other h = rw (← hf) (names-nothing g t form (fieldB t p) h)
+  pub node-expand : form ≡ Expand → (count : ℕ) → count ≡ length (templates t) → ltb b count ≡ formNamed g t form b
+  unfolding formNamed
+  node-expand e count h = template-there t b count h ∙ sym (rw e)

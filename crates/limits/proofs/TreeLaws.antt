@@ -6,11 +6,11 @@ use mathlib.Core.Bool.{Bool, true, false}
 use mathlib.Core.Option.{Option, none, some}
 use borrow.Author.Tests.{le-leb, lt-leb}
 use Rattle.rules.specs.Faults.{both, every, tree, at}
-use Rattle.rules.specs.Records.{kindOf, fieldC, fieldD, heads}
+use Rattle.rules.specs.Records.{kindOf, fieldB, fieldC, fieldD, heads}
 use Rattle.rules.specs.Value.{children, valuesBelow}
 use Rattle.rules.specs.Templates.{formOf, nodes, nodesOf, nodesBelow, first, second}
 use Rattle.rules.specs.Limits.{Looped, looped, loopsBelow, loopedBelow, fewLoops}
-use Rattle.rules.specs.Names.{nodeNamed}
+use Rattle.rules.specs.Names.{formNamed, nodeNamed}
 use Rattle.rules.specs.declared.Form.{Form}
 use Rattle.rules.specs.declared.Form.the-variants.{If, For}
 use Rattle.laws.specs.Faults.{tree-right, tree-wrong, tree-deep, at-both}
@@ -75,12 +75,22 @@ module _ (t : List ℕ) (left loops q : ℕ) where
   unfolding nodesWithin
   node-leaf h l count from hr e = node-below h l _ _ count from refl refl hr ∙ sym (every-none _ _ count from e)
 
--- a node and what it names
-module _ (g t : List ℕ) (left q : ℕ) (more : 0 < left) (named : Bool) (hn : named ≡ nodeNamed g t q) where
+-- a node whose form names number b: no such thing is there, all depends on the row below it, or none is below it
+module _ (g t : List ℕ) (left q : ℕ) (more : 0 < left) (named : Bool) (form : Form) (b : ℕ) (hf : form ≡ formOf t q) (hb : b ≡ fieldB t q)
+    (hn : named ≡ formNamed g t form b) where
+  named-is : nodeNamed g t q ≡ named
+  unfolding nodeNamed
+  named-is = rw (← hf, ← hb) (sym hn)
+
   pub named-wrong : named ≡ false → tree (nodeNamed g t) (nodesBelow t) left q ≡ some q
-  named-wrong e = tree-wrong _ _ left q more (sym hn ∙ e)
+  named-wrong e = tree-wrong _ _ left q more (named-is ∙ e)
 
   pub named-below : named ≡ true → (count from : ℕ) → heads (fieldC t) count from ≡ nodesBelow t q
       → tree (nodeNamed g t) (nodesBelow t) left q ≡ nodesNamed g t (left - 1) count from
   unfolding nodesNamed
-  named-below e count from hr = tree-right _ _ left q more (sym hn ∙ e) ∙ rw hr
+  named-below e count from hr = tree-right _ _ left q more (named-is ∙ e) ∙ rw hr
+
+  pub named-leaf : named ≡ true → (count from : ℕ) → heads (fieldC t) count from ≡ nodesBelow t q → count ≡ 0
+      → tree (nodeNamed g t) (nodesBelow t) left q ≡ none
+  unfolding nodesNamed
+  named-leaf e count from hr z = named-below e count from hr ∙ sym (every-none _ _ count from z)

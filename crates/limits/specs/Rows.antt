@@ -18,8 +18,7 @@ use Rattle.rules.specs.declared.Form.{Form}
 use Rattle.stream.specs.declared.record.Record.{Record}
 use Rattle.stream.specs.declared.record.Place.{Place}
 use Rattle.stream.specs.Record.{Fetched, placeOf}
-use Rattle.limits.specs.declared.names.NameCounts.{NameCounts}
-use Rattle.limits.specs.Tables.{Nameable, Counted}
+use Rattle.limits.specs.Tables.{Nameable}
 use Rattle.limits.specs.declared.node.Nodes.{Nodes}
 use Rattle.limits.specs.declared.node.Node.{Node}
 
@@ -34,14 +33,10 @@ pub record ValueRow (v : List ℕ) (left first : ℕ) (from : Place) (count : �
   pub near : RowNear left first count
   pub from-is : from ≡ placeOf first
 
--- a row of nodes; and one with how many there are of what they may name
+-- a row of nodes
 pub record NodeRow (t : List ℕ) (left first count : ℕ) : Type 0 where
   pub sized : streamLength t ≡ none
   pub near : RowNear left first count
-
-pub record NamingRow (g t : List ℕ) (counts : NameCounts) (left first count : ℕ) : Type 0 where
-  pub near : RowNear left first count
-  pub counted : Counted g t counts
 
 -- refusal 4 in a row of values, each at most left deep
 unfoldable pub valuesWithin : List ℕ → ℕ → ℕ → ℕ → Option ℕ
@@ -102,11 +97,7 @@ pub record NodeIs (t : List ℕ) (p : ℕ) (r : Node) : Type 0 where
   pub below : NodesBelow t p (r .below)
   pub small : r .size < 65536
 
--- the node at p, the element at e, with how many there are of what they may name
-pub record NamingNode (g t : List ℕ) (counts : NameCounts) (p : ℕ) (node : Node) : Type 0 where
-  pub counted : Counted g t counts
-  pub node-is : NodeIs t p node
-
+-- the element at e, with what it may name
 pub record NamingElement (g : List ℕ) (e : ℕ) (element : Record) (classes : ℕ) (bits : List ℕ) : Type 0 where
   pub nameable : Nameable g classes bits
   pub fetched : Fetched g e element

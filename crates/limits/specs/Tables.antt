@@ -53,6 +53,11 @@ pub record TypeCounts (g t : List ℕ) (cs us : ℕ) : Type 0 where
   pub classes-are : cs ≡ length (classes g)
   pub types-are : us ≡ length (types t)
 
+-- what a node may name: so many productions, so many templates
+pub record NodeCounts (g t : List ℕ) (ps ts : ℕ) : Type 0 where
+  pub productions-are : ps ≡ length (productions g)
+  pub templates-are : ts ≡ length (templates t)
+
 -- how many there are of what a template set may name
 pub record Counted (g t : List ℕ) (n : NameCounts) : Type 0 where
   pub sized : streamLength t ≡ none

@@ -1,12 +1,14 @@
 // Refusal 5 of a template set: the classes, nonterminals, productions, types and templates that its records name.
+ghost use Prim.Native.Nat.{ℕ};
 ghost use mathlib.Core.Path.{_≡_};
+ghost use mathlib.Core.List.{List};
 ghost use mathlib.Core.Option.{none};
 ghost use Rattle.rules.specs.Blocks.{streamLength};
-ghost use Rattle.rules.specs.Names.{typeNamed, typeNames, nodeNamed, templateNames, templatesNames};
+ghost use Rattle.rules.specs.Names.{typeNamed, typeNames, formNamed, templateNames, templatesNames};
 ghost use Rattle.rules.specs.Templates.{typeAt};
 ghost use Rattle.stream.specs.Fault.{faultOf};
-ghost use Rattle.limits.specs.Tables.{TypeCount, TypeCounts, Counted, Naming, AllTables};
-ghost use Rattle.limits.specs.Rows.{NamingNode, NamingRow, fieldsEarlier, typesNamed, nodesNamed, parametersNamed, templatesNamed};
+ghost use Rattle.limits.specs.Tables.{TypeCount, TypeCounts, NodeCounts, Counted, Naming, AllTables};
+ghost use Rattle.limits.specs.Rows.{NodeRow, fieldsEarlier, typesNamed, nodesNamed, parametersNamed, templatesNamed};
 use crate::DEEPEST;
 use crate::node::Node;
 use crate::node::node_at;
@@ -88,29 +90,29 @@ fn types_named(g: &[u8], t: &[u8], types: &[u16], counts: NameCounts) -> Fault
 }
 
 // A build names a production, an expand a template.
-fn is_named(g: &[u8], t: &[u8], counts: NameCounts, p: usize, node: Node) -> bool
-    requires { ⌜ NamingNode (now g) (now t) counts p node ⌝ }
-    ensures { λ r. ⌜ r ≡ nodeNamed (now (g .entry)) (now (t .entry)) p ⌝ }
+fn is_named(node: Node, productions: usize, templates: usize) -> bool
+    ensures { λ r. ⌜ ((g t : List ℕ) → NodeCounts g t productions templates → r ≡ formNamed g t (node .form) (node .names)) ⌝ }
 {
     let form = node.form;
     match form {
-        Form::Build => node.names < counts.productions,
-        Form::Expand => node.names < counts.templates,
+        Form::Build => node.names < productions,
+        Form::Expand => node.names < templates,
         Form::Literal | Form::Place | Form::If | Form::For | Form::Sequence | Form::Unknown => true,
     }
 }
 
-// What a row of nodes and all below them name, where left levels may follow each other.
+// What a row of nodes and all below them name, where left levels may follow each other. (200 levels of calls are deep: each is passed only
+// what it reads, and of the grammar that is the number of productions.)
 fn nodes_named(
-    g: &[u8],
     t: &[u8],
-    counts: NameCounts,
+    productions: usize,
+    templates: usize,
     first: usize,
     count: usize,
     left: usize,
 ) -> Fault
-    requires { ⌜ NamingRow (now g) (now t) counts left first count ⌝ }
-    ensures { λ r. ⌜ faultOf r ≡ nodesNamed (now (g .entry)) (now (t .entry)) left count first ⌝ }
+    requires { ⌜ NodeRow (now t) left first count ⌝ }
+    ensures { λ r. ⌜ ((g : List ℕ) → NodeCounts g (now (t .entry)) productions templates → faultOf r ≡ nodesNamed g (now (t .entry)) left count first) ⌝ }
 {
     if count == 0 {
         return Fault::Nowhere;
@@ -122,16 +124,21 @@ fn nodes_named(
     let mut i = 0;
     while i < count {
         let node = node_at(t, at);
-        if !is_named(g, t, counts, at, node) {
+        if !is_named(node, productions, templates) {
             return Fault::At(at);
         }
-        let below = node.below;
-        let fault = nodes_named(g, t, counts, below.first, below.count, left - 1);
-        if let Fault::At(p) = fault {
-            return Fault::At(p);
+        let row = node.below;
+        let after = at + node.size;
+        let turn = i + 1;
+        // Most nodes have none below them, and cost no call.
+        if row.count != 0 {
+            let fault = nodes_named(t, productions, templates, row.first, row.count, left - 1);
+            if let Fault::At(p) = fault {
+                return Fault::At(p);
+            }
         }
-        at += node.size;
-        i += 1;
+        at = after;
+        i = turn;
     }
     Fault::Nowhere
 }
@@ -173,7 +180,8 @@ fn template_names(
     if let Fault::At(a) = fault {
         return Fault::At(a);
     }
-    nodes_named(g, t, counts, p as usize + 1 + head.a as usize, 1, DEEPEST)
+    let body = p as usize + 1 + head.a as usize;
+    nodes_named(t, counts.productions, counts.templates, body, 1, DEEPEST)
 }
 
 // What all templates name.

@@ -29,20 +29,20 @@ returns-2 c = template-parameters _ _ _ _ _ (c .before .before .before .before .
 enum-told : tie.Need-enum-told
 enum-told c = search needs
 
-add-nodes-named : tie.Need-add-nodes-named
-add-nodes-named c = search needs
+add-body : tie.Need-add-body
+add-body c = search needs
 
-cast-nodes-named : tie.Need-cast-nodes-named
-cast-nodes-named c = search needs
+cast-body : tie.Need-cast-body
+cast-body c = search needs
 
-add-nodes-named-2 : tie.Need-add-nodes-named-2
-add-nodes-named-2 c = search needs
+add-body-2 : tie.Need-add-body-2
+add-body-2 c = search needs
 
 nodes-named-requires : tie.Need-nodes-named-requires
-nodes-named-requires c κs = record { near = record { place = omega arith; few = omega arith }; counted = c .before .before .before .before .before .before .before .before .before .pre .counted }
+nodes-named-requires c κs = record { sized = c .before .before .before .before .before .before .before .before .before .pre .counted .sized; near = record { place = omega arith; few = omega arith } }
 
 returns-3 : tie.Need-returns-3
-returns-3 c = c .nodes-named .ensures ∙ template-body _ _ _ _ _ (c .before .before .before .before .before .before .before .fetch .ensures .a) (c .before .before .before .before .before .before .before .fetch .ensures .b) _ (omega arith) (c .before .before .before .before .before .before .before .before .before .before .pre .nonterminals-are) _ (c .before .before .before .before .before .before .is-marked .ensures) (not-false _ (c .before .before .before .before .before .if1 .left)) (unfound _ _ (c .before .before .before .before .parameters-named .ensures) (c .before .before .enum-told .given .1))
+returns-3 c = c .nodes-named .ensures _ (record { productions-are = c .before .before .before .before .before .before .before .before .before .before .pre .counted .productions-are; templates-are = c .before .before .before .before .before .before .before .before .before .before .pre .counted .templates-are }) ∙ template-body _ _ _ _ _ (c .before .before .before .before .before .before .before .fetch .ensures .a) (c .before .before .before .before .before .before .before .fetch .ensures .b) _ (omega arith) (c .before .before .before .before .before .before .before .before .before .before .pre .nonterminals-are) _ (c .before .before .before .before .before .before .is-marked .ensures) (not-false _ (c .before .before .before .before .before .if1 .left)) (unfound _ _ (c .before .before .before .before .parameters-named .ensures) (c .before .before .enum-told .given .1))
 
 pub template-names-spec : {M : Type 1} → statement M
 template-names-spec =
@@ -55,8 +55,8 @@ template-names-spec =
     enum-known-fault
     returns-2
     enum-told
-    add-nodes-named
-    cast-nodes-named
-    add-nodes-named-2
+    add-body
+    cast-body
+    add-body-2
     nodes-named-requires
     returns-3)
