@@ -184,15 +184,12 @@ take-cap j xs = go (leb j (length xs)) refl
         let e : min j (length xs) ≡ length xs = omega arith in
         rw (e, take-length) (sym (take-all j xs (omega arith)))
 
-plus-minus : (a m : ℕ) → a + m - a ≡ m
-plus-minus a m = omega arith
-
-pub part-here : (s : List ℕ) (t : Text) (here n : ℕ) → here ≡ min (t .left) (room (t .at)) → n ≡ min here (length s - t .at)
-    → take (t .at + n - t .at) (drop (t .at) s) ≡ partOf s t
+pub part-here : (s : List ℕ) (t : Text) (here end : ℕ) → here ≡ min (t .left) (room (t .at)) → end ≡ min (t .at + here) (length s)
+    → take (end - t .at) (drop (t .at) s) ≡ partOf s t
 unfolding partOf
-part-here s t here n e f =
-    let g : n ≡ min here (length (drop (t .at) s)) = f ∙ rw length-drop in
-    rw (plus-minus (t .at) n, g, take-cap here (drop (t .at) s), e)
+part-here s t here end e f =
+    let g : end - t .at ≡ min here (length s - t .at) = omega arith in
+    rw (g, ← length-drop (t .at) s, take-cap here (drop (t .at) s), e)
 
 -- What is left after it
 pub part-most : (s : List ℕ) (t : Text) → length (partOf s t) ≤ min (t .left) (room (t .at))

@@ -54,8 +54,7 @@ pub fn text_part(s: &[u8], t: Text) -> &[u8]
     if s.len() <= at {
         return &s[0..0];
     }
-    let here = least(t.left, room_at(at));
-    let end = at + least(here, s.len() - at);
+    let end = least(at + least(t.left, room_at(at)), s.len());
     &s[at..end]
 }
 

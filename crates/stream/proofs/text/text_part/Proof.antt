@@ -1,3 +1,5 @@
+use native.Mathlib.Omega.{arith}
+use Rattle.stream.specs.Text.{room}
 use Rattle.stream.proofs.TextLaws.{part-past, part-here}
 use borrow.Author.Needs.{needs}
 use Rattle.stream.proofs.text.text_part.Statement.{statement}
@@ -21,14 +23,12 @@ room-at-requires c κs = search needs
 least-requires : tie.Need-least-requires
 least-requires c κs = search needs
 
-sub-least : tie.Need-sub-least
-sub-least c = search needs
+add-least : tie.Need-add-least
+unfolding room
+add-least c = omega arith
 
 least-requires-2 : tie.Need-least-requires-2
 least-requires-2 c κs = search needs
-
-add-end : tie.Need-add-end
-add-end c = search needs
 
 sub-result-2 : tie.Need-sub-result-2
 sub-result-2 c = search needs
@@ -52,9 +52,8 @@ text-part-spec =
     returns
     room-at-requires
     least-requires
-    sub-least
+    add-least
     least-requires-2
-    add-end
     sub-result-2
     part-result-start-2
     part-result-end-2
