@@ -21,30 +21,31 @@ use Rattle.walk.specs.declared.state.Run.{Run}
 use Rattle.walk.specs.Run.{stateOf, Visited, RanFrom, VisitedFrom}
 use Rattle.walk.specs.Nodes.{afterAt, belowAt, endedAt, visitAt, formAt, writeAt}
 use Rattle.walk.specs.Asks.{Sources, Visitable, Formed}
-use Rattle.walk.proofs.RunLaws.{visited-ran, visited-stuck, Going, going-start, going-end, going-stop, going-next}
-use Rattle.walk.proofs.BodyLaws.{Along, count-small, size-small, along-build, along-below, along-next}
+use Rattle.walk.proofs.RunLaws.{visited-ran, ran-stuck, Going, going-start, going-end, going-stop, going-next, after-after, going-there}
+use Rattle.walk.proofs.BodyLaws.{Along, count-small, along-build, along-below, along-next}
 use Rattle.walk.proofs.AskedLaws.{element-there}
 use Rattle.walk.proofs.FormLaws.{piecesLeft, pieces-done, pieces-more, build-is}
-use Rattle.walk.proofs.LoopLaws.{visits, formed-after, below-visitable, below-visited}
+use Rattle.walk.proofs.LoopLaws.{visits, formed-after, below-visitable, below-falls, below-visited}
 
 -- the elements of a build, with the children that are left
 
 abbrev pub buildLeft : Sources → At → List ℕ → List ℕ → ℕ → ℕ → ℕ → ℕ → State → End
 buildLeft s at out₀ s₀ = piecesLeft (write (length out₀) (at .node)) (λ e. visits s at out₀ s₀ (piece e)) (s .grammar) (s .templates)
 
-pub record InBuild (s : Sources) (at : At) (out₀ s₀ : List ℕ) (place count children : ℕ) (out sc : List ℕ) (element child used : ℕ) (r : Run) (taken : ℕ) : Type 0 where
+pub record InBuild (s : Sources) (at : At) (out₀ s₀ : List ℕ) (place count children : ℕ) (out sc : List ℕ) (element child used : ℕ) (here : At) (taken : ℕ) : Type 0 where
   pub along : Along (s .templates) (at .node) children child used
   pub place-few : place ≤ 65535
   pub count-few : count ≤ 65535
   pub used-few : used ≤ taken
   pub some : 1 ≤ element
   pub near : element ≤ place + 1 + taken * 8193
-  pub going : Going (buildLeft s at out₀ s₀ (count - taken) element (children - used) child) (formAt Build (s .grammar) (s .templates) (s .value) at out₀ s₀) at out₀ s₀ r out sc
+  pub is : here ≡ afterAt at (endedAt 0 here)
+  pub going : Going (buildLeft s at out₀ s₀ (count - taken) element (children - used) child) (formAt Build (s .grammar) (s .templates) (s .value) at out₀ s₀) at out₀ s₀ (endedAt 0 here) out sc
 
 module _ {s : Sources} {at : At} {out₀ s₀ : List ℕ} (formed : Formed Build s at out₀ s₀) where
   pub build-start : {head first : Record} → Fetched (s .templates) (at .node) head → (place : ℕ) → nth (s .production-heads) (head .b) ≡ some place → place < 65536 → Fetched (s .grammar) place first
-      → {r : Run} → r ≡ endedAt 0 at → InBuild s at out₀ s₀ place (first .d) (head .d) out₀ s₀ (place + 1) (at .node + 1) 0 r 0
-  build-start {head} {first} f place hq l h w =
+      → InBuild s at out₀ s₀ place (first .d) (head .d) out₀ s₀ (place + 1) (at .node + 1) 0 at 0
+  build-start {head} {first} f place hq l h =
       let a : first .d - 0 ≡ first .d = omega arith in
       let b : head .d - 0 ≡ head .d = omega arith in
       record {
@@ -54,24 +55,25 @@ module _ {s : Sources} {at : At} {out₀ s₀ : List ℕ} (formed : Formed Build
         used-few = omega arith;
         some = omega arith;
         near = omega arith;
-        going = going-start w (formed .visitable .room)
+        is = refl;
+        going = going-start refl (formed .visitable .room)
             (ap (λ (m : ℕ). buildLeft s at out₀ s₀ m (place + 1) (head .d - 0) (at .node + 1) (stateOf (at .steps) (at .bytes) out₀)) a
             ∙ ap (λ (m : ℕ). buildLeft s at out₀ s₀ (first .d) (place + 1) m (at .node + 1) (stateOf (at .steps) (at .bytes) out₀)) b
             ∙ build-is (s .grammar) (s .templates) (s .value) (at .fuel) out₀ _ _ (at .node) _ _ (s .production-heads) (head .b) place (first .d) (head .d) (formed .visitable .lent .productions-are) (f .b) hq (h .d) (f .d));
       }
 
-  module _ {place count kids : ℕ} {out sc : List ℕ} {element child used : ℕ} {r : Run} {taken : ℕ} (inv : InBuild s at out₀ s₀ place count kids out sc element child used r taken) where
-    pub build-end : count ≤ taken → VisitedFrom (formAt Build (s .grammar) (s .templates) (s .value) at out₀ s₀) at r out₀ out s₀ sc
-    build-end h = going-end (inv .going) (pieces-done _ _ (s .grammar) (s .templates) count taken element kids used child h)
+  module _ {place count kids : ℕ} {out sc : List ℕ} {element child used : ℕ} {here : At} {taken : ℕ} (inv : InBuild s at out₀ s₀ place count kids out sc element child used here taken) where
+    pub build-end : count ≤ taken → {r : Run} → r ≡ endedAt 0 here → VisitedFrom (formAt Build (s .grammar) (s .templates) (s .value) at out₀ s₀) at r out₀ out s₀ sc
+    build-end h w = rw w (going-end (inv .going) (pieces-done _ _ (s .grammar) (s .templates) count taken element kids used child h))
 
-    module _ (more : taken < count) {e : Record} (f : Fetched (s .grammar) element e) {here : At} (e₁ : here ≡ afterAt at r) where
+    module _ (more : taken < count) {e : Record} (f : Fetched (s .grammar) element e) where
       pub write-asks : here .bytes ≤ length out
-      write-asks = rw e₁ (formed-after formed (inv .going) .visitable .room)
+      write-asks = formed-after formed (inv .going) .visitable .room
 
       -- either way: what it came to ends the build, or the build goes on
       module _ {b : Bool} (way : eqb (fieldA (s .grammar) element) 0 ≡ b) {u : Run} {out′ sc′ : List ℕ} (v : Visited
-          (cond b (write (length out₀) (at .node) (textOf (s .grammar) (fieldB (s .grammar) element) element) (stateOf (r .steps) (r .bytes) out)) (cond (ltb used kids) (visits s at out₀ s₀ (piece (elementAt (s .grammar) element)) child (stateOf (r .steps) (r .bytes) out)) stuck))
-          (r .steps) (r .bytes) u out out′ (at .base + at .vars) sc sc′) (len : length out′ ≡ length out) where
+          (cond b (write (length out₀) (at .node) (textOf (s .grammar) (fieldB (s .grammar) element) element) (stateOf (here .steps) (here .bytes) out)) (cond (ltb used kids) (visits s at out₀ s₀ (piece (elementAt (s .grammar) element)) child (stateOf (here .steps) (here .bytes) out)) stuck))
+          (here .steps) (here .bytes) u out out′ (at .base + at .vars) sc sc′) (len : length out′ ≡ length out) where
         piece-stop : (u .number ≡ 0 → ⊥) → VisitedFrom (formAt Build (s .grammar) (s .templates) (s .value) at out₀ s₀) at u out₀ out′ s₀ sc′
         piece-stop z = going-stop (inv .going) _ (pieces-more _ _ (s .grammar) (s .templates) count taken element kids used child more b way _) v len z
 
@@ -88,22 +90,23 @@ module _ {s : Sources} {at : At} {out₀ s₀ : List ℕ} (formed : Formed Build
         is-keyword = eq-eqb _ _ (sym (f .a) ∙ k)
 
         written : Visited
-            (write (length out₀) (at .node) (textOf (s .grammar) (fieldB (s .grammar) element) element) (stateOf (r .steps) (r .bytes) out))
-            (r .steps) (r .bytes) u out out′ (at .base + at .vars) sc sc
-        written = visited-ran _ sc (rw (e₁, inv .going .len, f .b) at v)
+            (write (length out₀) (at .node) (textOf (s .grammar) (fieldB (s .grammar) element) element) (stateOf (here .steps) (here .bytes) out))
+            (here .steps) (here .bytes) u out out′ (at .base + at .vars) sc sc
+        written = visited-ran _ sc (rw (inv .is, inv .going .len, f .b) at v)
 
         pub keyword-stop : (u .number ≡ 0 → ⊥) → VisitedFrom (formAt Build (s .grammar) (s .templates) (s .value) at out₀ s₀) at u out₀ out′ s₀ sc
         keyword-stop z = piece-stop is-keyword written len z
 
-        pub keyword-next : u .number ≡ 0 → (size : ℕ) → ElementSize e size → InBuild s at out₀ s₀ place count kids out′ sc (element + size) child used u (taken + 1)
-        keyword-next z size hs = record {
+        pub keyword-next : u .number ≡ 0 → {there : At} → there ≡ afterAt here u → (size : ℕ) → ElementSize e size → InBuild s at out₀ s₀ place count kids out′ sc (element + size) child used there (taken + 1)
+        keyword-next z e₂ size hs = record {
           along = inv .along;
           place-few = inv .place-few;
           count-few = inv .count-few;
           used-few = omega (arith, inv .used-few);
           some = omega (arith, inv .some);
           near = omega (arith, inv .near, hs .small);
-          going = piece-next is-keyword written len z refl size hs;
+          is = after-after at here u (inv .is) e₂;
+          going = going-there here (piece-next is-keyword written len z refl size hs) e₂;
         }
 
       -- any other: it is stuck where no child is left
@@ -113,32 +116,33 @@ module _ {s : Sources} {at : At} {out₀ s₀ : List ℕ} (formed : Formed Build
 
         pub child-missing : kids ≤ used → {u : Run} → u ≡ endedAt 99 here → VisitedFrom (formAt Build (s .grammar) (s .templates) (s .value) at out₀ s₀) at u out₀ out s₀ sc
         child-missing l w =
-            piece-stop is-other (rw e₁ at (visited-stuck here {out = out} {s = sc} {e = cond (ltb used kids) (visits s at out₀ s₀ (piece (elementAt (s .grammar) element)) child (stateOf (r .steps) (r .bytes) out)) stuck} write-asks w (rw (le-ltb used kids l)))) refl
+            piece-stop is-other (visited-ran _ sc (ran-stuck here {out = out} {e = cond (ltb used kids) (visits s at out₀ s₀ (piece (elementAt (s .grammar) element)) child (stateOf (here .steps) (here .bytes) out)) stuck} write-asks w (rw (le-ltb used kids l)))) refl
             (λ z. let n : 99 ≡ 0 = sym (ap (λ (x : Run). x .number) w) ∙ z in omega arith)
 
         module _ (l : used < kids) {there : At} (e₂ : there ≡ belowAt here child element) where
           pub child-visitable : Visitable s there out sc
-          child-visitable = below-visitable formed (inv .going) e₁ e₂ (along-below (inv .along) l)
+          child-visitable = below-visitable formed (inv .going) (inv .is) e₂ (along-below (inv .along) l)
 
-          pub child-fetched : {next : Record} → Fetched (s .templates) child next → Fetched (s .templates) (there .node) next
-          child-fetched h = rw e₂ h
+          pub child-falls : there .fuel - there .steps ≤ at .fuel - at .steps
+          child-falls = below-falls formed (inv .going) (inv .is) e₂
 
           module _ {u : Run} {out′ sc′ : List ℕ} (v : VisitedFrom (visitAt (s .grammar) (s .templates) (s .value) there out sc) there u out out′ sc sc′) (len : length out′ ≡ length out) where
-            child-visited : Visited (cond (ltb used kids) (visits s at out₀ s₀ (piece (elementAt (s .grammar) element)) child (stateOf (r .steps) (r .bytes) out)) stuck) (r .steps) (r .bytes) u out out′ (at .base + at .vars) sc sc′
+            child-visited : Visited (cond (ltb used kids) (visits s at out₀ s₀ (piece (elementAt (s .grammar) element)) child (stateOf (here .steps) (here .bytes) out)) stuck) (here .steps) (here .bytes) u out out′ (at .base + at .vars) sc sc′
             child-visited =
-                rw (lt-ltb used kids l, ← element-there (s .grammar) element (λ z. omega (arith, inv .some))) (below-visited formed (inv .going) e₁ e₂ v)
+                rw (lt-ltb used kids l, ← element-there (s .grammar) element (λ z. omega (arith, inv .some))) (below-visited formed (inv .going) (inv .is) e₂ v)
 
             pub child-stop : (u .number ≡ 0 → ⊥) → VisitedFrom (formAt Build (s .grammar) (s .templates) (s .value) at out₀ s₀) at u out₀ out′ s₀ sc′
             child-stop z = piece-stop is-other child-visited len z
 
-            pub child-next : u .number ≡ 0 → length sc′ ≡ length sc → (size : ℕ) → ElementSize e size → {next : Record} → Fetched (s .templates) child next
-                → InBuild s at out₀ s₀ place count kids out′ sc′ (element + size) (child + next .c) (used + 1) u (taken + 1)
-            child-next z lens size hs {next} h = record {
-              along = along-next (inv .along) (next .c) (h .c) (size-small h);
+            pub child-next : u .number ≡ 0 → length sc′ ≡ length sc → {onward : At} → onward ≡ afterAt here u → (size : ℕ) → ElementSize e size → (records : ℕ) → records ≡ fieldC (s .templates) child → records < 65536
+                → InBuild s at out₀ s₀ place count kids out′ sc′ (element + size) (child + records) (used + 1) onward (taken + 1)
+            child-next z lens e₃ size hs records c l = record {
+              along = along-next (inv .along) records c l;
               place-few = inv .place-few;
               count-few = inv .count-few;
               used-few = omega (arith, inv .used-few);
               some = omega (arith, inv .some);
               near = omega (arith, inv .near, hs .small);
-              going = rw (h .c) (piece-next is-other child-visited len z lens size hs);
+              is = after-after at here u (inv .is) e₃;
+              going = rw c (going-there here (piece-next is-other child-visited len z lens size hs) e₃);
             }

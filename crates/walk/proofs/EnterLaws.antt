@@ -11,13 +11,14 @@ use lib.Dec.{eqb, ltb}
 use borrow.Author.Tests.{ltb-true, lt-ltb}
 use Rattle.rules.specs.Faults.{onlyIf}
 use Rattle.rules.specs.Records.{fieldB, fieldD, row, nth}
-use Rattle.rules.specs.Templates.{formOf, body, first, second}
+use Rattle.rules.specs.Templates.{formNumbered, formOf, body, first, second}
 use Rattle.rules.specs.Answers.{input}
 use Rattle.rules.specs.Walk.{End, stuck, pathValues, Asked, piece, visit}
 use Rattle.rules.specs.declared.Form.{Form}
 use Rattle.rules.specs.declared.Form.the-variants.{Expand, If}
 use Rattle.stream.specs.Record.{Fetched}
 use Rattle.stream.specs.declared.record.Record.{Record}
+use Rattle.records.proofs.NodeLaws.{form-is}
 use Rattle.walk.specs.declared.at.At.{At}
 use Rattle.walk.specs.declared.state.Run.{Run}
 use Rattle.walk.specs.Frames.{frame, Passed}
@@ -40,9 +41,6 @@ module _ {s : Sources} {at : At} {out sc : List ℕ} (formed : Formed If s at ou
   pub branch-visited : visitAt (s .grammar) (s .templates) (s .value) (belowAt at b (at .element)) out sc ≡ formAt If (s .grammar) (s .templates) (s .value) at out sc → {r : Run} {out′ sc′ : List ℕ}
       → VisitedFrom (visitAt (s .grammar) (s .templates) (s .value) there out sc) there r out out′ sc sc′ → VisitedFrom (formAt If (s .grammar) (s .templates) (s .value) at out sc) at r out out′ sc sc′
   branch-visited e v = visited-is e (rw is at v)
-
-  pub branch-fetched : {head : Record} → Fetched (s .templates) b head → Fetched (s .templates) (there .node) head
-  branch-fetched f = rw is f
 
 pub falls-there : (at : At) {there : At} (node element : ℕ) → there ≡ belowAt at node element → there .fuel - there .steps ≤ at .fuel - at .steps
 falls-there at node element is = rw is (omega arith)
@@ -86,9 +84,6 @@ module _ {s : Sources} {at : At} {out sc : List ℕ} (formed : Formed Expand s a
           held = λ m. rw (stored m) (passed .held);
           room = formed .visitable .room;
         })
-
-        pub enter-fetched : {head : Record} → Fetched (s .templates) b head → Fetched (s .templates) (inner .node) head
-        enter-fetched f = rw (e₂, e₁) f
 
         pub enter-falls : inner .fuel - inner .steps ≤ at .fuel - at .steps
         enter-falls = rw (e₂, e₁) (omega arith)
@@ -139,8 +134,9 @@ module _ {s : Sources} {at : At} {out sc : List ℕ} (visitable : Visitable s at
   pub form-falls : here .fuel - here .steps < at .fuel - at .steps
   form-falls = rw is (omega arith)
 
-  pub form-fetched : {head : Record} → Fetched (s .templates) (at .node) head → Fetched (s .templates) (here .node) head
-  form-fetched f = rw is f
+  -- the node's form, by the head that is fetched where its step is counted
+  pub form-here : {head : Record} → Fetched (s .templates) (here .node) head → (form : Form) → form ≡ formNumbered (head .a) → formOf (s .templates) (at .node) ≡ form
+  form-here {head} f form e = sym (form-is (s .templates) (at .node) head (rw is at f) form e)
 
   module _ (level : at .left ≡ 0 → ⊥) {form : Form} (f : formOf (s .templates) (at .node) ≡ form) where
     pub form-formed : Formed form s here out sc

@@ -23,14 +23,14 @@ use Rattle.walk.specs.declared.state.Turns.{Turns}
 use Rattle.walk.specs.Bodies.{NodeBelow}
 use Rattle.walk.specs.Frames.{frame}
 use Rattle.walk.specs.Run.{stateOf, Visited, RanFrom, VisitedFrom}
-use Rattle.walk.specs.Nodes.{afterAt, belowAt, endedAt, elementFor, askedAt, visitAt, formAt, filledAt, fillsAt, Between, separateAt}
+use Rattle.walk.specs.Nodes.{afterAt, belowAt, endedAt, elementFor, askedAt, visitAt, formAt, filledAt, fillsAt, Between, dueAt, separateAt}
 use Rattle.walk.specs.Turns.{Turned}
 use Rattle.walk.specs.Asks.{Sources, Follows, Visitable, Formed}
 use Rattle.walk.proofs.FrameLaws.{frame-kept}
 use Rattle.walk.proofs.RunLaws.{visited-is, visited-ran, visited-stuck, Going, going-start, going-end, going-stop, going-next}
 use Rattle.walk.proofs.BodyLaws.{body-more, Along, size-small, along-sequence, along-below, along-next}
 use Rattle.walk.proofs.AskedLaws.{visit-any, fills-no, fills-yes}
-use Rattle.walk.proofs.SeparatorLaws.{then-then}
+use Rattle.walk.proofs.SeparatorLaws.{then-then, Apart, apart-none}
 use Rattle.walk.proofs.FormLaws.{order-done, order-more, sequence-none, sequence-is, visit-same}
 
 module _ {form : Form} {s : Sources} {at : At} {out sc : List ℕ} (formed : Formed form s at out sc) where
@@ -221,10 +221,7 @@ module _ {s : Sources} {at : At} {out₀ s₀ : List ℕ} (formed : Formed Seque
           }
 
       -- any other node is one item
-      module _ (k : next .a ≡ 5 → ⊥) {here : At} (e₁ : here ≡ afterAt at r) where
-        pub apart-room : here .bytes ≤ length out
-        apart-room = rw e₁ (formed-after formed (inv .going) .visitable .room)
-
+      module _ (k : next .a ≡ 5 → ⊥) where
         abbrev itemRest : State → End
         itemRest y = andThen (visits s at out₀ s₀ (piece (nonterminal (filledAt (s .grammar) x .nonterminal))) item y) (nodesAfter (items + 1))
 
@@ -233,38 +230,48 @@ module _ {s : Sources} {at : At} {out₀ s₀ : List ℕ} (formed : Formed Seque
         unfolding visitIn visitItem itemsOf input
         apart-row = row-more _ refl ∙ rw (not-for f k) (then-then _ _ _)
 
-        module _ {u : Run} {out′ : List ℕ} (v : RanFrom (separateAt (s .grammar) x items here out) here u out out′) (len : length out′ ≡ length out) where
-          apart-visited : Visited (separate (length out₀) (filledAt (s .grammar) x) items (stateOf (r .steps) (r .bytes) out)) (r .steps) (r .bytes) u out out′ (at .base + at .vars) sc sc
-          apart-visited = visited-ran _ sc (rw (e₁, inv .going .len) at v)
+        apart-visited : {u : Run} {out′ : List ℕ} → RanFrom (separateAt (s .grammar) x items (afterAt at r) out) (afterAt at r) u out out′
+            → Visited (separate (length out₀) (filledAt (s .grammar) x) items (stateOf (r .steps) (r .bytes) out)) (r .steps) (r .bytes) u out out′ (at .base + at .vars) sc sc
+        apart-visited v = visited-ran _ sc (rw (inv .going .len) at v)
 
-          pub apart-stop : (u .number ≡ 0 → ⊥) → VisitedFrom (formAt Sequence (s .grammar) (s .templates) (s .value) at out₀ s₀) at u out₀ out′ s₀ sc
-          apart-stop z = going-stop (inv .going) _ apart-row apart-visited len z
+        -- the separator before it: none is due, or one is written
+        pub apart-skipped : dueAt x items ≡ false → {u : Run} {out′ : List ℕ} → out′ ≡ out → u ≡ r → Apart (s .grammar) x items (afterAt at r) out u out′
+        apart-skipped d eo e = rw (eo, e) (apart-none (s .grammar) x (afterAt at r) out (formed-after formed (inv .going) .visitable .room) items d (inv .going .goes) refl refl)
 
-          module _ (z : u .number ≡ 0) where
-            apart-going : Going itemRest (formAt Sequence (s .grammar) (s .templates) (s .value) at out₀ s₀) at out₀ s₀ u out′ sc
-            apart-going = going-next (inv .going) _ apart-row apart-visited len z refl
+        module _ {here : At} (e₁ : here ≡ afterAt at r) where
+          pub apart-room : here .bytes ≤ length out
+          apart-room = rw e₁ (formed-after formed (inv .going) .visitable .room)
 
-            module _ {after there : At} (e₂ : after ≡ afterAt at u) (e₃ : there ≡ belowAt after item 0) where
-              pub item-visitable : Visitable s there out′ sc
-              item-visitable = below-visitable formed apart-going e₂ e₃ item-below
+          module _ {u : Run} {out₁ : List ℕ} (v : RanFrom (separateAt (s .grammar) x items here out) here u out out₁) (len : length out₁ ≡ length out) where
+            pub apart-stop : (u .number ≡ 0 → ⊥) → VisitedFrom (formAt Sequence (s .grammar) (s .templates) (s .value) at out₀ s₀) at u out₀ out₁ s₀ sc
+            apart-stop z = going-stop (inv .going) _ apart-row (apart-visited (rw e₁ at v)) len z
 
-              pub item-falls : there .fuel - there .steps ≤ at .fuel - at .steps
-              item-falls = below-falls formed apart-going e₂ e₃
+            pub apart-written : u .number ≡ 0 → {u′ : Run} {out′ : List ℕ} → out′ ≡ out₁ → u′ ≡ u → Apart (s .grammar) x items (afterAt at r) out u′ out′
+            apart-written z eo e = rw (eo, e) (record { ran = rw e₁ at v; goes = z; len = len })
 
-              pub item-fetched : Fetched (s .templates) (there .node) next
-              item-fetched = rw (below-node formed apart-going e₂ e₃) f
+        -- past the separator, if one was due
+        module _ {u : Run} {out′ : List ℕ} (apart : Apart (s .grammar) x items (afterAt at r) out u out′) where
+          apart-going : Going itemRest (formAt Sequence (s .grammar) (s .templates) (s .value) at out₀ s₀) at out₀ s₀ u out′ sc
+          apart-going = going-next (inv .going) _ apart-row (apart-visited (apart .ran)) (apart .len) (apart .goes) refl
 
-              module _ {w : Run} {out″ sc′ : List ℕ} (v′ : VisitedFrom (visitAt (s .grammar) (s .templates) (s .value) there out′ sc) there w out′ out″ sc sc′) (len′ : length out″ ≡ length out′) where
-                item-visited : Visited (visits s at out₀ s₀ (piece (nonterminal (filledAt (s .grammar) x .nonterminal))) item (stateOf (u .steps) (u .bytes) out′)) (u .steps) (u .bytes) w out′ out″ (at .base + at .vars) sc sc′
-                unfolding elementFor
-                item-visited = visited-is (visit-any _ _ _ _ _ _ _) (below-visited formed apart-going e₂ e₃ v′)
+          module _ {after there : At} (e₂ : after ≡ afterAt at u) (e₃ : there ≡ belowAt after item 0) where
+            pub item-visitable : Visitable s there out′ sc
+            item-visitable = below-visitable formed apart-going e₂ e₃ item-below
 
-                pub item-stop : (w .number ≡ 0 → ⊥) → VisitedFrom (formAt Sequence (s .grammar) (s .templates) (s .value) at out₀ s₀) at w out₀ out″ s₀ sc′
-                item-stop y = going-stop apart-going _ refl item-visited len′ y
+            pub item-falls : there .fuel - there .steps ≤ at .fuel - at .steps
+            item-falls = below-falls formed apart-going e₂ e₃
 
-                pub item-next : w .number ≡ 0 → length sc′ ≡ length sc → InSequence s at out₀ s₀ x count out″ sc′ (item + next .c) (items + 1) w (visited + 1)
-                item-next y lens = record {
-                  along = sequence-along;
-                  few = omega (arith, inv .few);
-                  going = going-next apart-going _ refl item-visited len′ y lens;
-                }
+            module _ {w : Run} {out″ sc′ : List ℕ} (v : VisitedFrom (visitAt (s .grammar) (s .templates) (s .value) there out′ sc) there w out′ out″ sc sc′) (len : length out″ ≡ length out′) where
+              item-visited : Visited (visits s at out₀ s₀ (piece (nonterminal (filledAt (s .grammar) x .nonterminal))) item (stateOf (u .steps) (u .bytes) out′)) (u .steps) (u .bytes) w out′ out″ (at .base + at .vars) sc sc′
+              unfolding elementFor
+              item-visited = visited-is (visit-any _ _ _ _ _ _ _) (below-visited formed apart-going e₂ e₃ v)
+
+              pub item-stop : (w .number ≡ 0 → ⊥) → VisitedFrom (formAt Sequence (s .grammar) (s .templates) (s .value) at out₀ s₀) at w out₀ out″ s₀ sc′
+              item-stop y = going-stop apart-going _ refl item-visited len y
+
+              pub item-next : w .number ≡ 0 → length sc′ ≡ length sc → InSequence s at out₀ s₀ x count out″ sc′ (item + next .c) (items + 1) w (visited + 1)
+              item-next y lens = record {
+                along = sequence-along;
+                few = omega (arith, inv .few);
+                going = going-next apart-going _ refl item-visited len y lens;
+              }

@@ -17,7 +17,7 @@ use Rattle.stream.proofs.TextCopyLaws.{lent-rest}
 use Rattle.walk.specs.declared.at.At.{At}
 use Rattle.walk.specs.declared.state.Run.{Run}
 use Rattle.walk.specs.Run.{stateOf, runOf, endNumbered, view, Grown, Ran, Visited, RanFrom, VisitedFrom}
-use Rattle.walk.specs.Nodes.{endedAt, writeAt}
+use Rattle.walk.specs.Nodes.{afterAt, endedAt, writeAt}
 
 -- the ends that runs stand for
 
@@ -188,6 +188,30 @@ module _ {rest : State → End} {whole : End} {at : At} {out₀ s₀ : List ℕ}
         len = len′ ∙ inv .len;
         lens = lens′ ∙ inv .lens;
       }
+
+-- the node after a run that goes on, which stands for the run from there on: a loop that carries it carries no run
+
+pub after-after : (at here : At) (u : Run) {there : At} → here ≡ afterAt at (endedAt 0 here) → there ≡ afterAt here u → there ≡ afterAt at (endedAt 0 there)
+after-after at here u e₁ e₂ = rw e₂ (ap (λ (y : At). afterAt y u) e₁)
+
+pub ran-there : {e : End} {steps bytes : ℕ} (here : At) {u : Run} {out out′ : List ℕ} → Ran e steps bytes u out out′ → u .number ≡ 0 → {there : At} → there ≡ afterAt here u
+    → Ran e steps bytes (endedAt 0 there) out out′
+unfolding view endNumbered
+ran-there here {u} {out} {out′} v z e = rw e (record {
+  meets = sym (view-going u out′ z) ∙ v .meets;
+  grown = record { steps-grow = v .grown .steps-grow; bytes-grow = v .grown .bytes-grow; inside = v .grown .inside; rest = v .grown .rest };
+})
+
+pub going-there : {rest : State → End} {whole : End} {at : At} {out₀ s₀ : List ℕ} (here : At) {u : Run} {out s : List ℕ} → Going rest whole at out₀ s₀ u out s → {there : At} → there ≡ afterAt here u
+    → Going rest whole at out₀ s₀ (endedAt 0 there) out s
+going-there here g e = rw e (record {
+  goes = refl;
+  same = g .same;
+  grown = record { steps-grow = g .grown .steps-grow; bytes-grow = g .grown .bytes-grow; inside = g .grown .inside; rest = g .grown .rest };
+  kept = g .kept;
+  len = g .len;
+  lens = g .lens;
+})
 
 -- the scratch, cleared number by number
 

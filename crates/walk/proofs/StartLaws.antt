@@ -11,8 +11,6 @@ use Rattle.rules.specs.Limits.{deepest}
 use Rattle.rules.specs.Answers.{input, scratchNeeded}
 use Rattle.rules.specs.Walk.{stuck, start, walk}
 use Rattle.laws.specs.Faults.{on-none, on-some}
-use Rattle.stream.specs.Record.{Fetched}
-use Rattle.stream.specs.declared.record.Record.{Record}
 use Rattle.records.specs.Children.{whole}
 use Rattle.walk.specs.declared.at.At.{At}
 use Rattle.walk.specs.declared.state.Run.{Run}
@@ -71,9 +69,6 @@ module _ {s : Sources} {sc : List ℕ} (walkable : Walkable s sc) where
     walk-is : (out : List ℕ) → visitAt (s .grammar) (s .templates) (s .value) (startAt b fuel) out sc₁ ≡ walk (input (s .grammar) (s .templates) (s .value) fuel out)
     unfolding walk template input deepest start elementFor
     walk-is out = rw (bound .more, hb) (visit-any _ _ _ _ _ _ _ ∙ sym (on-some stuck _ found))
-
-    pub start-fetched : {head : Record} → Fetched (s .templates) b head → Fetched (s .templates) (at .node) head
-    start-fetched f = rw is f
 
     pub start-walked : {r : Run} {out out′ sc₂ sc′ : List ℕ} → VisitedFrom (visitAt (s .grammar) (s .templates) (s .value) at out sc₁) at r out out′ sc₁ sc₂
         → length sc₂ ≡ length sc₁ → sc′ ≡ replicate (length sc₂) 0 → Walked (s .grammar) (s .templates) (s .value) fuel r out out′ sc sc′

@@ -2,7 +2,7 @@
 use Prim.Native.Nat.{ℕ, _+_, _-_}
 use mathlib.Core.List.{List}
 use mathlib.Core.Path.{_≡_}
-use mathlib.Core.Bool.{Bool, false, cond}
+use mathlib.Core.Bool.{Bool, false, not, cond}
 use lib.ListN.{length}
 use lib.Dec.{eqb}
 use Rattle.rules.specs.Faults.{onFound}
@@ -80,6 +80,10 @@ pub record Between (at : At) (e : Record) (x : Separator) : Type 0 where
   pub sequence : x .sequence ≡ at .node
   pub element : x .element ≡ at .element
   pub length : TextLength e (x .length)
+
+-- a separator is due before an item that has so many before it: not before the first, and an empty one never
+unfoldable pub dueAt : Separator → ℕ → Bool
+dueAt x before = cond (eqb before 0) false (not (eqb (x .length) 0))
 
 -- a separator written there, and what a for does there, which has so many items of its sequence before it
 abbrev pub separateAt : List ℕ → Separator → ℕ → At → List ℕ → End

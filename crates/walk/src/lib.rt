@@ -18,7 +18,6 @@ mod writer;
 use at::At;
 use at::stuck;
 use state::Run;
-use stream::record::fetch;
 use tables::Lookup;
 use tables::head_at;
 use variables::bind;
@@ -78,6 +77,7 @@ pub fn run(
     let body = body_of(t, template);
     bind(scratch, 0, 0, 0);
     let r = visit(
+        start(body, fuel),
         g,
         t,
         v,
@@ -87,8 +87,6 @@ pub fn run(
         places,
         out,
         scratch,
-        start(body, fuel),
-        fetch(t, body),
     );
     clear(scratch);
     r

@@ -1,11 +1,10 @@
 // What stands between the items of a sequence.
-ghost use Prim.Native.Nat.{_≤_};
+ghost use Prim.Native.Nat.{ℕ, _≤_};
 ghost use mathlib.Core.Path.{_≡_};
 ghost use lib.ListN.{length};
-ghost use Rattle.walk.specs.Nodes.{fillsAt, Between, separateAt};
+ghost use Rattle.walk.specs.Nodes.{fillsAt, Between, dueAt, separateAt};
 ghost use Rattle.walk.specs.Run.{RanFrom};
 use crate::at::At;
-use crate::at::going;
 use crate::state::Run;
 use crate::writer::write;
 use records::element::is_repetition;
@@ -41,16 +40,21 @@ pub fn separator_of(at: At, e: Record) -> Separator
     }
 }
 
-// Writes the separator before an item, unless that is the first. (Most repetitions have none, and then the writer is not asked.)
-pub fn separate(g: &[u8], sep: Separator, before: usize, out: &mut [u8], at: At) -> Run
-    requires { ⌜ at .bytes ≤ length (now out) ⌝ }
-    ensures { λ r. ⌜ RanFrom (separateAt (now (g .entry)) sep before at (now (out .entry))) at r (now (out .entry)) (now (out .exit)) ⌝ }
+// Whether a separator is written before an item that has so many before it in its sequence: not before the first, and most repetitions have none.
+// (It is asked outside `separate`, so that an item without a separator costs no run.)
+pub fn is_due(sep: Separator, before: usize) -> bool
+    ensures { λ r. ⌜ r ≡ dueAt sep before ⌝ }
 {
     if before == 0 {
-        return going(at);
+        return false;
     }
-    if sep.length == 0 {
-        return going(at);
-    }
+    sep.length != 0
+}
+
+// Writes the separator before an item that is not the first of its sequence.
+pub fn separate(g: &[u8], sep: Separator, out: &mut [u8], at: At) -> Run
+    requires { ⌜ at .bytes ≤ length (now out) ⌝ }
+    ensures { λ r. ⌜ ((before : ℕ) → (before ≡ 0 → ⊥) → RanFrom (separateAt (now (g .entry)) sep before at (now (out .entry))) at r (now (out .entry)) (now (out .exit))) ⌝ }
+{
     write(g, sep.element, sep.length, out, at.placed(sep.sequence))
 }

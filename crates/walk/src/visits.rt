@@ -1,6 +1,6 @@
 // The visit of a node and of what stands below it: a cycle of functions. A call of `visit` below another has one level less, so the calls are
-// at most 201 levels deep, whatever the lists hold; items, children and elements are walked by loops. Each is lent the three streams g, t and v, the
-// tables of heads ps (productions) and ts (templates), and that of the value's children.
+// at most 201 levels deep, whatever the lists hold; items, children and elements are walked by loops. Each is given its node, and lent the three
+// streams g, t and v, the tables of heads ps (productions) and ts (templates), that of the value's children, the output and the scratch.
 ghost use mathlib.Core.Path.{_≡_};
 ghost use mathlib.Core.Bool.{cond};
 ghost use mathlib.Core.Option.{none};
@@ -21,6 +21,7 @@ use crate::paths::pass;
 use crate::paths::path_value;
 use crate::separator::Separator;
 use crate::separator::fills;
+use crate::separator::is_due;
 use crate::separator::separate;
 use crate::separator::separator_of;
 use crate::state::Run;
@@ -65,6 +66,8 @@ fn branch_of(t: &[u8], node: usize, a: u8) -> usize
 // A sequence visits its items in order, with its separator between them; n of them so far. A for among them brings any number. The two ways stay apart
 // until the next turn, as those of a build.
 fn sequence_items(
+    at: At,
+    head: Record,
     g: &[u8],
     t: &[u8],
     v: &[u8],
@@ -74,8 +77,6 @@ fn sequence_items(
     places: &[u16],
     out: &mut [u8],
     scratch: &mut [u16],
-    at: At,
-    head: Record,
 ) -> Run
     requires { ⌜ (Formed Form.Sequence (sources (now g) (now t) (now v) (now ps) (now ts) (now firsts) (now places)) at (now out) (now scratch)) × (Fetched (now t) (at .node) head) ⌝ }
     ensures { λ r. ⌜ VisitedFrom (formAt Form.Sequence (now (g .entry)) (now (t .entry)) (now (v .entry)) at (now (out .entry)) (now (scratch .entry))) at r (now (out .entry)) (now (out .exit)) (now (scratch .entry)) (now (scratch .exit)) ⌝ }
@@ -92,27 +93,28 @@ fn sequence_items(
     let mut visited = 0;
     while visited < count {
         let next = fetch(t, item);
-        let here = at.after(r);
         let turn = visited + 1;
         visited = turn;
         if is_for(next) {
-            let below = here.below(item, 0);
+            let below = at.after(r).below(item, 0);
             item += size_in(next);
-            let end = for_node(g, t, v, ps, ts, firsts, places, out, scratch, below, sep, n);
+            let end = for_node(below, sep, n, g, t, v, ps, ts, firsts, places, out, scratch);
             r = end.run;
             if r.number != 0 {
                 return r;
             }
             n = end.items;
         } else {
-            let written = separate(g, sep, n, out, here);
-            if written.number != 0 {
-                return written;
+            if is_due(sep, n) {
+                r = separate(g, sep, out, at.after(r));
+                if r.number != 0 {
+                    return r;
+                }
             }
-            let below = at.after(written).below(item, 0);
+            let below = at.after(r).below(item, 0);
             item += size_in(next);
             n += 1;
-            r = visit(g, t, v, ps, ts, firsts, places, out, scratch, below, next);
+            r = visit(below, g, t, v, ps, ts, firsts, places, out, scratch);
             if r.number != 0 {
                 return r;
             }
@@ -124,6 +126,9 @@ fn sequence_items(
 // A for in a sequence, which has had so many items before it: the body once for each item of its list. It is tried as any node, but here, since
 // it hands back how many items there are then.
 fn for_node(
+    at: At,
+    sep: Separator,
+    before: usize,
     g: &[u8],
     t: &[u8],
     v: &[u8],
@@ -133,9 +138,6 @@ fn for_node(
     places: &[u16],
     out: &mut [u8],
     scratch: &mut [u16],
-    at: At,
-    sep: Separator,
-    before: usize,
 ) -> Turns
     requires { ⌜ (Visitable (sources (now g) (now t) (now v) (now ps) (now ts) (now firsts) (now places)) at (now out) (now scratch)) × (formOf (now t) (at .node) ≡ Form.For) × (before < 2 ^ 32) ⌝ }
     ensures { λ r. ⌜ Turned (now (g .entry)) (now (t .entry)) (now (v .entry)) sep before at r (now (out .entry)) (now (out .exit)) (now (scratch .entry)) (now (scratch .exit)) ⌝ }
@@ -158,6 +160,11 @@ fn for_node(
     }
     let count = list.d;
     let run = for_items(
+        here,
+        w,
+        count,
+        sep,
+        before,
         g,
         t,
         v,
@@ -167,60 +174,17 @@ fn for_node(
         places,
         out,
         scratch,
-        here,
-        w,
-        count,
-        sep,
-        before,
     );
     turned(run, before + count as usize)
 }
 
 // A for visits its body once for each of the `count` items of the list at w, the item being one variable more.
 fn for_items(
-    g: &[u8],
-    t: &[u8],
-    v: &[u8],
-    ps: &[u16],
-    ts: &[u16],
-    firsts: &[u16],
-    places: &[u16],
-    out: &mut [u8],
-    scratch: &mut [u16],
     at: At,
     w: u16,
     count: u16,
     sep: Separator,
     before: usize,
-) -> Run
-    requires { ⌜ (Formed Form.For (sources (now g) (now t) (now v) (now ps) (now ts) (now firsts) (now places)) at (now out) (now scratch)) × (Listed (now t) (now v) at (now scratch) w count) × (before < 2 ^ 32) ⌝ }
-    ensures { λ r. ⌜ VisitedFrom (turnsAt (now (g .entry)) (now (t .entry)) (now (v .entry)) sep before at (now (out .entry)) (now (scratch .entry))) at r (now (out .entry)) (now (out .exit)) (now (scratch .entry)) (now (scratch .exit)) ⌝ }
-{
-    let body = at.node + 2;
-    let head = fetch(t, body);
-    let mut r = going(at);
-    let mut done = 0;
-    while done < count {
-        let written = separate(g, sep, before + done as usize, out, at.after(r));
-        if written.number != 0 {
-            return written;
-        }
-        let item = child_at(firsts, places, w, done);
-        bind(scratch, at.base, at.vars, item);
-        let below = at.after(written).below(body, 0).bound();
-        r = visit(g, t, v, ps, ts, firsts, places, out, scratch, below, head);
-        if r.number != 0 {
-            return r;
-        }
-        let turn = done + 1;
-        done = turn;
-    }
-    r
-}
-
-// A build takes the elements of its production in order: it writes a keyword, and visits the next child for any other. The two ways stay apart
-// until the next turn: a function for both would be slower.
-fn build_items(
     g: &[u8],
     t: &[u8],
     v: &[u8],
@@ -230,8 +194,49 @@ fn build_items(
     places: &[u16],
     out: &mut [u8],
     scratch: &mut [u16],
+) -> Run
+    requires { ⌜ (Formed Form.For (sources (now g) (now t) (now v) (now ps) (now ts) (now firsts) (now places)) at (now out) (now scratch)) × (Listed (now t) (now v) at (now scratch) w count) × (before < 2 ^ 32) ⌝ }
+    ensures { λ r. ⌜ VisitedFrom (turnsAt (now (g .entry)) (now (t .entry)) (now (v .entry)) sep before at (now (out .entry)) (now (scratch .entry))) at r (now (out .entry)) (now (out .exit)) (now (scratch .entry)) (now (scratch .exit)) ⌝ }
+{
+    let body = at.node + 2;
+    let mut here = at;
+    let mut done = 0;
+    while done < count {
+        if is_due(sep, before + done as usize) {
+            let written = separate(g, sep, out, here);
+            if written.number != 0 {
+                return written;
+            }
+            here = here.after(written);
+        }
+        let item = child_at(firsts, places, w, done);
+        bind(scratch, at.base, at.vars, item);
+        let below = here.below(body, 0).bound();
+        let end = visit(below, g, t, v, ps, ts, firsts, places, out, scratch);
+        if end.number != 0 {
+            return end;
+        }
+        here = here.after(end);
+        let turn = done + 1;
+        done = turn;
+    }
+    going(here)
+}
+
+// A build takes the elements of its production in order: it writes a keyword, and visits the next child for any other. The two ways stay apart
+// until the next turn: a function for both would be slower.
+fn build_items(
     at: At,
     head: Record,
+    g: &[u8],
+    t: &[u8],
+    v: &[u8],
+    ps: &[u16],
+    ts: &[u16],
+    firsts: &[u16],
+    places: &[u16],
+    out: &mut [u8],
+    scratch: &mut [u16],
 ) -> Run
     requires { ⌜ (Formed Form.Build (sources (now g) (now t) (now v) (now ps) (now ts) (now firsts) (now places)) at (now out) (now scratch)) × (Fetched (now t) (at .node) head) ⌝ }
     ensures { λ r. ⌜ VisitedFrom (formAt Form.Build (now (g .entry)) (now (t .entry)) (now (v .entry)) at (now (out .entry)) (now (scratch .entry))) at r (now (out .entry)) (now (out .exit)) (now (scratch .entry)) (now (scratch .exit)) ⌝ }
@@ -243,40 +248,42 @@ fn build_items(
     let mut element = production as usize + 1;
     let mut child = at.node + 1;
     let mut used = 0;
-    let mut r = going(at);
+    let mut here = at;
     let mut taken = 0;
     while taken < count {
         let e = fetch(g, element);
-        let here = at.after(r);
         let turn = taken + 1;
         taken = turn;
         if e.a == 0 {
-            r = write(g, element, e.b, out, here);
-            if r.number != 0 {
-                return r;
+            let written = write(g, element, e.b, out, here);
+            if written.number != 0 {
+                return written;
             }
+            here = here.after(written);
             element += size_of(e);
         } else {
             if head.d <= used {
                 return stuck(here);
             }
-            let next = fetch(t, child);
             let below = here.below(child, element);
             element += size_of(e);
-            child += size_in(next);
             used += 1;
-            r = visit(g, t, v, ps, ts, firsts, places, out, scratch, below, next);
-            if r.number != 0 {
-                return r;
+            let end = visit(below, g, t, v, ps, ts, firsts, places, out, scratch);
+            if end.number != 0 {
+                return end;
             }
+            here = here.after(end);
+            child += size_at(t, child);
         }
     }
-    r
+    going(here)
 }
 
 // An expand enters the body of its template with a fresh set of variables, those that its paths find, right behind its own. With no level
 // left below it they are only looked for: the body is not visited, and reads none.
 fn expand_body(
+    at: At,
+    head: Record,
     g: &[u8],
     t: &[u8],
     v: &[u8],
@@ -286,8 +293,6 @@ fn expand_body(
     places: &[u16],
     out: &mut [u8],
     scratch: &mut [u16],
-    at: At,
-    head: Record,
 ) -> Run
     requires { ⌜ (Formed Form.Expand (sources (now g) (now t) (now v) (now ps) (now ts) (now firsts) (now places)) at (now out) (now scratch)) × (Fetched (now t) (at .node) head) ⌝ }
     ensures { λ r. ⌜ VisitedFrom (formAt Form.Expand (now (g .entry)) (now (t .entry)) (now (v .entry)) at (now (out .entry)) (now (scratch .entry))) at r (now (out .entry)) (now (out .exit)) (now (scratch .entry)) (now (scratch .exit)) ⌝ }
@@ -317,12 +322,12 @@ fn expand_body(
         return stuck(at);
     }
     let below = at.below(body, 0).framed(next, count);
-    let first = fetch(t, body);
-    visit(g, t, v, ps, ts, firsts, places, out, scratch, below, first)
+    visit(below, g, t, v, ps, ts, firsts, places, out, scratch)
 }
 
 // An if visits only the branch taken.
 fn if_branch(
+    at: At,
     g: &[u8],
     t: &[u8],
     v: &[u8],
@@ -332,7 +337,6 @@ fn if_branch(
     places: &[u16],
     out: &mut [u8],
     scratch: &mut [u16],
-    at: At,
 ) -> Run
     requires { ⌜ Formed Form.If (sources (now g) (now t) (now v) (now ps) (now ts) (now firsts) (now places)) at (now out) (now scratch) ⌝ }
     ensures { λ r. ⌜ VisitedFrom (formAt Form.If (now (g .entry)) (now (t .entry)) (now (v .entry)) at (now (out .entry)) (now (scratch .entry))) at r (now (out .entry)) (now (out .exit)) (now (scratch .entry)) (now (scratch .exit)) ⌝ }
@@ -347,12 +351,12 @@ fn if_branch(
     }
     let branch = branch_of(t, at.node, head.a);
     let below = at.below(branch, at.element);
-    let first = fetch(t, branch);
-    visit(g, t, v, ps, ts, firsts, places, out, scratch, below, first)
+    visit(below, g, t, v, ps, ts, firsts, places, out, scratch)
 }
 
 // A visit of a node: it is tried for 10, counts one step, and is tried for 11; then its form decides.
 pub fn visit(
+    at: At,
     g: &[u8],
     t: &[u8],
     v: &[u8],
@@ -362,10 +366,8 @@ pub fn visit(
     places: &[u16],
     out: &mut [u8],
     scratch: &mut [u16],
-    at: At,
-    head: Record,
 ) -> Run
-    requires { ⌜ (Visitable (sources (now g) (now t) (now v) (now ps) (now ts) (now firsts) (now places)) at (now out) (now scratch)) × (Fetched (now t) (at .node) head) ⌝ }
+    requires { ⌜ Visitable (sources (now g) (now t) (now v) (now ps) (now ts) (now firsts) (now places)) at (now out) (now scratch) ⌝ }
     ensures { λ r. ⌜ VisitedFrom (visitAt (now (g .entry)) (now (t .entry)) (now (v .entry)) at (now (out .entry)) (now (scratch .entry))) at r (now (out .entry)) (now (out .exit)) (now (scratch .entry)) (now (scratch .exit)) ⌝ }
 {
     if at.spent() {
@@ -375,14 +377,15 @@ pub fn visit(
     if at.left == 0 {
         return ended(11, here);
     }
+    let head = fetch(t, here.node);
     match form_of(head) {
-        Form::Build => build_items(g, t, v, ps, ts, firsts, places, out, scratch, here, head),
+        Form::Build => build_items(here, head, g, t, v, ps, ts, firsts, places, out, scratch),
         Form::Literal => write(t, here.node, head.b, out, here),
         Form::Place => place(t, v, firsts, places, out, scratch, here),
-        Form::Expand => expand_body(g, t, v, ps, ts, firsts, places, out, scratch, here, head),
-        Form::If => if_branch(g, t, v, ps, ts, firsts, places, out, scratch, here),
+        Form::Expand => expand_body(here, head, g, t, v, ps, ts, firsts, places, out, scratch),
+        Form::If => if_branch(here, g, t, v, ps, ts, firsts, places, out, scratch),
         Form::For => stuck(here),
-        Form::Sequence => sequence_items(g, t, v, ps, ts, firsts, places, out, scratch, here, head),
+        Form::Sequence => sequence_items(here, head, g, t, v, ps, ts, firsts, places, out, scratch),
         Form::Unknown => stuck(here),
     }
 }

@@ -1,7 +1,7 @@
 use mathlib.Core.Path.{_∙_}
 use native.Mathlib.Omega.{arith}
 use Rattle.walk.proofs.PathLaws.{got, lost}
-use Rattle.walk.proofs.StartLaws.{scratch-room, start-missing, start-visitable, start-fetched, start-walked}
+use Rattle.walk.proofs.StartLaws.{scratch-room, start-missing, start-visitable, start-walked}
 use borrow.Author.Needs.{needs}
 use Rattle.walk.proofs.run.Statement.{statement}
 use Rattle.walk.proofs.run.Tie as tie
@@ -39,11 +39,8 @@ bind-requires c κs = omega (arith, scratch-room (c .before .before .before .bef
 start-requires-2 : tie.Need-start-requires-2
 start-requires-2 c κs = search needs
 
-fetch-requires : tie.Need-fetch-requires
-fetch-requires c κs = c .before .before .before .before .before .before .before .before .before .before .before .before .before .before .before .before .before .before .before .before .before .pre .lent .templates-sized
-
 visit-requires : tie.Need-visit-requires
-visit-requires c κs = (start-visitable (c .before .before .before .before .before .before .before .before .before .before .before .before .before .before .before .before .before .before .before .before .before .before .pre) (got (c .before .before .before .before .before .before .before .before .before .before .before .before .head-at .ensures) (c .before .before .before .before .before .before .before .before .before .before .template .given .1)) _ (c .before .before .before .before .before .before .before .before .body-of .ensures .0) (c .before .before .before .before .before .before .bind .ensures) (c .before .before .before .before .before .before .bind .kept .0) _ (c .before .start2 .ensures) (c .before .before .before .before .before .before .before .before .body-of .ensures .1) _, start-fetched (c .before .before .before .before .before .before .before .before .before .before .before .before .before .before .before .before .before .before .before .before .before .before .pre) (got (c .before .before .before .before .before .before .before .before .before .before .before .before .head-at .ensures) (c .before .before .before .before .before .before .before .before .before .before .template .given .1)) _ (c .before .before .before .before .before .before .before .before .body-of .ensures .0) (c .before .before .before .before .before .before .bind .ensures) (c .before .before .before .before .before .before .bind .kept .0) _ (c .before .start2 .ensures) (c .fetch .ensures))
+visit-requires c κs = start-visitable (c .before .before .before .before .before .before .before .before .before .before .before .before .before .before .before .before .before .before .before .before .before .pre) (got (c .before .before .before .before .before .before .before .before .before .before .before .head-at .ensures) (c .before .before .before .before .before .before .before .before .before .template .given .1)) _ (c .before .before .before .before .before .before .before .body-of .ensures .0) (c .before .before .before .before .before .bind .ensures) (c .before .before .before .before .before .bind .kept .0) _ (c .before .before .start2 .ensures) (c .before .before .before .before .before .before .before .body-of .ensures .1) _
 
 clear-requires-2 : tie.Need-clear-requires-2
 clear-requires-2 c κs = search needs
@@ -52,10 +49,10 @@ same-length-2 : tie.Need-same-length-2
 same-length-2 c = search needs
 
 same-length-3 : tie.Need-same-length-3
-same-length-3 c = c .before .before .clear2 .kept .0 ∙ c .before .before .before .before .before .before .before .before .visit .kept .1 .1 .1 .1 .1 .1 .1 .1 .0 ∙ c .before .before .before .before .before .before .before .before .before .before .before .before .before .before .before .bind .kept .0
+same-length-3 c = c .before .before .clear2 .kept .0 ∙ c .before .before .before .before .before .before .before .before .visit .kept .1 .1 .1 .1 .1 .1 .1 .1 .1 .0 ∙ c .before .before .before .before .before .before .before .before .before .before .before .before .before .before .bind .kept .0
 
 returns-2 : tie.Need-returns-2
-returns-2 c = start-walked (c .before .before .before .before .before .before .before .before .before .before .before .before .before .before .before .before .before .before .before .before .before .before .before .before .before .before .before .before .before .before .before .pre) (got (c .before .before .before .before .before .before .before .before .before .before .before .before .before .before .before .before .before .before .before .before .before .head-at .ensures) (c .before .before .before .before .before .before .before .before .before .before .before .before .before .before .before .before .before .before .before .template .given .1)) _ (c .before .before .before .before .before .before .before .before .before .before .before .before .before .before .before .before .before .body-of .ensures .0) (c .before .before .before .before .before .before .before .before .before .before .before .before .before .before .before .bind .ensures) (c .before .before .before .before .before .before .before .before .before .before .before .before .before .before .before .bind .kept .0) _ (c .before .before .before .before .before .before .before .before .before .before .start2 .ensures) (c .before .before .before .before .before .before .before .before .visit .ensures) (c .before .before .before .before .before .before .before .before .visit .kept .1 .1 .1 .1 .1 .1 .1 .1 .0) (c .before .before .clear2 .ensures)
+returns-2 c = start-walked (c .before .before .before .before .before .before .before .before .before .before .before .before .before .before .before .before .before .before .before .before .before .before .before .before .before .before .before .before .before .before .pre) (got (c .before .before .before .before .before .before .before .before .before .before .before .before .before .before .before .before .before .before .before .before .head-at .ensures) (c .before .before .before .before .before .before .before .before .before .before .before .before .before .before .before .before .before .before .template .given .1)) _ (c .before .before .before .before .before .before .before .before .before .before .before .before .before .before .before .before .body-of .ensures .0) (c .before .before .before .before .before .before .before .before .before .before .before .before .before .before .bind .ensures) (c .before .before .before .before .before .before .before .before .before .before .before .before .before .before .bind .kept .0) _ (c .before .before .before .before .before .before .before .before .before .before .before .start2 .ensures) (c .before .before .before .before .before .before .before .before .visit .ensures) (c .before .before .before .before .before .before .before .before .visit .kept .1 .1 .1 .1 .1 .1 .1 .1 .1 .0) (c .before .before .clear2 .ensures)
 
 pub run-spec : {M : Type 1} → statement M
 run-spec =
@@ -72,7 +69,6 @@ run-spec =
     body-of-requires
     bind-requires
     start-requires-2
-    fetch-requires
     visit-requires
     clear-requires-2
     same-length-2
