@@ -1,8 +1,11 @@
-//! `bench [--rounds N] [--against FILE.so]`: ratios of times as Markdown tables. No time is asserted.
+//! `bench [--rounds N] [--against OLD.so [--new NEW.so]]`: ratios of times as Markdown tables. No
+//! time is asserted.
 //!
 //! With the feature `proved` the proved library is measured against the reference. With `--against`
 //! it is measured against another build of it, a shared object with the same exports, which an
-//! archive becomes by `cc -shared -o FILE.so -Wl,--whole-archive libfeed.a`.
+//! archive becomes by `cc -shared -o OLD.so -Wl,--whole-archive libfeed.a`. With `--new` the new build
+//! is loaded as well: where code lies in memory counts for some percent, and two builds that are
+//! loaded alike lie alike. A copy of the old one as the new one says how much a ratio is worth.
 
 #[allow(unsafe_code)]
 mod loaded;
@@ -56,12 +59,11 @@ impl<M: Machine> Calls for M {
 fn main() -> Result<(), String> {
     let rounds = option("--rounds").and_then(|word| word.parse().ok());
     let rounds = rounds.filter(|&rounds| rounds > 0).unwrap_or(41);
-    let other = option("--against").map(|file| Loaded::open(Path::new(&file)));
-    let other = other.transpose()?;
+    let [old, new] = [loaded("--against")?, loaded("--new")?];
     println!("Medians of {rounds} rounds, everything measured in turns within one run.");
     println!("In brackets: the quartiles.\n");
-    match other {
-        Some(other) => against_table(&other, rounds),
+    match old {
+        Some(old) => against_table(new.as_ref(), &old, rounds),
         None => {
             speed_table(rounds);
             growth_table(rounds);
@@ -74,6 +76,12 @@ fn main() -> Result<(), String> {
 /// The word behind an option.
 fn option(name: &str) -> Option<String> {
     std::env::args().skip_while(|word| word != name).nth(1)
+}
+
+/// The build that an option names.
+fn loaded(name: &str) -> Result<Option<Loaded>, String> {
+    let build = option(name).map(|file| Loaded::open(Path::new(&file)));
+    build.transpose()
 }
 
 #[cfg(feature = "proved")]
@@ -225,10 +233,11 @@ fn growth_row(family: &Family, machines: &[Box<dyn Calls>], rounds: usize) -> Ve
     cells
 }
 
-/// The last of the machines, new, against another, old, which must answer the same.
-fn against_table(old: &dyn Calls, rounds: usize) {
+/// A new build, or the last of the machines, against an old one, which must answer the same.
+fn against_table(new: Option<&Loaded>, old: &dyn Calls, rounds: usize) {
     let machines = machines();
-    let new = &**machines.last().expect("a machine");
+    let linked = &**machines.last().expect("a machine");
+    let new = new.map_or(linked, |build| build);
     println!("New: {}. Old: {}.\n", new.name(), old.name());
     header(&["set", "bytes in", "evaluate, new / old", "check, new / old"].map(String::from));
     for family in &FAMILIES {
