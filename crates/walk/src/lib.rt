@@ -80,13 +80,13 @@ pub fn run(
         start(body, fuel),
         g,
         t,
-        v,
         productions,
-        templates,
+        out,
+        v,
         firsts,
         places,
-        out,
         scratch,
+        templates,
     );
     clear(scratch);
     r

@@ -1,6 +1,7 @@
 // The visit of a node and of what stands below it: a cycle of functions. A call of `visit` below another has one level less, so the calls are
 // at most 201 levels deep, whatever the lists hold; items, children and elements are walked by loops. Each is given its node, and lent the three
-// streams g, t and v, the tables of heads ps (productions) and ts (templates), that of the value's children, the output and the scratch.
+// streams g, t and v, the tables of heads ps (productions) and ts (templates), that of the value's children, the output and the scratch. What a
+// build reads and writes is named first: the first few go in registers, and builds are what nests deepest.
 ghost use mathlib.Core.Path.{_≡_};
 ghost use mathlib.Core.Bool.{cond};
 ghost use mathlib.Core.Option.{none};
@@ -70,13 +71,13 @@ fn sequence_items(
     head: Record,
     g: &[u8],
     t: &[u8],
-    v: &[u8],
     ps: &[u16],
-    ts: &[u16],
+    out: &mut [u8],
+    v: &[u8],
     firsts: &[u16],
     places: &[u16],
-    out: &mut [u8],
     scratch: &mut [u16],
+    ts: &[u16],
 ) -> Run
     requires { ⌜ (Formed Form.Sequence (sources (now g) (now t) (now v) (now ps) (now ts) (now firsts) (now places)) at (now out) (now scratch)) × (Fetched (now t) (at .node) head) ⌝ }
     ensures { λ r. ⌜ VisitedFrom (formAt Form.Sequence (now (g .entry)) (now (t .entry)) (now (v .entry)) at (now (out .entry)) (now (scratch .entry))) at r (now (out .entry)) (now (out .exit)) (now (scratch .entry)) (now (scratch .exit)) ⌝ }
@@ -98,7 +99,7 @@ fn sequence_items(
         if is_for(next) {
             let below = at.after(r).below(item, 0);
             item += size_in(next);
-            let end = for_node(below, sep, n, g, t, v, ps, ts, firsts, places, out, scratch);
+            let end = for_node(below, sep, n, g, t, ps, out, v, firsts, places, scratch, ts);
             r = end.run;
             if r.number != 0 {
                 return r;
@@ -114,7 +115,7 @@ fn sequence_items(
             let below = at.after(r).below(item, 0);
             item += size_in(next);
             n += 1;
-            r = visit(below, g, t, v, ps, ts, firsts, places, out, scratch);
+            r = visit(below, g, t, ps, out, v, firsts, places, scratch, ts);
             if r.number != 0 {
                 return r;
             }
@@ -131,13 +132,13 @@ fn for_node(
     before: usize,
     g: &[u8],
     t: &[u8],
-    v: &[u8],
     ps: &[u16],
-    ts: &[u16],
+    out: &mut [u8],
+    v: &[u8],
     firsts: &[u16],
     places: &[u16],
-    out: &mut [u8],
     scratch: &mut [u16],
+    ts: &[u16],
 ) -> Turns
     requires { ⌜ (Visitable (sources (now g) (now t) (now v) (now ps) (now ts) (now firsts) (now places)) at (now out) (now scratch)) × (formOf (now t) (at .node) ≡ Form.For) × (before < 2 ^ 32) ⌝ }
     ensures { λ r. ⌜ Turned (now (g .entry)) (now (t .entry)) (now (v .entry)) sep before at r (now (out .entry)) (now (out .exit)) (now (scratch .entry)) (now (scratch .exit)) ⌝ }
@@ -167,13 +168,13 @@ fn for_node(
         before,
         g,
         t,
-        v,
         ps,
-        ts,
+        out,
+        v,
         firsts,
         places,
-        out,
         scratch,
+        ts,
     );
     turned(run, before + count as usize)
 }
@@ -187,13 +188,13 @@ fn for_items(
     before: usize,
     g: &[u8],
     t: &[u8],
-    v: &[u8],
     ps: &[u16],
-    ts: &[u16],
+    out: &mut [u8],
+    v: &[u8],
     firsts: &[u16],
     places: &[u16],
-    out: &mut [u8],
     scratch: &mut [u16],
+    ts: &[u16],
 ) -> Run
     requires { ⌜ (Formed Form.For (sources (now g) (now t) (now v) (now ps) (now ts) (now firsts) (now places)) at (now out) (now scratch)) × (Listed (now t) (now v) at (now scratch) w count) × (before < 2 ^ 32) ⌝ }
     ensures { λ r. ⌜ VisitedFrom (turnsAt (now (g .entry)) (now (t .entry)) (now (v .entry)) sep before at (now (out .entry)) (now (scratch .entry))) at r (now (out .entry)) (now (out .exit)) (now (scratch .entry)) (now (scratch .exit)) ⌝ }
@@ -212,7 +213,7 @@ fn for_items(
         let item = child_at(firsts, places, w, done);
         bind(scratch, at.base, at.vars, item);
         let below = here.below(body, 0).bound();
-        let end = visit(below, g, t, v, ps, ts, firsts, places, out, scratch);
+        let end = visit(below, g, t, ps, out, v, firsts, places, scratch, ts);
         if end.number != 0 {
             return end;
         }
@@ -230,13 +231,13 @@ fn build_items(
     head: Record,
     g: &[u8],
     t: &[u8],
-    v: &[u8],
     ps: &[u16],
-    ts: &[u16],
+    out: &mut [u8],
+    v: &[u8],
     firsts: &[u16],
     places: &[u16],
-    out: &mut [u8],
     scratch: &mut [u16],
+    ts: &[u16],
 ) -> Run
     requires { ⌜ (Formed Form.Build (sources (now g) (now t) (now v) (now ps) (now ts) (now firsts) (now places)) at (now out) (now scratch)) × (Fetched (now t) (at .node) head) ⌝ }
     ensures { λ r. ⌜ VisitedFrom (formAt Form.Build (now (g .entry)) (now (t .entry)) (now (v .entry)) at (now (out .entry)) (now (scratch .entry))) at r (now (out .entry)) (now (out .exit)) (now (scratch .entry)) (now (scratch .exit)) ⌝ }
@@ -268,7 +269,7 @@ fn build_items(
             let below = here.below(child, element);
             element += size_of(e);
             used += 1;
-            let end = visit(below, g, t, v, ps, ts, firsts, places, out, scratch);
+            let end = visit(below, g, t, ps, out, v, firsts, places, scratch, ts);
             if end.number != 0 {
                 return end;
             }
@@ -286,13 +287,13 @@ fn expand_body(
     head: Record,
     g: &[u8],
     t: &[u8],
-    v: &[u8],
     ps: &[u16],
-    ts: &[u16],
+    out: &mut [u8],
+    v: &[u8],
     firsts: &[u16],
     places: &[u16],
-    out: &mut [u8],
     scratch: &mut [u16],
+    ts: &[u16],
 ) -> Run
     requires { ⌜ (Formed Form.Expand (sources (now g) (now t) (now v) (now ps) (now ts) (now firsts) (now places)) at (now out) (now scratch)) × (Fetched (now t) (at .node) head) ⌝ }
     ensures { λ r. ⌜ VisitedFrom (formAt Form.Expand (now (g .entry)) (now (t .entry)) (now (v .entry)) at (now (out .entry)) (now (scratch .entry))) at r (now (out .entry)) (now (out .exit)) (now (scratch .entry)) (now (scratch .exit)) ⌝ }
@@ -322,7 +323,7 @@ fn expand_body(
         return stuck(at);
     }
     let below = at.below(body, 0).framed(next, count);
-    visit(below, g, t, v, ps, ts, firsts, places, out, scratch)
+    visit(below, g, t, ps, out, v, firsts, places, scratch, ts)
 }
 
 // An if visits only the branch taken.
@@ -330,13 +331,13 @@ fn if_branch(
     at: At,
     g: &[u8],
     t: &[u8],
-    v: &[u8],
     ps: &[u16],
-    ts: &[u16],
+    out: &mut [u8],
+    v: &[u8],
     firsts: &[u16],
     places: &[u16],
-    out: &mut [u8],
     scratch: &mut [u16],
+    ts: &[u16],
 ) -> Run
     requires { ⌜ Formed Form.If (sources (now g) (now t) (now v) (now ps) (now ts) (now firsts) (now places)) at (now out) (now scratch) ⌝ }
     ensures { λ r. ⌜ VisitedFrom (formAt Form.If (now (g .entry)) (now (t .entry)) (now (v .entry)) at (now (out .entry)) (now (scratch .entry))) at r (now (out .entry)) (now (out .exit)) (now (scratch .entry)) (now (scratch .exit)) ⌝ }
@@ -351,7 +352,7 @@ fn if_branch(
     }
     let branch = branch_of(t, at.node, head.a);
     let below = at.below(branch, at.element);
-    visit(below, g, t, v, ps, ts, firsts, places, out, scratch)
+    visit(below, g, t, ps, out, v, firsts, places, scratch, ts)
 }
 
 // A visit of a node: it is tried for 10, counts one step, and is tried for 11; then its form decides.
@@ -359,13 +360,13 @@ pub fn visit(
     at: At,
     g: &[u8],
     t: &[u8],
-    v: &[u8],
     ps: &[u16],
-    ts: &[u16],
+    out: &mut [u8],
+    v: &[u8],
     firsts: &[u16],
     places: &[u16],
-    out: &mut [u8],
     scratch: &mut [u16],
+    ts: &[u16],
 ) -> Run
     requires { ⌜ Visitable (sources (now g) (now t) (now v) (now ps) (now ts) (now firsts) (now places)) at (now out) (now scratch) ⌝ }
     ensures { λ r. ⌜ VisitedFrom (visitAt (now (g .entry)) (now (t .entry)) (now (v .entry)) at (now (out .entry)) (now (scratch .entry))) at r (now (out .entry)) (now (out .exit)) (now (scratch .entry)) (now (scratch .exit)) ⌝ }
@@ -379,13 +380,13 @@ pub fn visit(
     }
     let head = fetch(t, here.node);
     match form_of(head) {
-        Form::Build => build_items(here, head, g, t, v, ps, ts, firsts, places, out, scratch),
+        Form::Build => build_items(here, head, g, t, ps, out, v, firsts, places, scratch, ts),
         Form::Literal => write(t, here.node, head.b, out, here),
         Form::Place => place(t, v, firsts, places, out, scratch, here),
-        Form::Expand => expand_body(here, head, g, t, v, ps, ts, firsts, places, out, scratch),
-        Form::If => if_branch(here, g, t, v, ps, ts, firsts, places, out, scratch),
+        Form::Expand => expand_body(here, head, g, t, ps, out, v, firsts, places, scratch, ts),
+        Form::If => if_branch(here, g, t, ps, out, v, firsts, places, scratch, ts),
         Form::For => stuck(here),
-        Form::Sequence => sequence_items(here, head, g, t, v, ps, ts, firsts, places, out, scratch),
+        Form::Sequence => sequence_items(here, head, g, t, ps, out, v, firsts, places, scratch, ts),
         Form::Unknown => stuck(here),
     }
 }

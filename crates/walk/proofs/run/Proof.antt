@@ -49,10 +49,10 @@ same-length-2 : tie.Need-same-length-2
 same-length-2 c = search needs
 
 same-length-3 : tie.Need-same-length-3
-same-length-3 c = c .before .before .clear2 .kept .0 ∙ c .before .before .before .before .before .before .before .before .visit .kept .1 .1 .1 .1 .1 .1 .1 .1 .1 .0 ∙ c .before .before .before .before .before .before .before .before .before .before .before .before .before .before .bind .kept .0
+same-length-3 c = c .before .before .clear2 .kept .0 ∙ c .before .before .before .before .before .before .before .before .visit .kept .1 .1 .1 .1 .1 .1 .1 .1 .0 ∙ c .before .before .before .before .before .before .before .before .before .before .before .before .before .before .bind .kept .0
 
 returns-2 : tie.Need-returns-2
-returns-2 c = start-walked (c .before .before .before .before .before .before .before .before .before .before .before .before .before .before .before .before .before .before .before .before .before .before .before .before .before .before .before .before .before .before .pre) (got (c .before .before .before .before .before .before .before .before .before .before .before .before .before .before .before .before .before .before .before .before .head-at .ensures) (c .before .before .before .before .before .before .before .before .before .before .before .before .before .before .before .before .before .before .template .given .1)) _ (c .before .before .before .before .before .before .before .before .before .before .before .before .before .before .before .before .body-of .ensures .0) (c .before .before .before .before .before .before .before .before .before .before .before .before .before .before .bind .ensures) (c .before .before .before .before .before .before .before .before .before .before .before .before .before .before .bind .kept .0) _ (c .before .before .before .before .before .before .before .before .before .before .before .start2 .ensures) (c .before .before .before .before .before .before .before .before .visit .ensures) (c .before .before .before .before .before .before .before .before .visit .kept .1 .1 .1 .1 .1 .1 .1 .1 .1 .0) (c .before .before .clear2 .ensures)
+returns-2 c = start-walked (c .before .before .before .before .before .before .before .before .before .before .before .before .before .before .before .before .before .before .before .before .before .before .before .before .before .before .before .before .before .before .pre) (got (c .before .before .before .before .before .before .before .before .before .before .before .before .before .before .before .before .before .before .before .before .head-at .ensures) (c .before .before .before .before .before .before .before .before .before .before .before .before .before .before .before .before .before .before .template .given .1)) _ (c .before .before .before .before .before .before .before .before .before .before .before .before .before .before .before .before .body-of .ensures .0) (c .before .before .before .before .before .before .before .before .before .before .before .before .before .before .bind .ensures) (c .before .before .before .before .before .before .before .before .before .before .before .before .before .before .bind .kept .0) _ (c .before .before .before .before .before .before .before .before .before .before .before .start2 .ensures) (c .before .before .before .before .before .before .before .before .visit .ensures) (c .before .before .before .before .before .before .before .before .visit .kept .1 .1 .1 .1 .1 .1 .1 .1 .0) (c .before .before .clear2 .ensures)
 
 pub run-spec : {M : Type 1} → statement M
 run-spec =

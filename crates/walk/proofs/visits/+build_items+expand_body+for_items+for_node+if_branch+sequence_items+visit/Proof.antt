@@ -179,10 +179,10 @@ abbrev visit-claims : (t : ℕ) → visit-lts.Claims
 visit-claims t = (spent-reads.Asked, spent-reads.Learnt, ended-reads.Asked, ended-reads.Learnt, counted-reads.Asked, counted-reads.Learnt, fetch-reads.Asked, fetch-reads.Learnt, form-of-reads.Asked, form-of-reads.Learnt, build-items-below t, build-items.Post, write-reads.Asked, write-reads.Learnt, place-reads.Asked, place-reads.Learnt, expand-body-below t, expand-body.Post, if-branch-below t, if-branch.Post, stuck-reads.Asked, stuck-reads.Learnt, sequence-items-below t, sequence-items.Post)
 
 abbrev build-items-Inv-loop : build-items-lts.InvT-loop
-build-items-Inv-loop head g t v ps ts firsts places out₀ scratch₀ production count element₀ child₀ used₀ here₀ taken₀ out scratch element child used here taken = InBuild (sources g t v ps ts firsts places) here₀ out₀ scratch₀ production count (head .d) out scratch element child used here taken
+build-items-Inv-loop head g t ps out₀ v firsts places scratch₀ ts production count element₀ child₀ used₀ here₀ taken₀ out scratch element child used here taken = InBuild (sources g t v ps ts firsts places) here₀ out₀ scratch₀ production count (head .d) out scratch element child used here taken
 
 abbrev build-items-μ-loop : build-items-lts.MeasureT-loop
-build-items-μ-loop head g t v ps ts firsts places out₀ scratch₀ production count element₀ child₀ used₀ here₀ taken₀ out scratch element child used here taken = count - taken
+build-items-μ-loop head g t ps out₀ v firsts places scratch₀ ts production count element₀ child₀ used₀ here₀ taken₀ out scratch element child used here taken = count - taken
 
 build-items-head-at-requires : (t : ℕ) → build-items-lts.Need-head-at-requires (build-items-claims t) (build-items-at t) build-items.Post build-items-Inv-loop build-items-μ-loop
 build-items-head-at-requires t c κs = search needs
@@ -278,13 +278,13 @@ build-items-visit-requires : (t : ℕ) → build-items-lts.Need-visit-requires (
 build-items-visit-requires t c κs = (omega (arith, c .before .before .before .before .before .before .before .before .before .before .before .before .before .before .before .before .before .before .before .before .before .before .before .before .before .before .pre .0, child-falls (c .before .before .before .before .before .before .before .before .before .before .before .before .before .before .before .before .before .before .before .before .before .before .before .before .before .before .pre .1 .0) (c .before .before .before .before .before .before .before .before .before .before .loop .inv) (c .before .before .before .before .before .before .before .before .before .loop-test .taken) (c .before .before .before .before .before .before .before .before .fetch2 .ensures) (c .before .before .before .before .before .before .if1 .left) (c .before .before .before .before .if3 .left) (c .before .before .before .below .ensures)), child-visitable (c .before .before .before .before .before .before .before .before .before .before .before .before .before .before .before .before .before .before .before .before .before .before .before .before .before .before .pre .1 .0) (c .before .before .before .before .before .before .before .before .before .before .loop .inv) (c .before .before .before .before .before .before .before .before .before .loop-test .taken) (c .before .before .before .before .before .before .before .before .fetch2 .ensures) (c .before .before .before .before .before .before .if1 .left) (c .before .before .before .before .if3 .left) (c .before .before .before .below .ensures))
 
 build-items-same-length-5 : (t : ℕ) → build-items-lts.Need-same-length-5 (build-items-claims t) (build-items-at t) build-items.Post build-items-Inv-loop build-items-μ-loop
-build-items-same-length-5 t c = c .before .before .before .before .before .before .visit .kept .1 .1 .1 .1 .1 .1 .1 .1 .0 ∙ c .before .before .before .before .before .before .before .before .before .before .before .before .before .before .before .before .before .loop .inv .going .len
+build-items-same-length-5 t c = c .before .before .before .before .before .before .visit .kept .1 .1 .1 .1 .0 ∙ c .before .before .before .before .before .before .before .before .before .before .before .before .before .before .before .before .before .loop .inv .going .len
 
 build-items-same-length-6 : (t : ℕ) → build-items-lts.Need-same-length-6 (build-items-claims t) (build-items-at t) build-items.Post build-items-Inv-loop build-items-μ-loop
-build-items-same-length-6 t c = c .before .before .before .before .before .before .visit .kept .1 .1 .1 .1 .1 .1 .1 .1 .1 .0 ∙ c .before .before .before .before .before .before .before .before .before .before .before .before .before .before .before .before .before .loop .inv .going .lens
+build-items-same-length-6 t c = c .before .before .before .before .before .before .visit .kept .1 .1 .1 .1 .1 .1 .1 .1 .0 ∙ c .before .before .before .before .before .before .before .before .before .before .before .before .before .before .before .before .before .loop .inv .going .lens
 
 build-items-returns-4 : (t : ℕ) → build-items-lts.Need-returns-4 (build-items-claims t) (build-items-at t) build-items.Post build-items-Inv-loop build-items-μ-loop
-build-items-returns-4 t c = child-stop (c .before .before .before .before .before .before .before .before .before .before .before .before .before .before .before .before .before .before .before .before .before .before .before .before .before .before .before .before .before .before .before .before .before .pre .1 .0) (c .before .before .before .before .before .before .before .before .before .before .before .before .before .before .before .before .before .loop .inv) (c .before .before .before .before .before .before .before .before .before .before .before .before .before .before .before .before .loop-test .taken) (c .before .before .before .before .before .before .before .before .before .before .before .before .before .before .before .fetch2 .ensures) (c .before .before .before .before .before .before .before .before .before .before .before .before .before .if1 .left) (c .before .before .before .before .before .before .before .before .before .before .before .if3 .left) (c .before .before .before .before .before .before .before .before .before .before .below .ensures) (c .before .before .before .before .before .before .visit .ensures) (c .before .before .before .before .before .before .visit .kept .1 .1 .1 .1 .1 .1 .1 .1 .0) (c .if4 .taken)
+build-items-returns-4 t c = child-stop (c .before .before .before .before .before .before .before .before .before .before .before .before .before .before .before .before .before .before .before .before .before .before .before .before .before .before .before .before .before .before .before .before .before .pre .1 .0) (c .before .before .before .before .before .before .before .before .before .before .before .before .before .before .before .before .before .loop .inv) (c .before .before .before .before .before .before .before .before .before .before .before .before .before .before .before .before .loop-test .taken) (c .before .before .before .before .before .before .before .before .before .before .before .before .before .before .before .fetch2 .ensures) (c .before .before .before .before .before .before .before .before .before .before .before .before .before .if1 .left) (c .before .before .before .before .before .before .before .before .before .before .before .if3 .left) (c .before .before .before .before .before .before .before .before .before .before .below .ensures) (c .before .before .before .before .before .before .visit .ensures) (c .before .before .before .before .before .before .visit .kept .1 .1 .1 .1 .0) (c .if4 .taken)
 
 build-items-after-requires-2 : (t : ℕ) → build-items-lts.Need-after-requires-2 (build-items-claims t) (build-items-at t) build-items.Post build-items-Inv-loop build-items-μ-loop
 build-items-after-requires-2 t c κs = search needs
@@ -299,7 +299,7 @@ build-items-loop-less-2 : (t : ℕ) → build-items-lts.Need-loop-less-2 (build-
 build-items-loop-less-2 t c = omega (arith, c .before .before .before .before .before .before .before .before .before .before .before .before .before .before .before .before .before .before .loop-test .taken)
 
 build-items-loop-again-2 : (t : ℕ) → build-items-lts.Need-loop-again-2 (build-items-claims t) (build-items-at t) build-items.Post build-items-Inv-loop build-items-μ-loop
-build-items-loop-again-2 t c = child-next (c .before .before .before .before .before .before .before .before .before .before .before .before .before .before .before .before .before .before .before .before .before .before .before .before .before .before .before .before .before .before .before .before .before .before .before .pre .1 .0) (c .before .before .before .before .before .before .before .before .before .before .before .before .before .before .before .before .before .before .before .loop .inv) (c .before .before .before .before .before .before .before .before .before .before .before .before .before .before .before .before .before .before .loop-test .taken) (c .before .before .before .before .before .before .before .before .before .before .before .before .before .before .before .before .before .fetch2 .ensures) (c .before .before .before .before .before .before .before .before .before .before .before .before .before .before .before .if1 .left) (c .before .before .before .before .before .before .before .before .before .before .before .before .before .if3 .left) (c .before .before .before .before .before .before .before .before .before .before .before .before .below .ensures) (c .before .before .before .before .before .before .before .before .visit .ensures) (c .before .before .before .before .before .before .before .before .visit .kept .1 .1 .1 .1 .1 .1 .1 .1 .0) (c .before .before .if4 .left) (c .before .before .before .before .before .before .before .before .visit .kept .1 .1 .1 .1 .1 .1 .1 .1 .1 .0) (c .before .after2 .ensures) _ (c .before .before .before .before .before .before .before .before .before .before .before .size-of2 .ensures) _ (c .size-at .ensures .0) (c .size-at .ensures .1)
+build-items-loop-again-2 t c = child-next (c .before .before .before .before .before .before .before .before .before .before .before .before .before .before .before .before .before .before .before .before .before .before .before .before .before .before .before .before .before .before .before .before .before .before .before .pre .1 .0) (c .before .before .before .before .before .before .before .before .before .before .before .before .before .before .before .before .before .before .before .loop .inv) (c .before .before .before .before .before .before .before .before .before .before .before .before .before .before .before .before .before .before .loop-test .taken) (c .before .before .before .before .before .before .before .before .before .before .before .before .before .before .before .before .before .fetch2 .ensures) (c .before .before .before .before .before .before .before .before .before .before .before .before .before .before .before .if1 .left) (c .before .before .before .before .before .before .before .before .before .before .before .before .before .if3 .left) (c .before .before .before .before .before .before .before .before .before .before .before .before .below .ensures) (c .before .before .before .before .before .before .before .before .visit .ensures) (c .before .before .before .before .before .before .before .before .visit .kept .1 .1 .1 .1 .0) (c .before .before .if4 .left) (c .before .before .before .before .before .before .before .before .visit .kept .1 .1 .1 .1 .1 .1 .1 .1 .0) (c .before .after2 .ensures) _ (c .before .before .before .before .before .before .before .before .before .before .before .size-of2 .ensures) _ (c .size-at .ensures .0) (c .size-at .ensures .1)
 
 build-items-going-requires : (t : ℕ) → build-items-lts.Need-going-requires (build-items-claims t) (build-items-at t) build-items.Post build-items-Inv-loop build-items-μ-loop
 build-items-going-requires t c κs = search needs
@@ -338,7 +338,7 @@ expand-body-cast-count : (t : ℕ) → expand-body-lts.Need-cast-count (expand-b
 expand-body-cast-count t c = search needs
 
 expand-body-add-next : (t : ℕ) → expand-body-lts.Need-add-next (expand-body-claims t) (expand-body-at t) expand-body.Post
-expand-body-add-next t c = record { fits = omega (arith, vars-inside (c .before .before .before .before .before .before .before .before .before .before .before .before .before .before .before .before .pre .1 .0), c .before .before .before .before .before .before .before .before .before .before .before .before .before .before .before .before .good .1 .1 .1 .1 .1 .1 .1 .1 .1 .1 .0 .0) }
+expand-body-add-next t c = record { fits = omega (arith, vars-inside (c .before .before .before .before .before .before .before .before .before .before .before .before .before .before .before .before .pre .1 .0), c .before .before .before .before .before .before .before .before .before .before .before .before .before .before .before .before .good .1 .1 .1 .1 .1 .1 .1 .1 .1 .0 .0) }
 
 expand-body-pass-requires : (t : ℕ) → expand-body-lts.Need-pass-requires (expand-body-claims t) (expand-body-at t) expand-body.Post
 expand-body-pass-requires t c κs = (follows (c .before .before .before .before .before .before .before .before .before .before .before .before .before .before .before .before .before .before .pre .1 .0), expand-room (c .before .before .before .before .before .before .before .before .before .before .before .before .before .before .before .before .before .before .pre .1 .0) _ (c .before .before .before .before .before .before .before .before .before .before .before .before .before .before .before .before .before .before .pre .1 .1 .b) (got (c .before .before .before .before .before .before .before .before .head-at .ensures) (c .before .before .before .before .before .before .template .given .1)) _ (c .before .before .before .before .before .before .before .before .before .before .before .before .before .before .before .before .before .before .pre .1 .1 .d), omega (arith, c .before .before .before .before .before .before .before .before .before .before .before .before .before .before .before .before .before .before .pre .1 .0 .visitable .near, count-few (c .before .before .before .before .before .before .before .before .before .before .before .before .before .before .before .before .before .before .pre .1 .0) _ (c .before .before .before .before .before .before .before .before .before .before .before .before .before .before .before .before .before .before .pre .1 .1 .b) (got (c .before .before .before .before .before .before .before .before .head-at .ensures) (c .before .before .before .before .before .before .template .given .1)) _ (c .before .before .before .before .before .before .before .before .before .before .before .before .before .before .before .before .before .before .pre .1 .1 .d)))
@@ -362,19 +362,19 @@ expand-body-visit-requires : (t : ℕ) → expand-body-lts.Need-visit-requires (
 expand-body-visit-requires t c κs = (omega (arith, c .before .before .before .before .before .before .before .before .before .before .before .before .before .before .before .before .before .before .before .before .before .before .before .before .before .before .pre .0, enter-falls (c .before .before .before .before .before .before .before .before .before .before .before .before .before .before .before .before .before .before .before .before .before .before .before .before .before .before .pre .1 .0) _ (c .before .before .before .before .before .before .before .before .before .before .before .before .before .before .before .before .before .before .before .before .before .before .before .before .before .before .pre .1 .1 .b) (got (c .before .before .before .before .before .before .before .before .before .before .before .before .before .before .before .before .head-at .ensures) (c .before .before .before .before .before .before .before .before .before .before .before .before .before .before .template .given .1)) _ (c .before .before .before .before .before .before .before .before .before .before .before .before .before .before .before .before .before .before .before .before .before .before .before .before .before .before .pre .1 .1 .d) (c .before .before .before .before .before .before .before .pass .ensures) (c .before .before .before .before .before .before .before .pass .kept .1 .1 .1 .1 .0) (not-false _ (c .before .before .before .before .if1 .left)) _ (c .before .before .before .before .before .before .before .before .before .before .before .before .body-of .ensures .0) (c .before .before .before .below .ensures) (c .before .before .framed .ensures)), enter-visitable (c .before .before .before .before .before .before .before .before .before .before .before .before .before .before .before .before .before .before .before .before .before .before .before .before .before .before .pre .1 .0) _ (c .before .before .before .before .before .before .before .before .before .before .before .before .before .before .before .before .before .before .before .before .before .before .before .before .before .before .pre .1 .1 .b) (got (c .before .before .before .before .before .before .before .before .before .before .before .before .before .before .before .before .head-at .ensures) (c .before .before .before .before .before .before .before .before .before .before .before .before .before .before .template .given .1)) _ (c .before .before .before .before .before .before .before .before .before .before .before .before .before .before .before .before .before .before .before .before .before .before .before .before .before .before .pre .1 .1 .d) (c .before .before .before .before .before .before .before .pass .ensures) (c .before .before .before .before .before .before .before .pass .kept .1 .1 .1 .1 .0) (not-false _ (c .before .before .before .before .if1 .left)) _ (c .before .before .before .before .before .before .before .before .before .before .before .before .body-of .ensures .0) (c .before .before .before .below .ensures) (c .before .before .framed .ensures) (c .before .before .before .before .before .before .before .before .before .before .before .before .body-of .ensures .1))
 
 expand-body-same-length-2 : (t : ℕ) → expand-body-lts.Need-same-length-2 (expand-body-claims t) (expand-body-at t) expand-body.Post
-expand-body-same-length-2 t c = c .before .before .before .before .visit .kept .1 .1 .1 .1 .1 .1 .1 .1 .0
+expand-body-same-length-2 t c = c .before .before .before .before .visit .kept .1 .1 .1 .1 .0
 
 expand-body-same-length-3 : (t : ℕ) → expand-body-lts.Need-same-length-3 (expand-body-claims t) (expand-body-at t) expand-body.Post
-expand-body-same-length-3 t c = c .before .before .before .before .visit .kept .1 .1 .1 .1 .1 .1 .1 .1 .1 .0 ∙ c .before .before .before .before .before .before .before .before .before .before .before .before .pass .kept .1 .1 .1 .1 .0
+expand-body-same-length-3 t c = c .before .before .before .before .visit .kept .1 .1 .1 .1 .1 .1 .1 .1 .0 ∙ c .before .before .before .before .before .before .before .before .before .before .before .before .pass .kept .1 .1 .1 .1 .0
 
 expand-body-returns-3 : (t : ℕ) → expand-body-lts.Need-returns-3 (expand-body-claims t) (expand-body-at t) expand-body.Post
 expand-body-returns-3 t c = enter-visited (c .before .before .before .before .before .before .before .before .before .before .before .before .before .before .before .before .before .before .before .before .before .before .before .before .before .before .before .before .before .before .before .pre .1 .0) _ (c .before .before .before .before .before .before .before .before .before .before .before .before .before .before .before .before .before .before .before .before .before .before .before .before .before .before .before .before .before .before .before .pre .1 .1 .b) (got (c .before .before .before .before .before .before .before .before .before .before .before .before .before .before .before .before .before .before .before .before .before .head-at .ensures) (c .before .before .before .before .before .before .before .before .before .before .before .before .before .before .before .before .before .before .before .template .given .1)) _ (c .before .before .before .before .before .before .before .before .before .before .before .before .before .before .before .before .before .before .before .before .before .before .before .before .before .before .before .before .before .before .before .pre .1 .1 .d) (c .before .before .before .before .before .before .before .before .before .before .before .before .pass .ensures) (c .before .before .before .before .before .before .before .before .before .before .before .before .pass .kept .1 .1 .1 .1 .0) (not-false _ (c .before .before .before .before .before .before .before .before .before .if1 .left)) _ (c .before .before .before .before .before .before .before .before .before .before .before .before .before .before .before .before .before .body-of .ensures .0) (c .before .before .before .before .before .before .before .before .below .ensures) (c .before .before .before .before .before .before .before .framed .ensures) (c .before .before .before .before .visit .ensures)
 
 abbrev for-items-Inv-loop : for-items-lts.InvT-loop
-for-items-Inv-loop at w count sep before g t v ps ts firsts places out₀ scratch₀ body here₀ done₀ out scratch here done = InFor (sources g t v ps ts firsts places) at out₀ scratch₀ sep before w count out scratch here done
+for-items-Inv-loop at w count sep before g t ps out₀ v firsts places scratch₀ ts body here₀ done₀ out scratch here done = InFor (sources g t v ps ts firsts places) at out₀ scratch₀ sep before w count out scratch here done
 
 abbrev for-items-μ-loop : for-items-lts.MeasureT-loop
-for-items-μ-loop at w count sep before g t v ps ts firsts places out₀ scratch₀ body here₀ done₀ out scratch here done = count - done
+for-items-μ-loop at w count sep before g t ps out₀ v firsts places scratch₀ ts body here₀ done₀ out scratch here done = count - done
 
 for-items-add-body : (t : ℕ) → for-items-lts.Need-add-body (for-items-claims t) (for-items-at t) for-items.Post for-items-Inv-loop for-items-μ-loop
 for-items-add-body t c = record { fits = omega (arith, c .before .before .before .before .before .before .before .before .before .before .pre .1 .0 .visitable .near) }
@@ -428,13 +428,13 @@ for-items-visit-requires : (t : ℕ) → for-items-lts.Need-visit-requires (for-
 for-items-visit-requires t c κs = (omega (arith, c .before .before .before .before .before .before .before .before .before .before .before .before .before .before .before .before .before .before .before .before .before .before .before .pre .0, for-falls (c .before .before .before .before .before .before .before .before .before .before .before .before .before .before .before .before .before .before .before .before .before .before .before .pre .1 .0) (c .before .before .before .before .before .before .before .before .before .before .before .before .before .before .before .before .before .before .before .before .before .before .before .pre .1 .1) (c .before .before .before .before .before .before .before .before .before .before .before .before .loop .inv) (c .before .before .before .before .before .before .before .before .before .before .before .loop-test .taken) (for-items-past t (c .before .before .before .before .before .before .before .before .before) .0) (for-items-past t (c .before .before .before .before .before .before .before .before .before) .1) _ (c .before .before .before .before .before .before .before .before .child-at .ensures) _ (c .before .before .before .before .before .before .bind .ensures) (c .before .before .before .before .before .before .bind .kept .0) (c .before .before .before .below .ensures) (c .before .before .bound .ensures)), for-visitable (c .before .before .before .before .before .before .before .before .before .before .before .before .before .before .before .before .before .before .before .before .before .before .before .pre .1 .0) (c .before .before .before .before .before .before .before .before .before .before .before .before .before .before .before .before .before .before .before .before .before .before .before .pre .1 .1) (c .before .before .before .before .before .before .before .before .before .before .before .before .loop .inv) (c .before .before .before .before .before .before .before .before .before .before .before .loop-test .taken) (for-items-past t (c .before .before .before .before .before .before .before .before .before) .0) (for-items-past t (c .before .before .before .before .before .before .before .before .before) .1) _ (c .before .before .before .before .before .before .before .before .child-at .ensures) _ (c .before .before .before .before .before .before .bind .ensures) (c .before .before .before .before .before .before .bind .kept .0) (c .before .before .before .below .ensures) (c .before .before .bound .ensures))
 
 for-items-same-length-3 : (t : ℕ) → for-items-lts.Need-same-length-3 (for-items-claims t) (for-items-at t) for-items.Post for-items-Inv-loop for-items-μ-loop
-for-items-same-length-3 t c = c .before .before .before .before .before .before .visit .kept .1 .1 .1 .1 .1 .1 .1 .1 .0 ∙ (for-items-past t (c .before .before .before .before .before .before .before .before .before .before .before .before .before .before .before .before) .0) .len ∙ c .before .before .before .before .before .before .before .before .before .before .before .before .before .before .before .before .before .before .before .loop .inv .going .len
+for-items-same-length-3 t c = c .before .before .before .before .before .before .visit .kept .1 .1 .1 .1 .0 ∙ (for-items-past t (c .before .before .before .before .before .before .before .before .before .before .before .before .before .before .before .before) .0) .len ∙ c .before .before .before .before .before .before .before .before .before .before .before .before .before .before .before .before .before .before .before .loop .inv .going .len
 
 for-items-same-length-4 : (t : ℕ) → for-items-lts.Need-same-length-4 (for-items-claims t) (for-items-at t) for-items.Post for-items-Inv-loop for-items-μ-loop
-for-items-same-length-4 t c = c .before .before .before .before .before .before .visit .kept .1 .1 .1 .1 .1 .1 .1 .1 .1 .0 ∙ c .before .before .before .before .before .before .before .before .before .before .before .before .before .bind .kept .0 ∙ c .before .before .before .before .before .before .before .before .before .before .before .before .before .before .before .before .before .before .before .loop .inv .going .lens
+for-items-same-length-4 t c = c .before .before .before .before .before .before .visit .kept .1 .1 .1 .1 .1 .1 .1 .1 .0 ∙ c .before .before .before .before .before .before .before .before .before .before .before .before .before .bind .kept .0 ∙ c .before .before .before .before .before .before .before .before .before .before .before .before .before .before .before .before .before .before .before .loop .inv .going .lens
 
 for-items-returns-2 : (t : ℕ) → for-items-lts.Need-returns-2 (for-items-claims t) (for-items-at t) for-items.Post for-items-Inv-loop for-items-μ-loop
-for-items-returns-2 t c = for-stop (c .before .before .before .before .before .before .before .before .before .before .before .before .before .before .before .before .before .before .before .before .before .before .before .before .before .before .before .before .before .before .pre .1 .0) (c .before .before .before .before .before .before .before .before .before .before .before .before .before .before .before .before .before .before .before .before .before .before .before .before .before .before .before .before .before .before .pre .1 .1) (c .before .before .before .before .before .before .before .before .before .before .before .before .before .before .before .before .before .before .before .loop .inv) (c .before .before .before .before .before .before .before .before .before .before .before .before .before .before .before .before .before .before .loop-test .taken) (for-items-past t (c .before .before .before .before .before .before .before .before .before .before .before .before .before .before .before .before) .0) (for-items-past t (c .before .before .before .before .before .before .before .before .before .before .before .before .before .before .before .before) .1) _ (c .before .before .before .before .before .before .before .before .before .before .before .before .before .before .before .child-at .ensures) _ (c .before .before .before .before .before .before .before .before .before .before .before .before .before .bind .ensures) (c .before .before .before .before .before .before .before .before .before .before .before .before .before .bind .kept .0) (c .before .before .before .before .before .before .before .before .before .before .below .ensures) (c .before .before .before .before .before .before .before .before .before .bound .ensures) (c .before .before .before .before .before .before .visit .ensures) (c .before .before .before .before .before .before .visit .kept .1 .1 .1 .1 .1 .1 .1 .1 .0) (c .if3 .taken)
+for-items-returns-2 t c = for-stop (c .before .before .before .before .before .before .before .before .before .before .before .before .before .before .before .before .before .before .before .before .before .before .before .before .before .before .before .before .before .before .pre .1 .0) (c .before .before .before .before .before .before .before .before .before .before .before .before .before .before .before .before .before .before .before .before .before .before .before .before .before .before .before .before .before .before .pre .1 .1) (c .before .before .before .before .before .before .before .before .before .before .before .before .before .before .before .before .before .before .before .loop .inv) (c .before .before .before .before .before .before .before .before .before .before .before .before .before .before .before .before .before .before .loop-test .taken) (for-items-past t (c .before .before .before .before .before .before .before .before .before .before .before .before .before .before .before .before) .0) (for-items-past t (c .before .before .before .before .before .before .before .before .before .before .before .before .before .before .before .before) .1) _ (c .before .before .before .before .before .before .before .before .before .before .before .before .before .before .before .child-at .ensures) _ (c .before .before .before .before .before .before .before .before .before .before .before .before .before .bind .ensures) (c .before .before .before .before .before .before .before .before .before .before .before .before .before .bind .kept .0) (c .before .before .before .before .before .before .before .before .before .before .below .ensures) (c .before .before .before .before .before .before .before .before .before .bound .ensures) (c .before .before .before .before .before .before .visit .ensures) (c .before .before .before .before .before .before .visit .kept .1 .1 .1 .1 .0) (c .if3 .taken)
 
 for-items-after-requires-2 : (t : ℕ) → for-items-lts.Need-after-requires-2 (for-items-claims t) (for-items-at t) for-items.Post for-items-Inv-loop for-items-μ-loop
 for-items-after-requires-2 t c κs = search needs
@@ -446,7 +446,7 @@ for-items-loop-less : (t : ℕ) → for-items-lts.Need-loop-less (for-items-clai
 for-items-loop-less t c = omega (arith, c .before .before .before .before .before .before .before .before .before .before .before .before .before .before .before .before .before .before .before .loop-test .taken)
 
 for-items-loop-again : (t : ℕ) → for-items-lts.Need-loop-again (for-items-claims t) (for-items-at t) for-items.Post for-items-Inv-loop for-items-μ-loop
-for-items-loop-again t c = for-next (c .before .before .before .before .before .before .before .before .before .before .before .before .before .before .before .before .before .before .before .before .before .before .before .before .before .before .before .before .before .before .before .pre .1 .0) (c .before .before .before .before .before .before .before .before .before .before .before .before .before .before .before .before .before .before .before .before .before .before .before .before .before .before .before .before .before .before .before .pre .1 .1) (c .before .before .before .before .before .before .before .before .before .before .before .before .before .before .before .before .before .before .before .before .loop .inv) (c .before .before .before .before .before .before .before .before .before .before .before .before .before .before .before .before .before .before .before .loop-test .taken) (for-items-past t (c .before .before .before .before .before .before .before .before .before .before .before .before .before .before .before .before .before) .0) (for-items-past t (c .before .before .before .before .before .before .before .before .before .before .before .before .before .before .before .before .before) .1) _ (c .before .before .before .before .before .before .before .before .before .before .before .before .before .before .before .before .child-at .ensures) _ (c .before .before .before .before .before .before .before .before .before .before .before .before .before .before .bind .ensures) (c .before .before .before .before .before .before .before .before .before .before .before .before .before .before .bind .kept .0) (c .before .before .before .before .before .before .before .before .before .before .before .below .ensures) (c .before .before .before .before .before .before .before .before .before .before .bound .ensures) (c .before .before .before .before .before .before .before .visit .ensures) (c .before .before .before .before .before .before .before .visit .kept .1 .1 .1 .1 .1 .1 .1 .1 .0) (c .before .if3 .left) (c .before .before .before .before .before .before .before .visit .kept .1 .1 .1 .1 .1 .1 .1 .1 .1 .0) (c .after2 .ensures)
+for-items-loop-again t c = for-next (c .before .before .before .before .before .before .before .before .before .before .before .before .before .before .before .before .before .before .before .before .before .before .before .before .before .before .before .before .before .before .before .pre .1 .0) (c .before .before .before .before .before .before .before .before .before .before .before .before .before .before .before .before .before .before .before .before .before .before .before .before .before .before .before .before .before .before .before .pre .1 .1) (c .before .before .before .before .before .before .before .before .before .before .before .before .before .before .before .before .before .before .before .before .loop .inv) (c .before .before .before .before .before .before .before .before .before .before .before .before .before .before .before .before .before .before .before .loop-test .taken) (for-items-past t (c .before .before .before .before .before .before .before .before .before .before .before .before .before .before .before .before .before) .0) (for-items-past t (c .before .before .before .before .before .before .before .before .before .before .before .before .before .before .before .before .before) .1) _ (c .before .before .before .before .before .before .before .before .before .before .before .before .before .before .before .before .child-at .ensures) _ (c .before .before .before .before .before .before .before .before .before .before .before .before .before .before .bind .ensures) (c .before .before .before .before .before .before .before .before .before .before .before .before .before .before .bind .kept .0) (c .before .before .before .before .before .before .before .before .before .before .before .below .ensures) (c .before .before .before .before .before .before .before .before .before .before .bound .ensures) (c .before .before .before .before .before .before .before .visit .ensures) (c .before .before .before .before .before .before .before .visit .kept .1 .1 .1 .1 .0) (c .before .if3 .left) (c .before .before .before .before .before .before .before .visit .kept .1 .1 .1 .1 .1 .1 .1 .1 .0) (c .after2 .ensures)
 
 for-items-going-requires : (t : ℕ) → for-items-lts.Need-going-requires (for-items-claims t) (for-items-at t) for-items.Post for-items-Inv-loop for-items-μ-loop
 for-items-going-requires t c κs = search needs
@@ -539,10 +539,10 @@ for-node-turned-requires-5 : (t : ℕ) → for-node-lts.Need-turned-requires-5 (
 for-node-turned-requires-5 t c κs = search needs
 
 for-node-same-length-3 : (t : ℕ) → for-node-lts.Need-same-length-3 (for-node-claims t) (for-node-at t) for-node.Post
-for-node-same-length-3 t c = c .before .before .before .before .before .for-items .kept .1 .1 .1 .1 .1 .1 .1 .1 .1 .1 .1 .1 .0
+for-node-same-length-3 t c = c .before .before .before .before .before .for-items .kept .1 .1 .1 .1 .1 .1 .1 .1 .0
 
 for-node-same-length-4 : (t : ℕ) → for-node-lts.Need-same-length-4 (for-node-claims t) (for-node-at t) for-node.Post
-for-node-same-length-4 t c = c .before .before .before .before .before .for-items .kept .1 .1 .1 .1 .1 .1 .1 .1 .1 .1 .1 .1 .1 .0
+for-node-same-length-4 t c = c .before .before .before .before .before .for-items .kept .1 .1 .1 .1 .1 .1 .1 .1 .1 .1 .1 .1 .0
 
 for-node-returns-5 : (t : ℕ) → for-node-lts.Need-returns-5 (for-node-claims t) (for-node-at t) for-node.Post
 for-node-returns-5 t c = rw (c .turned5 .ensures) (turned-whole _ (c .before .before .before .before .before .before .before .before .before .before .before .before .before .before .before .before .before .before .before .counted .ensures) (form-formed (c .before .before .before .before .before .before .before .before .before .before .before .before .before .before .before .before .before .before .before .before .before .before .before .before .before .before .before .before .before .before .before .pre .1 .0) (leb-false _ _ (sym (c .before .before .before .before .before .before .before .before .before .before .before .before .before .before .before .before .before .before .before .before .before .spent .ensures) ∙ c .before .before .before .before .before .before .before .before .before .before .before .before .before .before .before .before .before .before .before .before .if1 .left)) (c .before .before .before .before .before .before .before .before .before .before .before .before .before .before .before .before .before .before .before .counted .ensures) (c .before .before .before .before .before .before .before .before .before .before .before .before .before .before .before .before .before .if2 .left) (c .before .before .before .before .before .before .before .before .before .before .before .before .before .before .before .before .before .before .before .before .before .before .before .before .before .before .before .before .before .before .before .pre .1 .1)) (list-there _ (got (c .before .before .before .before .before .before .before .before .before .before .before .before .before .before .path-value .ensures .is) (c .before .before .before .before .before .before .before .before .before .before .before .before .w .given .1)) (c .before .before .before .before .before .before .before .before .before .before .before .before .before .before .path-value .ensures .stands _ (got (c .before .before .before .before .before .before .before .before .before .before .before .before .before .before .path-value .ensures .is) (c .before .before .before .before .before .before .before .before .before .before .before .before .w .given .1))) (c .before .before .before .before .before .before .before .before .before .before .fetch .ensures) (c .before .before .before .before .before .before .before .before .if3 .left)) (form-asked (c .before .before .before .before .before .before .before .before .before .before .before .before .before .before .before .before .before .before .before .before .before .before .before .before .before .before .before .before .before .before .before .pre .1 .0) _ (leb-false _ _ (sym (c .before .before .before .before .before .before .before .before .before .before .before .before .before .before .before .before .before .before .before .before .before .spent .ensures) ∙ c .before .before .before .before .before .before .before .before .before .before .before .before .before .before .before .before .before .before .before .before .if1 .left)) (c .before .before .before .before .before .before .before .before .before .before .before .before .before .before .before .before .before .before .before .counted .ensures) (c .before .before .before .before .before .before .before .before .before .before .before .before .before .before .before .before .before .if2 .left) (c .before .before .before .before .before .before .before .before .before .before .before .before .before .before .before .before .before .before .before .before .before .before .before .before .before .before .before .before .before .before .before .pre .1 .1) (c .before .before .before .before .before .for-items .ensures)))
@@ -593,19 +593,19 @@ if-branch-visit-requires : (t : ℕ) → if-branch-lts.Need-visit-requires (if-b
 if-branch-visit-requires t c κs = (omega (arith, c .before .before .before .before .before .before .before .before .before .before .before .before .before .before .before .before .before .before .before .before .before .before .pre .0, falls-there (c .before .before .before .before .before .before .before .before .before .before .before .before .before .before .before .before .before .before .before .before .before .before .args .at) _ _ (c .before .before .below .ensures)), branch-visitable (c .before .before .before .before .before .before .before .before .before .before .before .before .before .before .before .before .before .before .before .before .before .before .pre .1) (c .before .before .below .ensures) (c .before .before .before .before .before .before .fetch .result .a) (c .before .before .before .branch-of .ensures .0) (c .before .before .before .branch-of .ensures .1))
 
 if-branch-same-length-3 : (t : ℕ) → if-branch-lts.Need-same-length-3 (if-branch-claims t) (if-branch-at t) if-branch.Post
-if-branch-same-length-3 t c = c .before .before .before .before .visit .kept .1 .1 .1 .1 .1 .1 .1 .1 .0
+if-branch-same-length-3 t c = c .before .before .before .before .visit .kept .1 .1 .1 .1 .0
 
 if-branch-same-length-4 : (t : ℕ) → if-branch-lts.Need-same-length-4 (if-branch-claims t) (if-branch-at t) if-branch.Post
-if-branch-same-length-4 t c = c .before .before .before .before .visit .kept .1 .1 .1 .1 .1 .1 .1 .1 .1 .0
+if-branch-same-length-4 t c = c .before .before .before .before .visit .kept .1 .1 .1 .1 .1 .1 .1 .1 .0
 
 if-branch-returns-3 : (t : ℕ) → if-branch-lts.Need-returns-3 (if-branch-claims t) (if-branch-at t) if-branch.Post
 if-branch-returns-3 t c = branch-visited (c .before .before .before .before .before .before .before .before .before .before .before .before .before .before .before .before .before .before .before .before .before .before .before .before .before .before .before .pre .1) (c .before .before .before .before .before .before .before .below .ensures) (if-is _ _ _ _ _ _ _ _ _ _ _ (got (c .before .before .before .before .before .before .before .before .before .before .before .before .before .before .before .path-value .ensures .is) (c .before .before .before .before .before .before .before .before .before .before .before .before .before .w .given .1)) _ (c .before .before .before .before .before .before .before .before .before .before .before .fetch .ensures .kind) (c .before .before .before .before .before .before .before .before .before .if1 .left) _ _ (c .before .before .before .before .before .before .before .before .before .before .before .fetch .ensures .a) (c .before .before .before .before .before .before .before .before .branch-of .ensures .0)) (c .before .before .before .before .visit .ensures)
 
 abbrev sequence-items-Inv-loop : sequence-items-lts.InvT-loop
-sequence-items-Inv-loop at g t v ps ts firsts places out₀ scratch₀ sep count item₀ n₀ r₀ visited₀ out scratch item n r visited = InSequence (sources g t v ps ts firsts places) at out₀ scratch₀ sep count out scratch item n r visited
+sequence-items-Inv-loop at g t ps out₀ v firsts places scratch₀ ts sep count item₀ n₀ r₀ visited₀ out scratch item n r visited = InSequence (sources g t v ps ts firsts places) at out₀ scratch₀ sep count out scratch item n r visited
 
 abbrev sequence-items-μ-loop : sequence-items-lts.MeasureT-loop
-sequence-items-μ-loop at g t v ps ts firsts places out₀ scratch₀ sep count item₀ n₀ r₀ visited₀ out scratch item n r visited = count - visited
+sequence-items-μ-loop at g t ps out₀ v firsts places scratch₀ ts sep count item₀ n₀ r₀ visited₀ out scratch item n r visited = count - visited
 
 sequence-items-fetch-requires : (t : ℕ) → sequence-items-lts.Need-fetch-requires (sequence-items-claims t) (sequence-items-at t) sequence-items.Post sequence-items-Inv-loop sequence-items-μ-loop
 sequence-items-fetch-requires t c κs = c .before .before .before .before .before .before .before .before .before .pre .1 .0 .visitable .lent .grammar-sized
@@ -656,19 +656,19 @@ sequence-items-for-node-requires : (t : ℕ) → sequence-items-lts.Need-for-nod
 sequence-items-for-node-requires t c κs = (omega (arith, c .before .before .before .before .before .before .before .before .before .before .before .before .before .before .before .before .before .before .before .before .before .before .before .before .before .pre .0, below-falls (c .before .before .before .before .before .before .before .before .before .before .before .before .before .before .before .before .before .before .before .before .before .before .before .before .before .pre .1 .0) (c .before .before .before .before .before .before .before .before .before .loop .inv .going) (c .before .before .before .before .after .ensures) (c .before .before .before .below .ensures)), (turns-visitable (c .before .before .before .before .before .before .before .before .before .before .before .before .before .before .before .before .before .before .before .before .before .before .before .before .before .pre .1 .0) (c .before .before .before .before .before .before .before .before .before .loop .inv) (c .before .before .before .before .before .before .before .before .loop-test .taken) (c .before .before .before .before .before .before .before .fetch2 .ensures) (eqb-true _ _ (sym (c .before .before .before .before .before .before .is-for .ensures) ∙ c .before .before .before .before .before .if2 .taken)) (c .before .before .before .before .after .ensures) (c .before .before .before .below .ensures), turns-for (c .before .before .before .before .before .before .before .before .before .before .before .before .before .before .before .before .before .before .before .before .before .before .before .before .before .pre .1 .0) (c .before .before .before .before .before .before .before .before .before .loop .inv) (c .before .before .before .before .before .before .before .before .loop-test .taken) (c .before .before .before .before .before .before .before .fetch2 .ensures) (eqb-true _ _ (sym (c .before .before .before .before .before .before .is-for .ensures) ∙ c .before .before .before .before .before .if2 .taken)) (c .before .before .before .before .after .ensures) (c .before .before .before .below .ensures), items-few (c .before .before .before .before .before .before .before .before .before .before .before .before .before .before .before .before .before .before .before .before .before .before .before .before .before .pre .1 .0) (c .before .before .before .before .before .before .before .before .before .loop .inv) (c .before .before .before .before .before .before .before .before .loop-test .taken)))
 
 sequence-items-same-length : (t : ℕ) → sequence-items-lts.Need-same-length (sequence-items-claims t) (sequence-items-at t) sequence-items.Post sequence-items-Inv-loop sequence-items-μ-loop
-sequence-items-same-length t c = c .before .before .before .before .before .before .before .for-node .kept .1 .1 .1 .1 .1 .1 .1 .1 .1 .1 .0 ∙ c .before .before .before .before .before .before .before .before .before .before .before .before .before .before .before .before .before .loop .inv .going .len
+sequence-items-same-length t c = c .before .before .before .before .before .before .before .for-node .kept .1 .1 .1 .1 .1 .1 .0 ∙ c .before .before .before .before .before .before .before .before .before .before .before .before .before .before .before .before .before .loop .inv .going .len
 
 sequence-items-same-length-2 : (t : ℕ) → sequence-items-lts.Need-same-length-2 (sequence-items-claims t) (sequence-items-at t) sequence-items.Post sequence-items-Inv-loop sequence-items-μ-loop
-sequence-items-same-length-2 t c = c .before .before .before .before .before .before .before .for-node .kept .1 .1 .1 .1 .1 .1 .1 .1 .1 .1 .1 .0 ∙ c .before .before .before .before .before .before .before .before .before .before .before .before .before .before .before .before .before .loop .inv .going .lens
+sequence-items-same-length-2 t c = c .before .before .before .before .before .before .before .for-node .kept .1 .1 .1 .1 .1 .1 .1 .1 .1 .1 .0 ∙ c .before .before .before .before .before .before .before .before .before .before .before .before .before .before .before .before .before .loop .inv .going .lens
 
 sequence-items-returns-2 : (t : ℕ) → sequence-items-lts.Need-returns-2 (sequence-items-claims t) (sequence-items-at t) sequence-items.Post sequence-items-Inv-loop sequence-items-μ-loop
-sequence-items-returns-2 t c = turns-stop (c .before .before .before .before .before .before .before .before .before .before .before .before .before .before .before .before .before .before .before .before .before .before .before .before .before .before .before .before .before .before .before .before .before .pre .1 .0) (c .before .before .before .before .before .before .before .before .before .before .before .before .before .before .before .before .before .loop .inv) (c .before .before .before .before .before .before .before .before .before .before .before .before .before .before .before .before .loop-test .taken) (c .before .before .before .before .before .before .before .before .before .before .before .before .before .before .before .fetch2 .ensures) (eqb-true _ _ (sym (c .before .before .before .before .before .before .before .before .before .before .before .before .before .before .is-for .ensures) ∙ c .before .before .before .before .before .before .before .before .before .before .before .before .before .if2 .taken)) (c .before .before .before .before .before .before .before .before .before .before .before .before .after .ensures) (c .before .before .before .before .before .before .before .before .before .before .before .below .ensures) (c .before .before .before .before .before .before .before .for-node .ensures) (c .before .before .before .before .before .before .before .for-node .kept .1 .1 .1 .1 .1 .1 .1 .1 .1 .1 .0) (c .if3 .taken)
+sequence-items-returns-2 t c = turns-stop (c .before .before .before .before .before .before .before .before .before .before .before .before .before .before .before .before .before .before .before .before .before .before .before .before .before .before .before .before .before .before .before .before .before .pre .1 .0) (c .before .before .before .before .before .before .before .before .before .before .before .before .before .before .before .before .before .loop .inv) (c .before .before .before .before .before .before .before .before .before .before .before .before .before .before .before .before .loop-test .taken) (c .before .before .before .before .before .before .before .before .before .before .before .before .before .before .before .fetch2 .ensures) (eqb-true _ _ (sym (c .before .before .before .before .before .before .before .before .before .before .before .before .before .before .is-for .ensures) ∙ c .before .before .before .before .before .before .before .before .before .before .before .before .before .if2 .taken)) (c .before .before .before .before .before .before .before .before .before .before .before .before .after .ensures) (c .before .before .before .before .before .before .before .before .before .before .before .below .ensures) (c .before .before .before .before .before .before .before .for-node .ensures) (c .before .before .before .before .before .before .before .for-node .kept .1 .1 .1 .1 .1 .1 .0) (c .if3 .taken)
 
 sequence-items-loop-less : (t : ℕ) → sequence-items-lts.Need-loop-less (sequence-items-claims t) (sequence-items-at t) sequence-items.Post sequence-items-Inv-loop sequence-items-μ-loop
 sequence-items-loop-less t c = omega (arith, c .before .before .before .before .before .before .before .before .before .before .before .before .before .before .before .before .loop-test .taken)
 
 sequence-items-loop-again : (t : ℕ) → sequence-items-lts.Need-loop-again (sequence-items-claims t) (sequence-items-at t) sequence-items.Post sequence-items-Inv-loop sequence-items-μ-loop
-sequence-items-loop-again t c = rw (c .before .before .before .before .before .before .before .before .before .before .size-in .ensures .0) (turns-next (c .before .before .before .before .before .before .before .before .before .before .before .before .before .before .before .before .before .before .before .before .before .before .before .before .before .before .before .before .before .before .before .before .before .pre .1 .0) (c .before .before .before .before .before .before .before .before .before .before .before .before .before .before .before .before .before .loop .inv) (c .before .before .before .before .before .before .before .before .before .before .before .before .before .before .before .before .loop-test .taken) (c .before .before .before .before .before .before .before .before .before .before .before .before .before .before .before .fetch2 .ensures) (eqb-true _ _ (sym (c .before .before .before .before .before .before .before .before .before .before .before .before .before .before .is-for .ensures) ∙ c .before .before .before .before .before .before .before .before .before .before .before .before .before .if2 .taken)) (c .before .before .before .before .before .before .before .before .before .before .before .before .after .ensures) (c .before .before .before .before .before .before .before .before .before .before .before .below .ensures) (c .before .before .before .before .before .before .before .for-node .ensures) (c .before .before .before .before .before .before .before .for-node .kept .1 .1 .1 .1 .1 .1 .1 .1 .1 .1 .0) (c .if3 .left) (c .before .before .before .before .before .before .before .for-node .kept .1 .1 .1 .1 .1 .1 .1 .1 .1 .1 .1 .0))
+sequence-items-loop-again t c = rw (c .before .before .before .before .before .before .before .before .before .before .size-in .ensures .0) (turns-next (c .before .before .before .before .before .before .before .before .before .before .before .before .before .before .before .before .before .before .before .before .before .before .before .before .before .before .before .before .before .before .before .before .before .pre .1 .0) (c .before .before .before .before .before .before .before .before .before .before .before .before .before .before .before .before .before .loop .inv) (c .before .before .before .before .before .before .before .before .before .before .before .before .before .before .before .before .loop-test .taken) (c .before .before .before .before .before .before .before .before .before .before .before .before .before .before .before .fetch2 .ensures) (eqb-true _ _ (sym (c .before .before .before .before .before .before .before .before .before .before .before .before .before .before .is-for .ensures) ∙ c .before .before .before .before .before .before .before .before .before .before .before .before .before .if2 .taken)) (c .before .before .before .before .before .before .before .before .before .before .before .before .after .ensures) (c .before .before .before .before .before .before .before .before .before .before .before .below .ensures) (c .before .before .before .before .before .before .before .for-node .ensures) (c .before .before .before .before .before .before .before .for-node .kept .1 .1 .1 .1 .1 .1 .0) (c .if3 .left) (c .before .before .before .before .before .before .before .for-node .kept .1 .1 .1 .1 .1 .1 .1 .1 .1 .1 .0))
 
 sequence-items-is-due-requires : (t : ℕ) → sequence-items-lts.Need-is-due-requires (sequence-items-claims t) (sequence-items-at t) sequence-items.Post sequence-items-Inv-loop sequence-items-μ-loop
 sequence-items-is-due-requires t c κs = search needs
@@ -713,19 +713,19 @@ sequence-items-visit-requires : (t : ℕ) → sequence-items-lts.Need-visit-requ
 sequence-items-visit-requires t c κs = (omega (arith, c .before .before .before .before .before .before .before .before .before .before .before .before .before .before .before .before .before .before .before .before .before .before .before .before .before .before .before .pre .0, item-falls (c .before .before .before .before .before .before .before .before .before .before .before .before .before .before .before .before .before .before .before .before .before .before .before .before .before .before .before .pre .1 .0) (c .before .before .before .before .before .before .before .before .before .before .before .loop .inv) (c .before .before .before .before .before .before .before .before .before .before .loop-test .taken) (c .before .before .before .before .before .before .before .before .before .fetch2 .ensures) (eqb-false _ _ (sym (c .before .before .before .before .before .before .before .before .is-for .ensures) ∙ c .before .before .before .before .before .before .before .if2 .left)) (sequence-items-apart t (c .before .before .before .before .before)) (c .before .before .before .before .after3 .ensures) (c .before .before .before .below2 .ensures)), item-visitable (c .before .before .before .before .before .before .before .before .before .before .before .before .before .before .before .before .before .before .before .before .before .before .before .before .before .before .before .pre .1 .0) (c .before .before .before .before .before .before .before .before .before .before .before .loop .inv) (c .before .before .before .before .before .before .before .before .before .before .loop-test .taken) (c .before .before .before .before .before .before .before .before .before .fetch2 .ensures) (eqb-false _ _ (sym (c .before .before .before .before .before .before .before .before .is-for .ensures) ∙ c .before .before .before .before .before .before .before .if2 .left)) (sequence-items-apart t (c .before .before .before .before .before)) (c .before .before .before .before .after3 .ensures) (c .before .before .before .below2 .ensures))
 
 sequence-items-same-length-5 : (t : ℕ) → sequence-items-lts.Need-same-length-5 (sequence-items-claims t) (sequence-items-at t) sequence-items.Post sequence-items-Inv-loop sequence-items-μ-loop
-sequence-items-same-length-5 t c = c .before .before .before .before .before .before .visit .kept .1 .1 .1 .1 .1 .1 .1 .1 .0 ∙ (sequence-items-apart t (c .before .before .before .before .before .before .before .before .before .before .before .before)) .len ∙ c .before .before .before .before .before .before .before .before .before .before .before .before .before .before .before .before .before .before .loop .inv .going .len
+sequence-items-same-length-5 t c = c .before .before .before .before .before .before .visit .kept .1 .1 .1 .1 .0 ∙ (sequence-items-apart t (c .before .before .before .before .before .before .before .before .before .before .before .before)) .len ∙ c .before .before .before .before .before .before .before .before .before .before .before .before .before .before .before .before .before .before .loop .inv .going .len
 
 sequence-items-same-length-6 : (t : ℕ) → sequence-items-lts.Need-same-length-6 (sequence-items-claims t) (sequence-items-at t) sequence-items.Post sequence-items-Inv-loop sequence-items-μ-loop
-sequence-items-same-length-6 t c = c .before .before .before .before .before .before .visit .kept .1 .1 .1 .1 .1 .1 .1 .1 .1 .0 ∙ c .before .before .before .before .before .before .before .before .before .before .before .before .before .before .before .before .before .before .loop .inv .going .lens
+sequence-items-same-length-6 t c = c .before .before .before .before .before .before .visit .kept .1 .1 .1 .1 .1 .1 .1 .1 .0 ∙ c .before .before .before .before .before .before .before .before .before .before .before .before .before .before .before .before .before .before .loop .inv .going .lens
 
 sequence-items-returns-4 : (t : ℕ) → sequence-items-lts.Need-returns-4 (sequence-items-claims t) (sequence-items-at t) sequence-items.Post sequence-items-Inv-loop sequence-items-μ-loop
-sequence-items-returns-4 t c = item-stop (c .before .before .before .before .before .before .before .before .before .before .before .before .before .before .before .before .before .before .before .before .before .before .before .before .before .before .before .before .before .before .before .before .before .before .pre .1 .0) (c .before .before .before .before .before .before .before .before .before .before .before .before .before .before .before .before .before .before .loop .inv) (c .before .before .before .before .before .before .before .before .before .before .before .before .before .before .before .before .before .loop-test .taken) (c .before .before .before .before .before .before .before .before .before .before .before .before .before .before .before .before .fetch2 .ensures) (eqb-false _ _ (sym (c .before .before .before .before .before .before .before .before .before .before .before .before .before .before .before .is-for .ensures) ∙ c .before .before .before .before .before .before .before .before .before .before .before .before .before .before .if2 .left)) (sequence-items-apart t (c .before .before .before .before .before .before .before .before .before .before .before .before)) (c .before .before .before .before .before .before .before .before .before .before .before .after3 .ensures) (c .before .before .before .before .before .before .before .before .before .before .below2 .ensures) (c .before .before .before .before .before .before .visit .ensures) (c .before .before .before .before .before .before .visit .kept .1 .1 .1 .1 .1 .1 .1 .1 .0) (c .if6 .taken)
+sequence-items-returns-4 t c = item-stop (c .before .before .before .before .before .before .before .before .before .before .before .before .before .before .before .before .before .before .before .before .before .before .before .before .before .before .before .before .before .before .before .before .before .before .pre .1 .0) (c .before .before .before .before .before .before .before .before .before .before .before .before .before .before .before .before .before .before .loop .inv) (c .before .before .before .before .before .before .before .before .before .before .before .before .before .before .before .before .before .loop-test .taken) (c .before .before .before .before .before .before .before .before .before .before .before .before .before .before .before .before .fetch2 .ensures) (eqb-false _ _ (sym (c .before .before .before .before .before .before .before .before .before .before .before .before .before .before .before .is-for .ensures) ∙ c .before .before .before .before .before .before .before .before .before .before .before .before .before .before .if2 .left)) (sequence-items-apart t (c .before .before .before .before .before .before .before .before .before .before .before .before)) (c .before .before .before .before .before .before .before .before .before .before .before .after3 .ensures) (c .before .before .before .before .before .before .before .before .before .before .below2 .ensures) (c .before .before .before .before .before .before .visit .ensures) (c .before .before .before .before .before .before .visit .kept .1 .1 .1 .1 .0) (c .if6 .taken)
 
 sequence-items-loop-less-2 : (t : ℕ) → sequence-items-lts.Need-loop-less-2 (sequence-items-claims t) (sequence-items-at t) sequence-items.Post sequence-items-Inv-loop sequence-items-μ-loop
 sequence-items-loop-less-2 t c = omega (arith, c .before .before .before .before .before .before .before .before .before .before .before .before .before .before .before .before .before .loop-test .taken)
 
 sequence-items-loop-again-2 : (t : ℕ) → sequence-items-lts.Need-loop-again-2 (sequence-items-claims t) (sequence-items-at t) sequence-items.Post sequence-items-Inv-loop sequence-items-μ-loop
-sequence-items-loop-again-2 t c = rw (c .before .before .before .before .before .before .before .before .before .size-in2 .ensures .0) (item-next (c .before .before .before .before .before .before .before .before .before .before .before .before .before .before .before .before .before .before .before .before .before .before .before .before .before .before .before .before .before .before .before .before .before .before .pre .1 .0) (c .before .before .before .before .before .before .before .before .before .before .before .before .before .before .before .before .before .before .loop .inv) (c .before .before .before .before .before .before .before .before .before .before .before .before .before .before .before .before .before .loop-test .taken) (c .before .before .before .before .before .before .before .before .before .before .before .before .before .before .before .before .fetch2 .ensures) (eqb-false _ _ (sym (c .before .before .before .before .before .before .before .before .before .before .before .before .before .before .before .is-for .ensures) ∙ c .before .before .before .before .before .before .before .before .before .before .before .before .before .before .if2 .left)) (sequence-items-apart t (c .before .before .before .before .before .before .before .before .before .before .before .before)) (c .before .before .before .before .before .before .before .before .before .before .before .after3 .ensures) (c .before .before .before .before .before .before .before .before .before .before .below2 .ensures) (c .before .before .before .before .before .before .visit .ensures) (c .before .before .before .before .before .before .visit .kept .1 .1 .1 .1 .1 .1 .1 .1 .0) (c .if6 .left) (c .before .before .before .before .before .before .visit .kept .1 .1 .1 .1 .1 .1 .1 .1 .1 .0))
+sequence-items-loop-again-2 t c = rw (c .before .before .before .before .before .before .before .before .before .size-in2 .ensures .0) (item-next (c .before .before .before .before .before .before .before .before .before .before .before .before .before .before .before .before .before .before .before .before .before .before .before .before .before .before .before .before .before .before .before .before .before .before .pre .1 .0) (c .before .before .before .before .before .before .before .before .before .before .before .before .before .before .before .before .before .before .loop .inv) (c .before .before .before .before .before .before .before .before .before .before .before .before .before .before .before .before .before .loop-test .taken) (c .before .before .before .before .before .before .before .before .before .before .before .before .before .before .before .before .fetch2 .ensures) (eqb-false _ _ (sym (c .before .before .before .before .before .before .before .before .before .before .before .before .before .before .before .is-for .ensures) ∙ c .before .before .before .before .before .before .before .before .before .before .before .before .before .before .if2 .left)) (sequence-items-apart t (c .before .before .before .before .before .before .before .before .before .before .before .before)) (c .before .before .before .before .before .before .before .before .before .before .before .after3 .ensures) (c .before .before .before .before .before .before .before .before .before .before .below2 .ensures) (c .before .before .before .before .before .before .visit .ensures) (c .before .before .before .before .before .before .visit .kept .1 .1 .1 .1 .0) (c .if6 .left) (c .before .before .before .before .before .before .visit .kept .1 .1 .1 .1 .1 .1 .1 .1 .0))
 
 sequence-items-same-length-7 : (t : ℕ) → sequence-items-lts.Need-same-length-7 (sequence-items-claims t) (sequence-items-at t) sequence-items.Post sequence-items-Inv-loop sequence-items-μ-loop
 sequence-items-same-length-7 t c = c .before .loop .inv .going .len
@@ -809,10 +809,10 @@ visit-stuck-requires-2 : (t : ℕ) → visit-lts.Need-stuck-requires-2 (visit-cl
 visit-stuck-requires-2 t c κs = search needs
 
 visit-same-length : (t : ℕ) → visit-lts.Need-same-length (visit-claims t) (visit-at t) visit.Post
-visit-same-length t c = c .before .before .before .before .build-items .kept .1 .1 .1 .1 .1 .1 .1 .1 .1 .0
+visit-same-length t c = c .before .before .before .before .build-items .kept .1 .1 .1 .1 .1 .0
 
 visit-same-length-2 : (t : ℕ) → visit-lts.Need-same-length-2 (visit-claims t) (visit-at t) visit.Post
-visit-same-length-2 t c = c .before .before .before .before .build-items .kept .1 .1 .1 .1 .1 .1 .1 .1 .1 .1 .0
+visit-same-length-2 t c = c .before .before .before .before .build-items .kept .1 .1 .1 .1 .1 .1 .1 .1 .1 .0
 
 visit-returns-3 : (t : ℕ) → visit-lts.Need-returns-3 (visit-claims t) (visit-at t) visit.Post
 visit-returns-3 t c = form-visited (c .before .before .before .before .before .before .before .before .before .before .before .before .before .before .before .before .before .before .before .before .before .before .before .before .before .pre .1) (leb-false _ _ (sym (c .before .before .before .before .before .before .before .before .before .before .before .before .before .before .before .spent .ensures) ∙ c .before .before .before .before .before .before .before .before .before .before .before .before .before .before .if1 .left)) (c .before .before .before .before .before .before .before .before .before .before .before .before .before .counted .ensures) (c .before .before .before .before .before .before .before .before .before .before .before .if2 .left) (form-here (c .before .before .before .before .before .before .before .before .before .before .before .before .before .before .before .before .before .before .before .before .before .before .before .before .before .pre .1) (leb-false _ _ (sym (c .before .before .before .before .before .before .before .before .before .before .before .before .before .before .before .spent .ensures) ∙ c .before .before .before .before .before .before .before .before .before .before .before .before .before .before .if1 .left)) (c .before .before .before .before .before .before .before .before .before .before .before .before .before .counted .ensures) (c .before .before .before .before .before .before .before .before .before .before .fetch .ensures) _ (c .before .before .before .before .before .before .before .before .before .form-of .ensures) ∙ c .before .before .before .before .before .before .before .enum-told .given .1) (c .before .before .before .before .build-items .ensures)
@@ -833,19 +833,19 @@ visit-returns-5 : (t : ℕ) → visit-lts.Need-returns-5 (visit-claims t) (visit
 visit-returns-5 t c = form-ran (c .before .before .before .before .before .before .before .before .before .before .before .before .before .before .before .before .before .before .before .before .before .before .before .pre .1) (leb-false _ _ (sym (c .before .before .before .before .before .before .before .before .before .before .before .before .before .spent .ensures) ∙ c .before .before .before .before .before .before .before .before .before .before .before .before .if1 .left)) (c .before .before .before .before .before .before .before .before .before .before .before .counted .ensures) (c .before .before .before .before .before .before .before .before .before .if2 .left) (form-here (c .before .before .before .before .before .before .before .before .before .before .before .before .before .before .before .before .before .before .before .before .before .before .before .pre .1) (leb-false _ _ (sym (c .before .before .before .before .before .before .before .before .before .before .before .before .before .spent .ensures) ∙ c .before .before .before .before .before .before .before .before .before .before .before .before .if1 .left)) (c .before .before .before .before .before .before .before .before .before .before .before .counted .ensures) (c .before .before .before .before .before .before .before .before .fetch .ensures) _ (c .before .before .before .before .before .before .before .form-of .ensures) ∙ c .before .before .before .before .before .enum-told3 .given .1) (place-is _ _ _ _ _ _) (c .before .before .place .ensures)
 
 visit-same-length-6 : (t : ℕ) → visit-lts.Need-same-length-6 (visit-claims t) (visit-at t) visit.Post
-visit-same-length-6 t c = c .before .before .before .before .expand-body .kept .1 .1 .1 .1 .1 .1 .1 .1 .1 .0
+visit-same-length-6 t c = c .before .before .before .before .expand-body .kept .1 .1 .1 .1 .1 .0
 
 visit-same-length-7 : (t : ℕ) → visit-lts.Need-same-length-7 (visit-claims t) (visit-at t) visit.Post
-visit-same-length-7 t c = c .before .before .before .before .expand-body .kept .1 .1 .1 .1 .1 .1 .1 .1 .1 .1 .0
+visit-same-length-7 t c = c .before .before .before .before .expand-body .kept .1 .1 .1 .1 .1 .1 .1 .1 .1 .0
 
 visit-returns-6 : (t : ℕ) → visit-lts.Need-returns-6 (visit-claims t) (visit-at t) visit.Post
 visit-returns-6 t c = form-visited (c .before .before .before .before .before .before .before .before .before .before .before .before .before .before .before .before .before .before .before .before .before .before .before .before .before .pre .1) (leb-false _ _ (sym (c .before .before .before .before .before .before .before .before .before .before .before .before .before .before .before .spent .ensures) ∙ c .before .before .before .before .before .before .before .before .before .before .before .before .before .before .if1 .left)) (c .before .before .before .before .before .before .before .before .before .before .before .before .before .counted .ensures) (c .before .before .before .before .before .before .before .before .before .before .before .if2 .left) (form-here (c .before .before .before .before .before .before .before .before .before .before .before .before .before .before .before .before .before .before .before .before .before .before .before .before .before .pre .1) (leb-false _ _ (sym (c .before .before .before .before .before .before .before .before .before .before .before .before .before .before .before .spent .ensures) ∙ c .before .before .before .before .before .before .before .before .before .before .before .before .before .before .if1 .left)) (c .before .before .before .before .before .before .before .before .before .before .before .before .before .counted .ensures) (c .before .before .before .before .before .before .before .before .before .before .fetch .ensures) _ (c .before .before .before .before .before .before .before .before .before .form-of .ensures) ∙ c .before .before .before .before .before .before .before .enum-told4 .given .1) (c .before .before .before .before .expand-body .ensures)
 
 visit-same-length-8 : (t : ℕ) → visit-lts.Need-same-length-8 (visit-claims t) (visit-at t) visit.Post
-visit-same-length-8 t c = c .before .before .before .before .if-branch .kept .1 .1 .1 .1 .1 .1 .1 .1 .0
+visit-same-length-8 t c = c .before .before .before .before .if-branch .kept .1 .1 .1 .1 .0
 
 visit-same-length-9 : (t : ℕ) → visit-lts.Need-same-length-9 (visit-claims t) (visit-at t) visit.Post
-visit-same-length-9 t c = c .before .before .before .before .if-branch .kept .1 .1 .1 .1 .1 .1 .1 .1 .1 .0
+visit-same-length-9 t c = c .before .before .before .before .if-branch .kept .1 .1 .1 .1 .1 .1 .1 .1 .0
 
 visit-returns-7 : (t : ℕ) → visit-lts.Need-returns-7 (visit-claims t) (visit-at t) visit.Post
 visit-returns-7 t c = form-visited (c .before .before .before .before .before .before .before .before .before .before .before .before .before .before .before .before .before .before .before .before .before .before .before .before .before .pre .1) (leb-false _ _ (sym (c .before .before .before .before .before .before .before .before .before .before .before .before .before .before .before .spent .ensures) ∙ c .before .before .before .before .before .before .before .before .before .before .before .before .before .before .if1 .left)) (c .before .before .before .before .before .before .before .before .before .before .before .before .before .counted .ensures) (c .before .before .before .before .before .before .before .before .before .before .before .if2 .left) (form-here (c .before .before .before .before .before .before .before .before .before .before .before .before .before .before .before .before .before .before .before .before .before .before .before .before .before .pre .1) (leb-false _ _ (sym (c .before .before .before .before .before .before .before .before .before .before .before .before .before .before .before .spent .ensures) ∙ c .before .before .before .before .before .before .before .before .before .before .before .before .before .before .if1 .left)) (c .before .before .before .before .before .before .before .before .before .before .before .before .before .counted .ensures) (c .before .before .before .before .before .before .before .before .before .before .fetch .ensures) _ (c .before .before .before .before .before .before .before .before .before .form-of .ensures) ∙ c .before .before .before .before .before .before .before .enum-told5 .given .1) (c .before .before .before .before .if-branch .ensures)
@@ -854,10 +854,10 @@ visit-returns-8 : (t : ℕ) → visit-lts.Need-returns-8 (visit-claims t) (visit
 visit-returns-8 t c = form-visited (c .before .before .before .before .before .before .before .before .before .before .before .before .before .before .before .before .before .before .before .pre .1) (leb-false _ _ (sym (c .before .before .before .before .before .before .before .before .before .spent .ensures) ∙ c .before .before .before .before .before .before .before .before .if1 .left)) (c .before .before .before .before .before .before .before .counted .ensures) (c .before .before .before .before .before .if2 .left) (form-here (c .before .before .before .before .before .before .before .before .before .before .before .before .before .before .before .before .before .before .before .pre .1) (leb-false _ _ (sym (c .before .before .before .before .before .before .before .before .before .spent .ensures) ∙ c .before .before .before .before .before .before .before .before .if1 .left)) (c .before .before .before .before .before .before .before .counted .ensures) (c .before .before .before .before .fetch .ensures) _ (c .before .before .before .form-of .ensures) ∙ c .before .enum-told6 .given .1) (visited-stuck (c .before .before .before .before .before .before .before .counted .result) (form-formed (c .before .before .before .before .before .before .before .before .before .before .before .before .before .before .before .before .before .before .before .pre .1) (leb-false _ _ (sym (c .before .before .before .before .before .before .before .before .before .spent .ensures) ∙ c .before .before .before .before .before .before .before .before .if1 .left)) (c .before .before .before .before .before .before .before .counted .ensures) (c .before .before .before .before .before .if2 .left) (form-here (c .before .before .before .before .before .before .before .before .before .before .before .before .before .before .before .before .before .before .before .pre .1) (leb-false _ _ (sym (c .before .before .before .before .before .before .before .before .before .spent .ensures) ∙ c .before .before .before .before .before .before .before .before .if1 .left)) (c .before .before .before .before .before .before .before .counted .ensures) (c .before .before .before .before .fetch .ensures) _ (c .before .before .before .form-of .ensures) ∙ c .before .enum-told6 .given .1) .visitable .room) (c .stuck .ensures) (for-piece _ _ _ _ _ _ _ _ _ _))
 
 visit-same-length-10 : (t : ℕ) → visit-lts.Need-same-length-10 (visit-claims t) (visit-at t) visit.Post
-visit-same-length-10 t c = c .before .before .before .before .sequence-items .kept .1 .1 .1 .1 .1 .1 .1 .1 .1 .0
+visit-same-length-10 t c = c .before .before .before .before .sequence-items .kept .1 .1 .1 .1 .1 .0
 
 visit-same-length-11 : (t : ℕ) → visit-lts.Need-same-length-11 (visit-claims t) (visit-at t) visit.Post
-visit-same-length-11 t c = c .before .before .before .before .sequence-items .kept .1 .1 .1 .1 .1 .1 .1 .1 .1 .1 .0
+visit-same-length-11 t c = c .before .before .before .before .sequence-items .kept .1 .1 .1 .1 .1 .1 .1 .1 .1 .0
 
 visit-returns-9 : (t : ℕ) → visit-lts.Need-returns-9 (visit-claims t) (visit-at t) visit.Post
 visit-returns-9 t c = form-visited (c .before .before .before .before .before .before .before .before .before .before .before .before .before .before .before .before .before .before .before .before .before .before .before .before .before .pre .1) (leb-false _ _ (sym (c .before .before .before .before .before .before .before .before .before .before .before .before .before .before .before .spent .ensures) ∙ c .before .before .before .before .before .before .before .before .before .before .before .before .before .before .if1 .left)) (c .before .before .before .before .before .before .before .before .before .before .before .before .before .counted .ensures) (c .before .before .before .before .before .before .before .before .before .before .before .if2 .left) (form-here (c .before .before .before .before .before .before .before .before .before .before .before .before .before .before .before .before .before .before .before .before .before .before .before .before .before .pre .1) (leb-false _ _ (sym (c .before .before .before .before .before .before .before .before .before .before .before .before .before .before .before .spent .ensures) ∙ c .before .before .before .before .before .before .before .before .before .before .before .before .before .before .if1 .left)) (c .before .before .before .before .before .before .before .before .before .before .before .before .before .counted .ensures) (c .before .before .before .before .before .before .before .before .before .before .fetch .ensures) _ (c .before .before .before .before .before .before .before .before .before .form-of .ensures) ∙ c .before .before .before .before .before .before .before .enum-told7 .given .1) (c .before .before .before .before .sequence-items .ensures)
