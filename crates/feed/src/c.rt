@@ -51,8 +51,8 @@ pub extern "C" fn feed_unpack(kind: u8, stream: &[u8], out: &mut [u8], answer: &
 
 // The payload's length: 504 bytes that start at byte 4 of the block, or 0.
 #[no_mangle]
-pub extern "C" fn feed_block_payload(block: &[u8]) -> usize
-    ensures { λ n. ⌜ n ≡ length (blockPayload (now (block .entry))) ⌝ }
+pub extern "C" fn feed_block_payload(block: &[u8], start: u32) -> usize
+    ensures { λ n. ⌜ n ≡ length (blockPayload (now (block .entry)) start) ⌝ }
 {
-    crate::block_payload(block).len()
+    crate::block_payload(block, start).len()
 }

@@ -1,3 +1,4 @@
+pub mod Blocks
 pub mod Faults
 pub mod Lists
 pub mod Rows

@@ -195,7 +195,7 @@ unfolding flatten head size utf8 inUnits class range production keyword lexeme r
     Records.base Records.byteOf Records.word Records.kindOf Records.fieldA Records.fieldB Records.fieldC Records.fieldD Records.recordCount
     Records.recordsFrom Records.units Records.textOf Records.paddingOf Records.zeros Records.heads Records.after Records.row Records.things
     Records.ofKind Records.nth Records.numbered
-    Blocks.fnvStart Blocks.multiplied Blocks.fnv1a Blocks.word32 Blocks.sound Blocks.streamLength Blocks.block Blocks.blockRight Blocks.streamBlocks
+    Blocks.fnvStart Blocks.multiplied Blocks.fnv1a Blocks.word32 Blocks.checkOf Blocks.sound Blocks.streamLength Blocks.block Blocks.startOf Blocks.blockRight Blocks.streamBlocks
     Blocks.bytes32 Blocks.checked Blocks.filled Blocks.packedBlock Blocks.packedBlocks packed
     Lexeme.between Lexeme.inside Lexeme.firstByte Lexeme.laterByte Lexeme.nextByte Lexeme.decode Lexeme.decoded Lexeme.charactersOf Lexeme.lowest
     Lexeme.highest Lexeme.ranges Lexeme.inSome Lexeme.allInSome Lexeme.admits Lexeme.isLexeme

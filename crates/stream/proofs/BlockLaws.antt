@@ -4,14 +4,15 @@ use mathlib.Core.List.{List, [], _∷_}
 use mathlib.Core.Bool.{Bool, true, false, cond, not, _&&_}
 use mathlib.Core.Option.{Option, none, some}
 use mathlib.Core.Path.{_≡_, refl, ap, sym, _∙_}
+use native.Mathlib.Numerals.{add-one}
 use native.Mathlib.Omega.{arith}
 use borrow.Author.Tests.{eqb-true, not-true, not-false}
 use lib.Dec.{eqb}
 use lib.ListN.{length, take, drop, getD, length-take, length-drop}
-use lib.Seq.{take-take}
 use Rattle.rules.specs.Faults.{need, both, every}
 use Rattle.rules.specs.Records.{heads, row}
-use Rattle.rules.specs.Blocks.{isKind, sound, blockPayload, block, blockRight}
+use Rattle.rules.specs.Blocks.{fnvStart, fnv1a, checkOf, isKind, sound, blockPayload, block, startOf, blockRight}
+use Rattle.stream.specs.Block.{soundBy}
 use Rattle.stream.specs.Fault.{faultOf, faultFrom}
 use Rattle.stream.specs.declared.Fault.{Fault}
 use Rattle.stream.specs.declared.Fault.the-variants.{At, Nowhere}
@@ -37,36 +38,45 @@ all-four true false c d e = (refl, e, anything c e, anything d e)
 all-four false b c d e = (e, anything b e, anything c e, anything d e)
 
 -- a block by itself is right, but for its number
-abbrev pub isSingle : List ℕ → Bool
-isSingle b = eqb (length b) 512 && (isKind (getD b 2 0) && sound (getD b 2 0) b)
+abbrev pub isSingle : List ℕ → ℕ → Bool
+isSingle b start = eqb (length b) 512 && (isKind (getD b 2 0) && sound (getD b 2 0) start b)
 
-pub single-length : (b : List ℕ) → isSingle b ≡ true → length b ≡ 512
-single-length b e = eqb-true _ _ (and-left _ _ e)
+pub single-length : (b : List ℕ) (start : ℕ) → isSingle b start ≡ true → length b ≡ 512
+single-length b start e = eqb-true _ _ (and-left _ _ e)
 
 -- where the payload begins
-pub single-start : (b : List ℕ) → isSingle b ≡ true → 4 ≡ min 4 (length (take 504 (drop 4 b)))
-single-start b e = let l : length b ≡ 512 = single-length b e in simp (length-take, length-drop) (omega arith)
+pub single-begins : (b : List ℕ) (start : ℕ) → isSingle b start ≡ true → 4 ≡ min 4 (length (take 504 (drop 4 b)))
+single-begins b start e = let l : length b ≡ 512 = single-length b start e in simp (length-take, length-drop) (omega arith)
 
-pub payload-single : (b : List ℕ) → isSingle b ≡ true → take 504 (drop 4 b) ≡ blockPayload b
+pub payload-single : (b : List ℕ) (start : ℕ) → isSingle b start ≡ true → take 504 (drop 4 b) ≡ blockPayload b start
 unfolding blockPayload
-payload-single b e = rw e
+payload-single b start e = rw e
 
-pub payload-none : (b : List ℕ) → isSingle b ≡ false → [] ≡ blockPayload b
+pub payload-none : (b : List ℕ) (start : ℕ) → isSingle b start ≡ false → [] ≡ blockPayload b start
 unfolding blockPayload
-payload-none b e = rw e
+payload-none b start e = rw e
+
+-- where the check that it should have is in hand
+pub sound-by : (kind start check : ℕ) (b : List ℕ) → check ≡ fnv1a start (take 508 b) → soundBy kind check b ≡ sound kind start b
+unfolding sound
+sound-by kind start check b e = ap (λ (h : ℕ). soundBy kind h b) e
 
 -- the part of the stream that the code takes for block n
 pub block-part : (s : List ℕ) (n : ℕ) → take (512 * n + 512 - 512 * n) (drop (512 * n) s) ≡ block s n
 unfolding block
 block-part s n = let z : 512 * n + 512 - 512 * n ≡ 512 = omega arith in rw z
 
--- the bytes that its check is made of
-pub covered-part : (s : List ℕ) (n : ℕ) → take (512 * n + 508 - 512 * n) (drop (512 * n) s) ≡ take 508 (block s n)
-unfolding block
-covered-part s n = let z : 512 * n + 508 - 512 * n ≡ 508 = omega arith in rw z (sym (take-take 508 512 (drop (512 * n) s) (omega arith)))
+pub block-whole : (s : List ℕ) (n : ℕ) → 512 * n + 512 ≤ length s → length (take (512 * n + 512 - 512 * n) (drop (512 * n) s)) ≡ 512
+block-whole s n l = simp (length-take, length-drop) (omega arith)
 
-pub covered-length : (s : List ℕ) (n : ℕ) → 512 * n + 512 ≤ length s → length (take (512 * n + 508 - 512 * n) (drop (512 * n) s)) ≡ 508
-covered-length s n l = simp (length-take, length-drop) (omega arith)
+-- where the check of a block starts: of the first, and of each after it
+pub start-first : (s : List ℕ) (n : ℕ) → n ≡ 0 → 2166136261 ≡ startOf s n
+unfolding startOf fnvStart
+start-first s n e = rw e
+
+pub start-later : (s : List ℕ) (n m : ℕ) → n ≡ m + 1 → checkOf (block s m) ≡ startOf s n
+unfolding startOf
+start-later s n m e = rw (e, add-one m)
 
 -- what a test in hand says of the definition that it is equal to
 pub told-wrong : (a b : Bool) → a ≡ b → not a ≡ true → b ≡ false

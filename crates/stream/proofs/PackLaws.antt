@@ -4,18 +4,19 @@ use mathlib.Core.List.{List, [], _∷_, _++_, append-assoc, append-nil}
 use mathlib.Core.Bool.{Bool, true, false}
 use mathlib.Core.Option.{Option, none, some}
 use mathlib.Core.Path.{_≡_, refl, ap, ap₂, sym, _∙_}
-use native.Mathlib.Nat.{add-zero, zero-add, le-refl}
+use native.Mathlib.Nat.{sub-zero, le-refl}
 use native.Mathlib.Numerals.{add-one}
 use native.Mathlib.Omega.{arith}
 use borrow.Author.Tests.{leb-true, leb-false, le-leb, lt-leb}
 use borrow.Rule.Slice.PartMut.{putMid, same-len-mid}
 use lib.Dec.{leb}
 use lib.ListN.{length, take, drop, set, getD, replicate, length-append, length-take, length-drop, length-replicate, replicate-append-replicate, drop-of-length-le}
-use lib.Seq.{sets-eq, append-snoc, drop-cons, drop-drop, set-at, take-all, take-at, drop-at, take-length, take-suc}
+use lib.Seq.{sets-eq, append-snoc, drop-cons, drop-drop, set-at, length-take-le, take-add, take-all, take-at, drop-at, take-length, take-suc}
 use Rattle.rules.specs.Faults.{need, both}
-use Rattle.rules.specs.Blocks.{fnvStart, fnv1a, bytes32, checked, filled, packedBlock, packedBlocks, packed, payloads, unpacked, isKind, payloadLength, streamLength, streamBlocks}
+use Rattle.rules.specs.Blocks.{fnvStart, fnv1a, checkOf, bytes32, checked, filled, packedBlock, packedBlocks, packed, payloads, unpacked, isKind, payloadLength, streamLength, streamBlocks}
 use Rattle.rules.specs.Answers.{answer, placed, try, accept, packRefusal, unpackRefusal, written}
 use Rattle.rules.specs.declared.Answer.{Answer}
+use Rattle.laws.specs.Blocks.{unchecked, unchecked-length, bytes32-length, block-length, packed-length, payloads-length, unpacked-length, check-of-packed}
 
 -- A list with a piece in the place of as many elements at its beginning
 abbrev pub begun : List ℕ → List ℕ → List ℕ
@@ -64,85 +65,40 @@ zeros-all n out₀ out i a b o = let e : i ≡ n = omega arith in o ∙ rw (e, l
 pub four-put : (out : List ℕ) (a b c d : ℕ) → 4 ≤ length out → set (set (set (set out 0 a) 1 b) 2 c) 3 d ≡ (a ∷ b ∷ c ∷ d ∷ []) ++ drop 4 out
 four-put out a b c d l = sets-eq (a ∷ b ∷ c ∷ d ∷ []) out 0 l
 
--- Lengths
-filled-length : (p : List ℕ) → length p ≤ 504 → length (filled p) ≡ 504
-unfolding filled
-filled-length p l = length-append p (replicate (504 - length p) 0) ∙ simp length-replicate (omega arith)
-
-bytes32-length : (n : ℕ) → length (bytes32 n) ≡ 4
-unfolding bytes32
-bytes32-length n = refl
-
--- a block but for its check
-abbrev body : ℕ → ℕ → List ℕ → List ℕ
-body kind n p = (n % 256 ∷ n / 256 % 256 ∷ kind ∷ 0 ∷ []) ++ filled p
-
-body-length : (kind n : ℕ) (p : List ℕ) → length p ≤ 504 → length (body kind n p) ≡ 508
-body-length kind n p l = omega (arith, filled-length p l)
-
-block-length : (kind n : ℕ) (p : List ℕ) → length p ≤ 504 → length (packedBlock kind n p) ≡ 512
-unfolding packedBlock checked
-block-length kind n p l =
-    length-append (body kind n p) (bytes32 (fnv1a fnvStart (body kind n p))) ∙ omega (arith, body-length kind n p l, bytes32-length (fnv1a fnvStart (body kind n p)))
-
-blocks-length : (kind k n : ℕ) (p : List ℕ) → length (packedBlocks kind k n p) ≡ 512 * k
-unfolding packedBlocks
-blocks-length kind zero n p = refl
-blocks-length kind (suc k) n p =
-    length-append (packedBlock kind n (take 504 p)) (packedBlocks kind k (suc n) (drop 504 p))
-    ∙ ap₂ _+_ (block-length kind n (take 504 p) (rw length-take (omega arith))) (blocks-length kind k (suc n) (drop 504 p))
-    ∙ omega arith
-
-payloads-length : (k : ℕ) (s : List ℕ) → 512 * k ≤ length s → length (payloads k s) ≡ 504 * k
-unfolding payloads
-payloads-length zero s l = refl
-payloads-length (suc k) s l =
-    let a : length (take 504 (drop 4 s)) ≡ 504 = simp (length-take, length-drop) (omega arith) in
-    length-append (take 504 (drop 4 s)) (payloads k (drop 512 s)) ∙ ap₂ _+_ a (payloads-length k (drop 512 s) (rw length-drop (omega arith))) ∙ omega arith
-
--- A block: its head, the payload, zeros, and the check of these
-pub block-put : (out out₁ out₂ out₃ out₄ last₂ last₃ last₄ pay : List ℕ) (kind n h : ℕ) → 512 ≤ length out → length pay ≤ 504
+-- A block: its head, the payload, zeros, and the check of these, which is in hand
+pub block-put : (out out₁ out₂ out₃ out₄ last₂ last₃ last₄ pay : List ℕ) (kind start n h : ℕ) → 512 ≤ length out → length pay ≤ 504
     → out₁ ≡ (n % 256 ∷ n / 256 % 256 ∷ kind ∷ 0 ∷ []) ++ drop 4 out
     → out₂ ≡ putMid 4 (length out₁ - 4) out₁ last₂ → last₂ ≡ pay ++ drop (length pay) (take (length out₁ - 4) (drop 4 out₁))
     → out₃ ≡ putMid (4 + length pay) (length out₂ - (4 + length pay)) out₂ last₃
     → last₃ ≡ replicate (508 - (4 + length pay)) 0 ++ drop (508 - (4 + length pay)) (take (length out₂ - (4 + length pay)) (drop (4 + length pay) out₂))
-    → h ≡ fnv1a fnvStart (take 508 out₃)
+    → h ≡ fnv1a start (take 508 out₃)
     → out₄ ≡ putMid 508 (length out₃ - 508) out₃ last₄ → last₄ ≡ bytes32 h ++ drop 4 (take (length out₃ - 508) (drop 508 out₃))
-    → out₄ ≡ packedBlock kind n pay ++ drop 512 out
+    → (h ≡ checkOf (packedBlock kind start n pay)) × (out₄ ≡ packedBlock kind start n pay ++ drop 512 out)
 unfolding packedBlock checked filled
-block-put out out₁ out₂ out₃ out₄ last₂ last₃ last₄ pay kind n h l m e₁ o₂ e₂ o₃ e₃ eh o₄ e₄ =
+block-put out out₁ out₂ out₃ out₄ last₂ last₃ last₄ pay kind start n h l m e₁ o₂ e₂ o₃ e₃ eh o₄ e₄ =
     let head : List ℕ = n % 256 ∷ n / 256 % 256 ∷ kind ∷ 0 ∷ [] in
     let zs : List ℕ = replicate (504 - length pay) 0 in
+    let b : List ℕ = unchecked kind n pay in
     let z : 508 - (4 + length pay) ≡ 504 - length pay = omega arith in
     let s₂ : out₂ ≡ begun out (head ++ pay) = o₂ ∙ begun-more out out₁ head pay last₂ 4 (length pay) refl refl e₁ e₂ in
     let s₃ : out₃ ≡ begun out ((head ++ pay) ++ zs) =
     o₃ ∙ begun-more out out₂ (head ++ pay) zs last₃ (4 + length pay) (504 - length pay) (length-append head pay) (length-replicate (504 - length pay) 0) s₂ (rw z at e₃) in
-    let b : out₃ ≡ begun out (body kind n pay) = s₃ in
-    let w : length (body kind n pay) ≡ 508 = body-length kind n pay m in
-    let t : take 508 out₃ ≡ body kind n pay = rw b (take-at (body kind n pay) _ 508 w) in
-    let g : h ≡ fnv1a fnvStart (body kind n pay) = eh ∙ ap (fnv1a fnvStart) t in
-    let s₄ : out₄ ≡ begun out (body kind n pay ++ bytes32 h) = o₄ ∙ begun-more out out₃ (body kind n pay) (bytes32 h) last₄ 508 4 w (bytes32-length h) b e₄ in
-    let q : length (body kind n pay ++ bytes32 h) ≡ 512 = length-append (body kind n pay) (bytes32 h) ∙ omega (arith, bytes32-length h) in
-    s₄ ∙ ap₂ (λ (x k : ℕ). body kind n pay ++ bytes32 x ++ drop k out) g q
+    let c : out₃ ≡ begun out b = s₃ in
+    let w : length b ≡ 508 = unchecked-length kind n pay m in
+    let t : take 508 out₃ ≡ b = rw c (take-at b _ 508 w) in
+    let g : h ≡ fnv1a start b = eh ∙ ap (fnv1a start) t in
+    let s₄ : out₄ ≡ begun out (b ++ bytes32 h) = o₄ ∙ begun-more out out₃ b (bytes32 h) last₄ 508 4 w (bytes32-length h) c e₄ in
+    let q : length (b ++ bytes32 h) ≡ 512 = length-append b (bytes32 h) ∙ omega (arith, bytes32-length h) in
+    (g ∙ sym (check-of-packed kind start n pay m), s₄ ∙ ap₂ (λ (x k : ℕ). b ++ bytes32 x ++ drop k out) g q)
 
--- Blocks and payloads, one more at the end
-blocks-snoc : (kind k m : ℕ) (p : List ℕ) → packedBlocks kind (suc k) m p ≡ packedBlocks kind k m p ++ packedBlock kind (m + k) (take 504 (drop (504 * k) p))
-unfolding packedBlocks
-blocks-snoc kind zero m p = rw add-zero (append-nil _)
-blocks-snoc kind (suc k) m p =
-    let a : suc m + k ≡ m + suc k = omega arith in
-    let b : 504 + 504 * k ≡ 504 * suc k = omega arith in
-    ap (λ (x : List ℕ). packedBlock kind m (take 504 p) ++ x) (blocks-snoc kind k (suc m) (drop 504 p))
-    ∙ rw (a, drop-drop (504 * k) 504 p, b)
-    (sym (append-assoc (packedBlock kind m (take 504 p)) (packedBlocks kind k (suc m) (drop 504 p)) (packedBlock kind (m + suc k) (take 504 (drop (504 * suc k) p)))))
+-- Blocks one after the other: n of them stand at the beginning, and the next one starts from the number in hand
+pub record Chain (kind : ℕ) (p out₀ out : List ℕ) (blocks start n : ℕ) : Type 0 where
+  pub put : out ≡ begun out₀ (take (512 * n) (packed kind p))
+  pub rest : drop (512 * n) (packed kind p) ≡ packedBlocks kind (blocks - n) start n (drop (504 * n) p)
 
-payloads-snoc : (k : ℕ) (s : List ℕ) → payloads (suc k) s ≡ payloads k s ++ take 504 (drop (512 * k + 4) s)
-unfolding payloads
-payloads-snoc zero s = append-nil _
-payloads-snoc (suc k) s =
-    let b : 512 + (512 * k + 4) ≡ 512 * suc k + 4 = omega arith in
-    ap (λ (x : List ℕ). take 504 (drop 4 s) ++ x) (payloads-snoc k (drop 512 s))
-    ∙ rw (drop-drop (512 * k + 4) 512 s, b) (sym (append-assoc (take 504 (drop 4 s)) (payloads k (drop 512 s)) (take 504 (drop (512 * suc k + 4) s))))
+pub chain-begins : (kind : ℕ) (p out : List ℕ) → Chain kind p out out ((length p + 503) / 504) fnvStart 0
+unfolding packed
+chain-begins kind p out = record { put = refl; rest = rw sub-zero }
 
 take-cap : (j : ℕ) (xs : List ℕ) → take (min j (length xs)) xs ≡ take j xs
 take-cap j xs = go (leb j (length xs)) refl
@@ -160,15 +116,62 @@ payload-part p n to t l =
     let e : to - 504 * n ≡ min 504 (length (drop (504 * n) p)) = rw length-drop (omega arith) in
     rw e (take-cap 504 (drop (504 * n) p))
 
-pub blocks-turn : (kind n to : ℕ) (p out₀ out last : List ℕ) → to ≡ min (504 * n + 504) (length p) → 504 * n ≤ length p → out ≡ begun out₀ (packedBlocks kind n 0 p)
-    → last ≡ packedBlock kind n (take (to - 504 * n) (drop (504 * n) p)) ++ drop 512 (take (length out - 512 * n) (drop (512 * n) out))
-    → putMid (512 * n) (length out - 512 * n) out last ≡ begun out₀ (packedBlocks kind (n + 1) 0 p)
-blocks-turn kind n to p out₀ out last t l o e =
-    let part : List ℕ = take 504 (drop (504 * n) p) in
-    let more : packedBlocks kind (n + 1) 0 p ≡ packedBlocks kind n 0 p ++ packedBlock kind n part = rw add-one (blocks-snoc kind n 0 p ∙ rw zero-add) in
-    rw more
-    (begun-more out₀ out (packedBlocks kind n 0 p) (packedBlock kind n part) last (512 * n) 512 (blocks-length kind n 0 p)
-    (block-length kind n part (rw length-take (omega arith))) o (rw (payload-part p n to t l) at e))
+module _ (kind : ℕ) (p out₀ out : List ℕ) (blocks start n : ℕ) (so : blocks ≡ (length p + 503) / 504) (l : n < blocks) (c : Chain kind p out₀ out blocks start n) where
+  abbrev whole : List ℕ
+  whole = packed kind p
+
+  -- block n, and where it stands
+  abbrev here : List ℕ
+  here = packedBlock kind start n (take 504 (drop (504 * n) p))
+
+  here-length : length here ≡ 512
+  here-length = block-length kind start n (take 504 (drop (504 * n) p)) (rw length-take (omega arith))
+
+  onward : List ℕ
+  onward = packedBlocks kind (blocks - (n + 1)) (checkOf here) (n + 1) (drop (504 * (n + 1)) p)
+
+  at-block : drop (512 * n) whole ≡ here ++ onward
+  unfolding packedBlocks onward
+  at-block =
+      let e : blocks - n ≡ suc (blocks - (n + 1)) = omega arith in
+      let f : 504 * n + 504 ≡ 504 * (n + 1) = omega arith in
+      c .rest ∙ rw (e, packedBlocks, drop-drop 504 (504 * n) p, f, add-one n)
+
+  one-more : take (512 * (n + 1)) whole ≡ take (512 * n) whole ++ here
+  one-more =
+      let e : 512 * (n + 1) ≡ 512 * n + 512 = omega arith in
+      rw (e, take-add (512 * n) 512 whole, at-block, take-at here onward 512 here-length)
+
+  onward-rest : drop (512 * (n + 1)) whole ≡ onward
+  onward-rest =
+      let e : 512 * (n + 1) ≡ 512 * n + 512 = omega arith in
+      rw (e, ← drop-drop 512 (512 * n) whole, at-block, drop-at here onward 512 here-length)
+
+  pub chain-turn : (to next : ℕ) (last : List ℕ) → to ≡ min (504 * n + 504) (length p)
+      → next ≡ checkOf (packedBlock kind start n (take (to - 504 * n) (drop (504 * n) p)))
+      → last ≡ packedBlock kind start n (take (to - 504 * n) (drop (504 * n) p)) ++ drop 512 (take (length out - 512 * n) (drop (512 * n) out))
+      → Chain kind p out₀ (putMid (512 * n) (length out - 512 * n) out last) blocks next (n + 1)
+  unfolding onward
+  chain-turn to next last t h e =
+      let q : take (to - 504 * n) (drop (504 * n) p) ≡ take 504 (drop (504 * n) p) = payload-part p n to t (omega arith) in
+      let w : length (take (512 * n) whole) ≡ 512 * n = length-take-le (512 * n) whole (rw packed-length (omega arith)) in
+      record {
+        put = rw one-more (begun-more out₀ out (take (512 * n) whole) here last (512 * n) 512 w here-length (c .put) (rw q at e));
+        rest = onward-rest ∙ rw (h, q);
+      }
+
+pub chain-all : (kind : ℕ) (p out₀ out : List ℕ) (blocks start n : ℕ) → blocks ≡ (length p + 503) / 504 → n ≤ blocks → blocks ≤ n → Chain kind p out₀ out blocks start n
+    → out ≡ begun out₀ (packed kind p)
+chain-all kind p out₀ out blocks start n so a b c = c .put ∙ ap (begun out₀) (take-all (512 * n) (packed kind p) (rw packed-length (omega arith)))
+
+-- Payloads, one more at the end
+payloads-snoc : (k : ℕ) (s : List ℕ) → payloads (suc k) s ≡ payloads k s ++ take 504 (drop (512 * k + 4) s)
+unfolding payloads
+payloads-snoc zero s = append-nil _
+payloads-snoc (suc k) s =
+    let b : 512 + (512 * k + 4) ≡ 512 * suc k + 4 = omega arith in
+    ap (λ (x : List ℕ). take 504 (drop 4 s) ++ x) (payloads-snoc k (drop 512 s))
+    ∙ rw (drop-drop (512 * k + 4) 512 s, b) (sym (append-assoc (take 504 (drop 4 s)) (payloads k (drop 512 s)) (take 504 (drop (512 * suc k + 4) s))))
 
 pub payloads-turn : (n : ℕ) (s out₀ out last : List ℕ) → 512 * n + 512 ≤ length s → out ≡ begun out₀ (payloads n s)
     → last ≡ begun (take (length out - 504 * n) (drop (504 * n) out)) (take (512 * n + 4 + 504 - (512 * n + 4)) (drop (512 * n + 4) s))
@@ -179,21 +182,9 @@ payloads-turn n s out₀ out last l o e =
     rw (add-one, payloads-snoc)
     (begun-more out₀ out (payloads n s) part last (504 * n) (length part) (payloads-length n s (omega arith)) refl o (rw z at e))
 
-pub blocks-all : (kind n : ℕ) (p out₀ out : List ℕ) → n ≤ (length p + 503) / 504 → (length p + 503) / 504 ≤ n → out ≡ begun out₀ (packedBlocks kind n 0 p) → out ≡ begun out₀ (packed kind p)
-unfolding packed
-blocks-all kind n p out₀ out a b o = let e : n ≡ (length p + 503) / 504 = omega arith in o ∙ rw e
-
 pub payloads-all : (n : ℕ) (s out₀ out : List ℕ) → n ≤ length s / 512 → length s / 512 ≤ n → out ≡ begun out₀ (payloads n s) → out ≡ begun out₀ (unpacked s)
 unfolding unpacked
 payloads-all n s out₀ out a b o = let e : n ≡ length s / 512 = omega arith in o ∙ rw e
-
-pub packed-length : (kind : ℕ) (p : List ℕ) → length (packed kind p) ≡ (length p + 503) / 504 * 512
-unfolding packed
-packed-length kind p = blocks-length kind ((length p + 503) / 504) 0 p ∙ omega arith
-
-pub unpacked-length : (s : List ℕ) → length (unpacked s) ≡ length s / 512 * 504
-unfolding unpacked
-unpacked-length s = payloads-length (length s / 512) s (omega arith) ∙ omega arith
 
 -- Answers: what is given back and left where a call is refused, and where it is not
 pub refused-leaves : (x : Option Answer) (bytes : Unit {0} → List ℕ) (out : List ℕ) (r a : Answer) → x ≡ some a → r ≡ a → (r ≡ written x bytes out .result) × (out ≡ written x bytes out .output)
@@ -214,11 +205,11 @@ module _ (kind : ℕ) (p out : List ℕ) where
   unfolding packRefusal placed try need
   pack-kind e k = rw (e, k)
 
-  pub pack-room : payloadLength p ≡ none → isKind kind ≡ true → length out < (length p + 503) / 504 * 512 → packRefusal kind p out ≡ some (answer 12 0 0 0 0)
+  pub pack-room : payloadLength p ≡ none → isKind kind ≡ true → length out < 512 * ((length p + 503) / 504) → packRefusal kind p out ≡ some (answer 12 0 0 0 0)
   unfolding packRefusal placed try need
   pack-room e k l = rw (e, k, packed-length, lt-leb _ _ l)
 
-  pub pack-fits : payloadLength p ≡ none → isKind kind ≡ true → (length p + 503) / 504 * 512 ≤ length out → packRefusal kind p out ≡ none
+  pub pack-fits : payloadLength p ≡ none → isKind kind ≡ true → 512 * ((length p + 503) / 504) ≤ length out → packRefusal kind p out ≡ none
   unfolding packRefusal placed try need accept
   pack-fits e k l = rw (e, k, packed-length, le-leb _ _ l)
 
@@ -235,10 +226,10 @@ module _ (kind : ℕ) (s out : List ℕ) where
   unfolding unpackRefusal placed try both need
   unpack-block place e k b = rw (e, k, b)
 
-  pub unpack-room : streamLength s ≡ none → isKind kind ≡ true → streamBlocks kind s ≡ none → length out < length s / 512 * 504 → unpackRefusal kind s out ≡ some (answer 12 0 0 0 0)
+  pub unpack-room : streamLength s ≡ none → isKind kind ≡ true → streamBlocks kind s ≡ none → length out < 504 * (length s / 512) → unpackRefusal kind s out ≡ some (answer 12 0 0 0 0)
   unfolding unpackRefusal placed try both need
   unpack-room e k b l = rw (e, k, b, unpacked-length, lt-leb _ _ l)
 
-  pub unpack-fits : streamLength s ≡ none → isKind kind ≡ true → streamBlocks kind s ≡ none → length s / 512 * 504 ≤ length out → unpackRefusal kind s out ≡ none
+  pub unpack-fits : streamLength s ≡ none → isKind kind ≡ true → streamBlocks kind s ≡ none → 504 * (length s / 512) ≤ length out → unpackRefusal kind s out ≡ none
   unfolding unpackRefusal placed try both need accept
   unpack-fits e k b l = rw (e, k, b, unpacked-length, le-leb _ _ l)

@@ -1,3 +1,4 @@
+pub mod Block
 pub mod Fault
 pub mod Fnv
 pub mod Record

@@ -2,10 +2,10 @@ ghost use mathlib.Core.Path.{_≡_};
 ghost use mathlib.Core.Bool.{_&&_};
 ghost use Prim.Native.Nat.{_+_, min, _≤_, _<_};
 ghost use lib.Dec.{eqb};
-ghost use lib.ListN.{length, take, getD};
+ghost use lib.ListN.{length, getD};
 ghost use Rattle.rules.specs.Records.{word};
-ghost use Rattle.rules.specs.Blocks.{word32, isKind, fnvStart, fnv1a, sound, blockPayload};
-use crate::fnv::START;
+ghost use Rattle.rules.specs.Blocks.{word32, checkOf, isKind, sound, blockPayload};
+ghost use Rattle.stream.specs.Block.{soundBy};
 use crate::fnv::fnv1a;
 
 fn wide(b: u8) -> usize
@@ -40,10 +40,18 @@ pub(crate) fn is_kind(kind: u8) -> bool
     kind <= 3
 }
 
+// The check that a block has.
+pub(crate) fn check_of(b: &[u8]) -> u32
+    requires { ⌜ 512 ≤ length (now b) ⌝ }
+    ensures { λ r. ⌜ r ≡ checkOf (now (b .entry)) ⌝ }
+{
+    word32_at(b, 508) as u32
+}
+
 // The kind, byte 3 and the check of a block, where the check that it should have is in hand; its number is left to the caller.
 pub(crate) fn is_sound_by(kind: u8, b: &[u8], check: u32) -> bool
-    requires { ⌜ (512 ≤ length (now b)) × (check ≡ fnv1a fnvStart (take 508 (now b))) ⌝ }
-    ensures { λ r. ⌜ r ≡ sound kind (now (b .entry)) ⌝ }
+    requires { ⌜ 512 ≤ length (now b) ⌝ }
+    ensures { λ r. ⌜ r ≡ soundBy kind check (now (b .entry)) ⌝ }
 {
     if b[2] != kind {
         return false;
@@ -51,20 +59,20 @@ pub(crate) fn is_sound_by(kind: u8, b: &[u8], check: u32) -> bool
     if b[3] != 0 {
         return false;
     }
-    word32_at(b, 508) == check as usize
+    check_of(b) == check
 }
 
-// The same of a block by itself.
-fn is_sound(kind: u8, b: &[u8]) -> bool
+// The same of a block by itself, whose check starts from a number in hand.
+fn is_sound(kind: u8, b: &[u8], start: u32) -> bool
     requires { ⌜ 512 ≤ length (now b) ⌝ }
-    ensures { λ r. ⌜ r ≡ sound kind (now (b .entry)) ⌝ }
+    ensures { λ r. ⌜ r ≡ sound kind start (now (b .entry)) ⌝ }
 {
-    is_sound_by(kind, b, fnv1a(START, &b[0..508]))
+    is_sound_by(kind, b, fnv1a(start, &b[0..508]))
 }
 
 // Whether a block by itself hands back its payload.
-fn is_single(b: &[u8]) -> bool
-    ensures { λ r. ⌜ r ≡ (eqb (length (now (b .entry))) 512 && (isKind (getD (now (b .entry)) 2 0) && sound (getD (now (b .entry)) 2 0) (now (b .entry)))) ⌝ }
+fn is_single(b: &[u8], start: u32) -> bool
+    ensures { λ r. ⌜ r ≡ (eqb (length (now (b .entry))) 512 && (isKind (getD (now (b .entry)) 2 0) && sound (getD (now (b .entry)) 2 0) start (now (b .entry)))) ⌝ }
 {
     if b.len() != 512 {
         return false;
@@ -73,15 +81,15 @@ fn is_single(b: &[u8]) -> bool
     if !is_kind(kind) {
         return false;
     }
-    is_sound(kind, b)
+    is_sound(kind, b, start)
 }
 
 // The payload of a single block, as a part of the caller's slice: the 504 bytes that begin at byte 4 of the lent memory, or none of it,
-// at its beginning, where the block is not right.
-pub fn block_payload(block: &[u8]) -> &[u8]
-    ensures { λ r. ⌜ (now r ≡ blockPayload (now (block .entry))) × (r .ptr ≡ (block .entry .ptr .0, min 4 (length (now r)) + block .entry .ptr .1)) ⌝ }
+// at its beginning, where the block is not right. Its check starts from the check of the block before it, or from START.
+pub fn block_payload(block: &[u8], start: u32) -> &[u8]
+    ensures { λ r. ⌜ (now r ≡ blockPayload (now (block .entry)) start) × (r .ptr ≡ (block .entry .ptr .0, min 4 (length (now r)) + block .entry .ptr .1)) ⌝ }
 {
-    if is_single(block) {
+    if is_single(block, start) {
         &block[4..508]
     } else {
         &block[0..0]

@@ -4,7 +4,7 @@ ghost use lib.ListN.{length};
 ghost use Rattle.rules.specs.Blocks.{multiplied, fnv1a};
 ghost use Rattle.stream.specs.Fnv.{Hashed};
 
-// Where the check of a block starts.
+// Where the check of block 0 starts.
 pub const START: u32 = 2166136261;
 
 // The multiply step, by 16777619 modulo 2^32: the product is taken in 64 bits, so nothing wraps before the remainder is taken.
@@ -34,7 +34,7 @@ pub fn fnv1a(start: u32, s: &[u8]) -> u32
     h
 }
 
-// The checks of four parts, in their order.
+// A number for each of four parts, in their order: where its check starts, or the check.
 pub struct Four {
     pub a: u32,
     pub b: u32,
@@ -42,15 +42,16 @@ pub struct Four {
     pub d: u32,
 }
 
-// FNV-1a of four parts of one length. Within a part each multiply waits for the one before it; those of the other parts are done meanwhile.
-pub(crate) fn fnv1a_four(a: &[u8], b: &[u8], c: &[u8], d: &[u8]) -> Four
+// FNV-1a of four parts of one length, each from its own start. Within a part each multiply waits for the one before it; those of the other parts
+// are done meanwhile.
+pub(crate) fn fnv1a_four(starts: Four, a: &[u8], b: &[u8], c: &[u8], d: &[u8]) -> Four
     requires { ⌜ (length (now b) ≡ length (now a)) × (length (now c) ≡ length (now a)) × (length (now d) ≡ length (now a)) ⌝ }
-    ensures { λ r. ⌜ Hashed (now (a .entry)) (now (b .entry)) (now (c .entry)) (now (d .entry)) r ⌝ }
+    ensures { λ r. ⌜ Hashed starts (now (a .entry)) (now (b .entry)) (now (c .entry)) (now (d .entry)) r ⌝ }
 {
-    let mut w = START;
-    let mut x = START;
-    let mut y = START;
-    let mut z = START;
+    let mut w = starts.a;
+    let mut x = starts.b;
+    let mut y = starts.c;
+    let mut z = starts.d;
     let mut i = 0;
     while i < a.len() {
         w = step(w, a[i]);

@@ -1,8 +1,8 @@
 ghost use mathlib.Core.Path.{_≡_};
 ghost use mathlib.Core.List.{_++_, [], _∷_};
-ghost use Prim.Native.Nat.{_+_, _*_, _/_, min, _≤_};
+ghost use Prim.Native.Nat.{_+_, _*_, _/_, _≤_};
 ghost use lib.ListN.{length, drop, replicate};
-ghost use Rattle.rules.specs.Blocks.{packedBlock, packed, payloadLength, unpacked};
+ghost use Rattle.rules.specs.Blocks.{checkOf, packedBlock, packed, payloadLength, unpacked};
 ghost use Rattle.rules.specs.Answers.{answer, pack, unpack};
 ghost use Rattle.stream.specs.Fault.{faultOf};
 use crate::Fault;
@@ -40,23 +40,25 @@ fn put_four(a: u8, b: u8, c: u8, d: u8, out: &mut [u8])
     out[3] = d;
 }
 
-// A block: its head, the payload, zeros as far as the check, and the check of all these.
-fn put_block(kind: u8, n: usize, payload: &[u8], out: &mut [u8])
+// A block: its head, the payload, zeros as far as the check, and the check of all these from a start. It answers the check, from which the next
+// block starts.
+fn put_block(kind: u8, start: u32, n: usize, payload: &[u8], out: &mut [u8]) -> u32
     requires { ⌜ (512 ≤ length (now out)) × (length (now payload) ≤ 504) ⌝ }
-    ensures { λ _. ⌜ now (out .exit) ≡ packedBlock kind n (now (payload .entry)) ++ drop 512 (now (out .entry)) ⌝ }
+    ensures { λ r. ⌜ (r ≡ checkOf (packedBlock kind start n (now (payload .entry)))) × (now (out .exit) ≡ packedBlock kind start n (now (payload .entry)) ++ drop 512 (now (out .entry))) ⌝ }
 {
     put_four((n % 256) as u8, (n / 256 % 256) as u8, kind, 0, out);
     copy_into(payload, &mut out[4..]);
     let end = 4 + payload.len();
     put_zeros(508 - end, &mut out[end..]);
-    let h = fnv1a(START, &out[0..508]);
+    let check = fnv1a(start, &out[0..508]);
     put_four(
-        (h % 256) as u8,
-        (h / 256 % 256) as u8,
-        (h / 65536 % 256) as u8,
-        (h / 16777216 % 256) as u8,
+        (check % 256) as u8,
+        (check / 256 % 256) as u8,
+        (check / 65536 % 256) as u8,
+        (check / 16777216 % 256) as u8,
         &mut out[508..],
     );
+    check
 }
 
 // The blocks of a payload.
@@ -65,12 +67,13 @@ fn put_blocks(kind: u8, payload: &[u8], out: &mut [u8])
     ensures { λ _. ⌜ now (out .exit) ≡ packed kind (now (payload .entry)) ++ drop (length (packed kind (now (payload .entry)))) (now (out .entry)) ⌝ }
 {
     let blocks = (payload.len() + 503) / 504;
+    let mut start = START;
     let mut n = 0;
     while n < blocks {
         let from = 504 * n;
         let to = least(from + 504, payload.len());
         let at = 512 * n;
-        put_block(kind, n, &payload[from..to], &mut out[at..]);
+        start = put_block(kind, start, n, &payload[from..to], &mut out[at..]);
         n += 1;
     }
 }
@@ -142,7 +145,7 @@ pub fn pack(kind: u8, payload: &[u8], out: &mut [u8]) -> Answer
     if !is_kind(kind) {
         return refused(2, 0);
     }
-    let bytes = (payload.len() + 503) / 504 * 512;
+    let bytes = 512 * ((payload.len() + 503) / 504);
     if out.len() < bytes {
         return refused(12, 0);
     }
@@ -163,7 +166,7 @@ pub fn unpack(kind: u8, s: &[u8], out: &mut [u8]) -> Answer
     if let Fault::At(place) = block_fault(kind, s) {
         return refused(2, place);
     }
-    let bytes = s.len() / 512 * 504;
+    let bytes = 504 * (s.len() / 512);
     if out.len() < bytes {
         return refused(12, 0);
     }

@@ -1,8 +1,7 @@
 // The reader of text. The bytes of a text lie in the payloads of blocks in a row; they are handed on block by block, as parts of the stream.
 ghost use mathlib.Core.Path.{_≡_};
-ghost use mathlib.Core.List.{_++_};
 ghost use Prim.Native.Nat.{min, _≤_, _<_, _^_};
-ghost use lib.ListN.{length, drop};
+ghost use lib.ListN.{length};
 ghost use Rattle.rules.specs.Records.{textOf};
 ghost use Rattle.stream.specs.Text.{textIn, Begins, BeginsAt, room, partOf, Rest, Copied};
 use crate::copy::copy_into;

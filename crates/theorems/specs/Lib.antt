@@ -46,6 +46,8 @@ pub mod Demands
 pub mod Packing
 pub mod PackCalls
 pub mod Unpacked
+pub mod Starts
+pub mod Chained
 pub mod Published
 pub mod Teeth
 pub mod ReadAlike

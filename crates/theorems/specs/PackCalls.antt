@@ -10,9 +10,10 @@ use lib.ListN.{length, take, drop, getD, replicate}
 use lib.Dec.{eqb, leb}
 use borrow.Author.Tests.{leb-true, leb-false}
 use Rattle.rules.specs.Faults.{need, both}
-use Rattle.rules.specs.Blocks.{fnvStart, fnv1a, word32, sound, isKind, blockPayload, streamLength, streamBlocks, bytes32, checked, filled, packedBlock, packedBlocks, packed, payloadLength, unpacked}
+use Rattle.rules.specs.Blocks.{fnv1a, checkOf, sound, isKind, blockPayload, streamLength, streamBlocks, bytes32, checked, filled, packedBlock, packedBlocks, packed, payloadLength, unpacked}
 use Rattle.rules.specs.Answers.{answer, placed, try, accept, packRefusal, unpackRefusal, Written, written, pack, unpack}
 use Rattle.rules.specs.declared.Answer.{Answer}
+use Rattle.laws.specs.Blocks.{packed-length}
 use Rattle.laws.specs.Faults.{In, here, later, need-iff, and-iff, eqb-iff, leb-iff}
 use Rattle.theorems.specs.Streams.{WellSized, length-exactly, blocks-exactly}
 use Rattle.theorems.specs.Accepted.{RightBlocks}
@@ -20,7 +21,7 @@ use Rattle.theorems.specs.Least.{in-none}
 use Rattle.theorems.specs.HeadByHead.{in-cons}
 use Rattle.theorems.specs.Offences.{WrongBlock}
 use Rattle.theorems.specs.FirstOffending.{first-block}
-use Rattle.theorems.specs.Packing.{blockCount, fillCount, packed-length, packed-meets-neither, unpacked-packed}
+use Rattle.theorems.specs.Packing.{blockCount, fillCount, packed-meets-neither, unpacked-packed}
 
 -- "Byte 2: stream kind (1 grammar, 2 templates, 3 value)."
 pub record StreamKind (kind : ℕ) : Type 0 where
@@ -69,16 +70,17 @@ pub data Unpacks (kind : ℕ) (s out : List ℕ) (w : Written) : Type 0 where
   no-room : WellSized s → StreamKind kind → RightBlocks kind s → length out < length (unpacked s) → Refused 12 0 out w → Unpacks kind s out w
   unpacks : WellSized s → StreamKind kind → RightBlocks kind s → length (unpacked s) ≤ length out → Wrote (unpacked s) out w → Unpacks kind s out w
 
--- the single-block call: "its number isn't judged, and a length other than 512, a kind outside 1 to 3, a byte 3 that isn't zero or a wrong check gives back an empty part"
-pub record RightAlone (b : List ℕ) : Type 0 where
+-- the single-block call: "its number isn't judged, and a length other than 512, a kind outside 1 to 3, a byte 3 that isn't zero or a wrong check gives back an empty part";
+-- it "is now given the starting number" (02 b), any of 32 bits
+pub record RightAlone (b : List ℕ) (start : ℕ) : Type 0 where
   pub whole : length b ≡ 512
   pub kind-right : StreamKind (getD b 2 0)
   pub byte3-right : getD b 3 0 ≡ 0
-  pub check-right : word32 b 508 ≡ fnv1a fnvStart (take 508 b)
+  pub check-right : checkOf b ≡ fnv1a start (take 508 b)
 
-pub data Payload (b : List ℕ) : List ℕ → Type 0 where
-  bytes-4-to-507 : RightAlone b → Payload b (take 504 (drop 4 b))
-  empty-part : (RightAlone b → ⊥) → Payload b []
+pub data Payload (b : List ℕ) (start : ℕ) : List ℕ → Type 0 where
+  bytes-4-to-507 : RightAlone b start → Payload b start (take 504 (drop 4 b))
+  empty-part : (RightAlone b start → ⊥) → Payload b start []
 
 -- each test in words
 kind-exactly : (kind : ℕ) → (isKind kind ≡ true) ↔ StreamKind kind
@@ -146,22 +148,22 @@ four-bytes : (n : ℕ) → Bytes (bytes32 n)
 unfolding bytes32
 four-bytes n = digit-byte n _ (digit-byte (n / 256) _ (digit-byte (n / 65536) _ (digit-byte (n / 16777216) _ no-byte)))
 
-block-bytes : (kind n : ℕ) (payload : List ℕ) → kind < 256 → Bytes payload → Bytes (packedBlock kind n payload)
+block-bytes : (kind start n : ℕ) (payload : List ℕ) → kind < 256 → Bytes payload → Bytes (packedBlock kind start n payload)
 unfolding packedBlock checked filled
-block-bytes kind n payload l a =
+block-bytes kind start n payload l a =
     let fill = bytes-append payload (replicate (504 - length payload) 0) a (zero-bytes (504 - length payload)) in
     bytes-append _ _ (digit-byte n _ (digit-byte (n / 256) _ (one-byte kind _ l (one-byte 0 _ (omega arith) fill)))) (four-bytes _)
 
-blocks-bytes : (kind k n : ℕ) (payload : List ℕ) → kind < 256 → Bytes payload → Bytes (packedBlocks kind k n payload)
+blocks-bytes : (kind k start n : ℕ) (payload : List ℕ) → kind < 256 → Bytes payload → Bytes (packedBlocks kind k start n payload)
 unfolding packedBlocks
-blocks-bytes kind zero n payload l a = no-byte
-blocks-bytes kind (suc k) n payload l a =
-    bytes-append _ _ (block-bytes kind n _ l (bytes-take 504 payload a)) (blocks-bytes kind k (suc n) _ l (bytes-drop 504 payload a))
+blocks-bytes kind zero start n payload l a = no-byte
+blocks-bytes kind (suc k) start n payload l a =
+    bytes-append _ _ (block-bytes kind start n _ l (bytes-take 504 payload a)) (blocks-bytes kind k _ (suc n) _ l (bytes-drop 504 payload a))
 
 packed-as : (kind : ℕ) (payload : List ℕ) → Packable payload → StreamKind kind → PackedAs kind payload (packed kind payload)
 unfolding payloadLength packed
 packed-as kind payload h k = record {
-  bytes-only = blocks-bytes kind _ 0 payload (let m = k .to-3 in omega arith);
+  bytes-only = blocks-bytes kind _ _ 0 payload (let m = k .to-3 in omega arith);
   so-many-blocks = packed-length kind payload;
   right-blocks = blocks-exactly kind _ .0 (packed-meets-neither kind payload (need-iff {A = ℕ} _ 0 .1 (packable-test payload .1 h)) .1);
   same-payload = unpacked-packed kind payload;
@@ -207,9 +209,9 @@ unpack-answers kind s out =
     (λ d. no-room w k r (leb-false _ _ d) (refused-by 12 0 out)))
     (λ e. wrong-length (fails (sized-test s) e) (refused-by 1 0 out))
 
-alone-exactly : (b : List ℕ) → ((eqb (length b) 512 && (isKind (getD b 2 0) && sound (getD b 2 0) b)) ≡ true) ↔ RightAlone b
+alone-exactly : (b : List ℕ) (start : ℕ) → ((eqb (length b) 512 && (isKind (getD b 2 0) && sound (getD b 2 0) start b)) ≡ true) ↔ RightAlone b start
 unfolding sound
-alone-exactly b = (
+alone-exactly b start = (
   λ e. let h = and-iff _ _ .0 e in let k = and-iff _ _ .0 (h .1) in let l = and-iff (eqb (getD b 2 0) (getD b 2 0)) _ .0 (k .1) in let m = and-iff _ _ .0 (l .1) in
       record { whole = eqb-iff _ _ .0 (h .0); kind-right = kind-exactly _ .0 (k .0); byte3-right = eqb-iff _ _ .0 (m .0); check-right = eqb-iff _ _ .0 (m .1) },
   λ r. and-iff _ _ .1 (
@@ -221,10 +223,10 @@ alone-exactly b = (
   ),
 )
 
-pub payload-answers : (b : List ℕ) → Payload b (blockPayload b)
+pub payload-answers : (b : List ℕ) (start : ℕ) → Payload b start (blockPayload b start)
 unfolding blockPayload
-payload-answers b = go (eqb (length b) 512 && (isKind (getD b 2 0) && sound (getD b 2 0) b)) refl
+payload-answers b start = go (eqb (length b) 512 && (isKind (getD b 2 0) && sound (getD b 2 0) start b)) refl
   where
-    go : (c : Bool) → (eqb (length b) 512 && (isKind (getD b 2 0) && sound (getD b 2 0) b)) ≡ c → Payload b (cond c (take 504 (drop 4 b)) [])
-    go true e = bytes-4-to-507 (alone-exactly b .0 e)
-    go false e = empty-part (fails (alone-exactly b) e)
+    go : (c : Bool) → (eqb (length b) 512 && (isKind (getD b 2 0) && sound (getD b 2 0) start b)) ≡ c → Payload b start (cond c (take 504 (drop 4 b)) [])
+    go true e = bytes-4-to-507 (alone-exactly b start .0 e)
+    go false e = empty-part (fails (alone-exactly b start) e)

@@ -1,94 +1,76 @@
 -- "blocks packed and unpacked return the same records, with zero fill at most after them" (demand 2): a packed stream meets neither 1 nor 2,
 -- and unpacking it gives the payload, zero-filled.
 use mathlib.Core.Path.{_≡_, refl, ap, ap₂, sym, _∙_}
-use Prim.Native.Nat.{ℕ, zero, suc, _+_, _-_, _*_, _/_, _%_, _≤_, _<_}
+use Prim.Native.Nat.{ℕ, zero, suc, _+_, _-_, _*_, _/_, _≤_, _<_}
 use mathlib.Core.List.{List, [], _∷_, _++_, append-assoc, append-nil}
 use mathlib.Core.Bool.{Bool, true, false}
 use mathlib.Core.Option.{Option, none, some, Option·none-ne-some, Option·some-injective}
 use native.Mathlib.Omega.{arith}
-use native.Mathlib.Nat.{mod-eq-of-lt, sub-zero, add-zero, zero-add}
+use native.Mathlib.Nat.{sub-zero, add-zero, zero-add}
 use borrow.Author.Tests.{le-leb, leb-true, leb-false}
 use lib.Dec.{leb}
-use lib.ListN.{length, take, drop, getD, replicate, length-append, length-take, length-drop, length-replicate, replicate-append-replicate, take-append-drop, drop-of-length-le}
-use lib.Pow.{shr-shr}
-use lib.Bits.{bitXor}
-use lib.Seq.{length-take-le, take-at, drop-at, getD-append-add, take-all, drop-drop, take-append-seam}
+use lib.ListN.{length, take, drop, replicate, length-append, length-take, length-drop, length-replicate, replicate-append-replicate, take-append-drop, drop-of-length-le}
+use lib.Seq.{length-take-le, take-at, drop-at, take-all, drop-drop, take-append-seam}
 use Rattle.rules.specs.Records.{word}
-use Rattle.rules.specs.Blocks.{fnvStart, multiplied, fnv1a, word32, isKind, streamLength, block, streamBlocks, bytes32, checked, filled, packedBlock, packedBlocks, packed, payloadLength, payloads, unpacked}
+use Rattle.rules.specs.Blocks.{fnvStart, fnv1a, checkOf, isKind, streamLength, block, startOf, streamBlocks, checked, filled, packedBlock, packedBlocks, packed, payloadLength, payloads, unpacked}
 use Rattle.rules.specs.Answers.{answer, try, accept, packRefusal, unpackRefusal, Written, written, pack, unpack}
 use Rattle.rules.specs.declared.Answer.{Answer}
+use Rattle.laws.specs.Blocks.{filled-length, unchecked, unchecked-length, block-length, packed-length, check-of-packed}
 use Rattle.laws.specs.Faults.{need-iff, both-iff, and-iff, leb-iff, placed-iff, try-iff}
 use Rattle.theorems.specs.Streams.{length-exactly, RightBlock, blocks-exactly}
 
--- the check is a number of 32 bits
-fnv1a-small : (h : ℕ) (s : List ℕ) → h < 4294967296 → fnv1a h s < 4294967296
-unfolding fnv1a multiplied
-fnv1a-small h [] l = l
-fnv1a-small h (b ∷ bs) l = fnv1a-small (multiplied (bitXor b h)) bs (omega arith)
+-- the check that a packed block has is that of its bytes 0 to 507
+check-at : (kind start n : ℕ) (p : List ℕ) → length p ≤ 504 → checkOf (packedBlock kind start n p) ≡ fnv1a start (take 508 (packedBlock kind start n p))
+unfolding packedBlock checked
+check-at kind start n p l =
+    check-of-packed kind start n p l ∙ ap (fnv1a start) (sym (take-at (unchecked kind n p) _ 508 (unchecked-length kind n p l)))
 
-filled-length : (p : List ℕ) → length p ≤ 504 → length (filled p) ≡ 504
-unfolding filled
-filled-length p l = length-append p (replicate (504 - length p) 0) ∙ simp length-replicate (omega arith)
+-- the first block of blocks that are joined, and those after it
+block-first : (b r : List ℕ) → length b ≡ 512 → block (b ++ r) 0 ≡ b
+unfolding block
+block-first b r l = take-at b r 512 l
 
--- bytes 0 to 507 of a packed block
-abbrev unchecked : ℕ → ℕ → List ℕ → List ℕ
-unchecked kind n p = (n % 256 ∷ n / 256 % 256 ∷ kind ∷ 0 ∷ []) ++ filled p
+block-later : (b r : List ℕ) (i : ℕ) → length b ≡ 512 → block (b ++ r) (suc i) ≡ block r i
+unfolding block
+block-later b r i l = let c : 512 * suc i ≡ 512 + 512 * i = omega arith in rw (c, ← drop-drop (512 * i) 512 (b ++ r), drop-at b r 512 l)
 
-unchecked-length : (kind n : ℕ) (p : List ℕ) → length p ≤ 504 → length (unchecked kind n p) ≡ 508
-unchecked-length kind n p l = omega (arith, filled-length p l)
+-- where block i of a row of blocks starts, the first from a start
+startAfter : ℕ → List ℕ → ℕ → ℕ
+startAfter start s zero = start
+startAfter start s (suc i) = checkOf (block s i)
 
-block-length : (kind n : ℕ) (p : List ℕ) → length p ≤ 504 → length (packedBlock kind n p) ≡ 512
-unfolding packedBlock checked bytes32
-block-length kind n p l = length-append (unchecked kind n p) (bytes32 (fnv1a fnvStart (unchecked kind n p))) ∙ omega (arith, unchecked-length kind n p l)
+start-later : (start : ℕ) (b r : List ℕ) (i : ℕ) → length b ≡ 512 → startAfter (checkOf b) r i ≡ startAfter start (b ++ r) (suc i)
+unfolding startAfter
+start-later start b r zero l = ap checkOf (sym (block-first b r l))
+start-later start b r (suc i) l = ap checkOf (sym (block-later b r i l))
 
-past : (b c : List ℕ) (n k : ℕ) → length b ≡ n → getD (b ++ c) (n + k) 0 ≡ getD c k 0
-past b c n k l = rw (← l) (getD-append-add b c k 0)
-
--- four digits of base 256 give a number of 32 bits back
-digits : (h : ℕ) → h < 4294967296 → h % 256 + 256 * (h / 256 % 256) + 65536 * (h / 65536 % 256 + 256 * (h / 16777216 % 256)) ≡ h
-digits h m =
-    let c : h / 16777216 < 256 = omega arith in
-    let d : h / 16777216 % 256 ≡ h / 16777216 = mod-eq-of-lt c in
-    omega (arith, shr-shr h 8 8, shr-shr h 16 8)
-
-word32-at : (b : List ℕ) (h : ℕ) → length b ≡ 508 → h < 4294967296 → word32 (b ++ bytes32 h) 508 ≡ h
-unfolding word32 word bytes32
-word32-at b h l m = omega (arith, past b (bytes32 h) 508 0 l, past b (bytes32 h) 508 1 l, past b (bytes32 h) 508 2 l, past b (bytes32 h) 508 3 l, digits h m)
-
--- the check at the end of a checked block is that of the bytes before it
-check-at : (b : List ℕ) → length b ≡ 508 → word32 (checked b) 508 ≡ fnv1a fnvStart (take 508 (checked b))
-unfolding checked fnvStart
-check-at b l =
-    word32-at b (fnv1a 2166136261 b) l (fnv1a-small 2166136261 b (omega arith)) ∙ ap (fnv1a 2166136261) (sym (take-at b (bytes32 (fnv1a 2166136261 b)) 508 l))
+start-of-stream : (s : List ℕ) (i : ℕ) → startAfter fnvStart s i ≡ startOf s i
+unfolding startAfter startOf
+start-of-stream s zero = refl
+start-of-stream s (suc i) = refl
 
 -- block i of packed blocks that are numbered from n on
-block-of-packed : (kind k n : ℕ) (p : List ℕ) (i : ℕ) → i < k → block (packedBlocks kind k n p) i ≡ packedBlock kind (n + i) (take 504 (drop (504 * i) p))
-unfolding packedBlocks block
-block-of-packed kind zero n p i l = absurd (omega arith)
-block-of-packed kind (suc k) n p zero l =
-    rw add-zero (take-at (packedBlock kind n (take 504 p)) _ 512 (block-length kind n (take 504 p) (rw length-take (omega arith))))
-block-of-packed kind (suc k) n p (suc i) l =
-    let b : List ℕ = packedBlock kind n (take 504 p) in
-    let r : List ℕ = packedBlocks kind k (suc n) (drop 504 p) in
-    let z : length b ≡ 512 = block-length kind n (take 504 p) (rw length-take (omega arith)) in
-    let c : 512 * suc i ≡ 512 + 512 * i = omega arith in
+block-of-packed : (kind k start n : ℕ) (p : List ℕ) (i : ℕ) → i < k
+    → block (packedBlocks kind k start n p) i ≡ packedBlock kind (startAfter start (packedBlocks kind k start n p) i) (n + i) (take 504 (drop (504 * i) p))
+unfolding packedBlocks startAfter
+block-of-packed kind zero start n p i l = absurd (omega arith)
+block-of-packed kind (suc k) start n p zero l =
+    rw add-zero (block-first (packedBlock kind start n (take 504 p)) _ (block-length kind start n (take 504 p) (rw length-take (omega arith))))
+block-of-packed kind (suc k) start n p (suc i) l =
+    let b : List ℕ = packedBlock kind start n (take 504 p) in
+    let r : List ℕ = packedBlocks kind k (checkOf b) (suc n) (drop 504 p) in
+    let z : length b ≡ 512 = block-length kind start n (take 504 p) (rw length-take (omega arith)) in
     let d : 504 + 504 * i ≡ 504 * suc i = omega arith in
     let m : suc n + i ≡ n + suc i = omega arith in
-    rw (c, ← drop-drop (512 * i) 512 (b ++ r), drop-at b r 512 z, block-of-packed kind k (suc n) (drop 504 p) i (omega arith), m, drop-drop (504 * i) 504 p, d)
+    block-later b r i z
+    ∙ block-of-packed kind k (checkOf b) (suc n) (drop 504 p) i (omega arith)
+    ∙ rw (start-later start b r i z, m, drop-drop (504 * i) 504 p, d)
 
 -- a packed block has nothing wrong
-right-block : (kind n : ℕ) (s p : List ℕ) → block s n ≡ packedBlock kind n p → length p ≤ 504 → n < 65536 → RightBlock kind s n
+right-block : (kind n : ℕ) (s p : List ℕ) → block s n ≡ packedBlock kind (startOf s n) n p → length p ≤ 504 → n < 65536 → RightBlock kind s n
 unfolding packedBlock checked word
 right-block kind n s p e l m =
-    record { number-right = rw e (omega arith); kind-right = rw e; byte3-right = rw e; check-right = rw e (check-at (unchecked kind n p) (unchecked-length kind n p l)) }
-
-blocks-length : (kind k n : ℕ) (p : List ℕ) → length (packedBlocks kind k n p) ≡ 512 * k
-unfolding packedBlocks
-blocks-length kind zero n p = refl
-blocks-length kind (suc k) n p =
-    length-append (packedBlock kind n (take 504 p)) (packedBlocks kind k (suc n) (drop 504 p))
-    ∙ ap₂ _+_ (block-length kind n (take 504 p) (rw length-take (omega arith))) (blocks-length kind k (suc n) (drop 504 p))
-    ∙ omega arith
+    record { number-right = rw e (omega arith); kind-right = rw e; byte3-right = rw e; check-right = rw e (check-at kind (startOf s n) n p l) }
 
 -- the number of blocks of a payload, and of the zeros after it
 abbrev pub blockCount : List ℕ → ℕ
@@ -96,10 +78,6 @@ blockCount payload = (length payload + 503) / 504
 
 abbrev pub fillCount : List ℕ → ℕ
 fillCount payload = 504 * blockCount payload - length payload
-
-pub packed-length : (kind : ℕ) (payload : List ℕ) → length (packed kind payload) ≡ 512 * blockCount payload
-unfolding packed
-packed-length kind payload = blocks-length kind (blockCount payload) 0 payload
 
 -- "with zero fill at most after them": less than a block's payload
 pub fill-small : (payload : List ℕ) → fillCount payload < 504
@@ -124,12 +102,12 @@ packed-meets-neither kind payload e =
       length-exactly (packed kind payload) .1 (record { some-bytes = omega arith; at-most = omega arith; whole-blocks = rw n (omega arith) }),
       blocks-exactly kind (packed kind payload) .1 λ i l.
           right-block kind i (packed kind payload) (take 504 (drop (504 * i) payload))
-          (block-of-packed kind (blockCount payload) 0 payload i (omega arith) ∙ rw zero-add) (rw length-take (omega arith)) (omega arith),
+          (block-of-packed kind (blockCount payload) fnvStart 0 payload i (omega arith) ∙ rw (start-of-stream, zero-add)) (rw length-take (omega arith)) (omega arith),
     )
 
-payload-of-block : (kind n : ℕ) (p r : List ℕ) → length p ≤ 504 → take 504 (drop 4 (packedBlock kind n p ++ r)) ≡ filled p
+payload-of-block : (kind start n : ℕ) (p r : List ℕ) → length p ≤ 504 → take 504 (drop 4 (packedBlock kind start n p ++ r)) ≡ filled p
 unfolding packedBlock checked
-payload-of-block kind n p r l = rw append-assoc (take-at (filled p) _ 504 (filled-length p l))
+payload-of-block kind start n p r l = rw append-assoc (take-at (filled p) _ 504 (filled-length p l))
 
 fill-long : (k : ℕ) (p : List ℕ) → 504 ≤ length p → filled (take 504 p) ++ (drop 504 p ++ replicate (504 * k - length (drop 504 p)) 0) ≡ p ++ replicate (504 * suc k - length p) 0
 unfolding filled
@@ -151,16 +129,16 @@ fill-more k p = go (leb 504 (length p)) refl
     go true b = fill-long k p (leb-true 504 (length p) b)
     go false b = fill-short k p (leb-false 504 (length p) b)
 
-payloads-packed : (kind k n : ℕ) (p : List ℕ) → length p ≤ 504 * k → payloads k (packedBlocks kind k n p) ≡ p ++ replicate (504 * k - length p) 0
+payloads-packed : (kind k start n : ℕ) (p : List ℕ) → length p ≤ 504 * k → payloads k (packedBlocks kind k start n p) ≡ p ++ replicate (504 * k - length p) 0
 unfolding payloads packedBlocks
-payloads-packed kind zero n [] l = refl
-payloads-packed kind zero n (x ∷ xs) l = absurd (omega arith)
-payloads-packed kind (suc k) n p l =
-    let b : List ℕ = packedBlock kind n (take 504 p) in
-    let r : List ℕ = packedBlocks kind k (suc n) (drop 504 p) in
+payloads-packed kind zero start n [] l = refl
+payloads-packed kind zero start n (x ∷ xs) l = absurd (omega arith)
+payloads-packed kind (suc k) start n p l =
+    let b : List ℕ = packedBlock kind start n (take 504 p) in
+    let r : List ℕ = packedBlocks kind k (checkOf b) (suc n) (drop 504 p) in
     let m : length (take 504 p) ≤ 504 = rw length-take (omega arith) in
-    ap₂ _++_ (payload-of-block kind n (take 504 p) r m)
-    (ap (payloads k) (drop-at b r 512 (block-length kind n (take 504 p) m)) ∙ payloads-packed kind k (suc n) (drop 504 p) (rw length-drop (omega arith)))
+    ap₂ _++_ (payload-of-block kind start n (take 504 p) r m)
+    (ap (payloads k) (drop-at b r 512 (block-length kind start n (take 504 p) m)) ∙ payloads-packed kind k (checkOf b) (suc n) (drop 504 p) (rw length-drop (omega arith)))
     ∙ fill-more k p
 
 -- the round trip of the definitions
@@ -168,7 +146,7 @@ pub unpacked-packed : (kind : ℕ) (payload : List ℕ) → unpacked (packed kin
 unfolding unpacked packed
 unpacked-packed kind payload =
     let c : length (packed kind payload) / 512 ≡ blockCount payload = omega (arith, packed-length kind payload) in
-    ap (λ (k : ℕ). payloads k (packed kind payload)) c ∙ payloads-packed kind (blockCount payload) 0 payload (omega arith)
+    ap (λ (k : ℕ). payloads k (packed kind payload)) c ∙ payloads-packed kind (blockCount payload) fnvStart 0 payload (omega arith)
 
 -- the bytes that a call wrote
 abbrev pub bytesWritten : Written → List ℕ

@@ -11,7 +11,7 @@ use lib.Seq.{getD-take, getD-drop}
 use lib.Dec.{eqb}
 use borrow.Author.Tests.{eqb-true, eqb-false}
 use Rattle.rules.specs.Records.{word, row, heads}
-use Rattle.rules.specs.Blocks.{fnv1a, fnvStart, word32, sound, streamLength, block, blockRight, streamBlocks}
+use Rattle.rules.specs.Blocks.{fnv1a, fnvStart, word32, checkOf, sound, streamLength, block, startOf, blockRight, streamBlocks}
 use Rattle.laws.specs.Faults.{need-iff, every-in, in-every, and-iff, eqb-iff, leb-iff, In, here, later}
 
 -- 1: "A stream's length is zero, above 65,536 or no multiple of 512." None of these:
@@ -28,12 +28,16 @@ length-exactly s = (
   λ w. need-iff {A = ℕ} _ 0 .1 (and-iff _ _ .1 (leb-iff _ _ .1 (w .some-bytes), and-iff _ _ .1 (leb-iff _ _ .1 (w .at-most), eqb-iff _ _ .1 (w .whole-blocks)))),
 )
 
--- 2: "A block has a wrong number, kind, byte 3 or check". Block n of a stream of a kind has none of these wrong:
-pub record RightBlock (kind : ℕ) (s : List ℕ) (n : ℕ) : Type 0 where
+-- 2: "A block has a wrong number, kind, byte 3 or check". Block n of a stream of a kind has none of these wrong, where its check starts from a number:
+pub record RightFrom (start kind : ℕ) (s : List ℕ) (n : ℕ) : Type 0 where
   pub number-right : word (block s n) 0 ≡ n
   pub kind-right : getD (block s n) 2 0 ≡ kind
   pub byte3-right : getD (block s n) 3 0 ≡ 0
-  pub check-right : word32 (block s n) 508 ≡ fnv1a fnvStart (take 508 (block s n))
+  pub check-right : checkOf (block s n) ≡ fnv1a start (take 508 (block s n))
+
+-- and it starts where block n of the stream starts (`start-bytes`)
+abbrev pub RightBlock : ℕ → List ℕ → ℕ → Type 0
+RightBlock kind s n = RightFrom (startOf s n) kind s n
 
 pub block-exactly : (kind : ℕ) (s : List ℕ) (n : ℕ) → (blockRight kind s n ≡ true) ↔ RightBlock kind s n
 unfolding blockRight sound
@@ -48,9 +52,18 @@ pub block-byte : (s : List ℕ) (n x : ℕ) → x < 512 → getD (block s n) x 0
 unfolding block
 block-byte s n x l = getD-take 512 (drop (512 * n) s) x 0 l ∙ getD-drop (512 * n) s x 0
 
-pub check-bytes : (b : List ℕ) → word32 b 508 ≡ getD b 508 0 + 256 * getD b 509 0 + 65536 * getD b 510 0 + 16777216 * getD b 511 0
-unfolding word32 word
+pub check-bytes : (b : List ℕ) → checkOf b ≡ getD b 508 0 + 256 * getD b 509 0 + 65536 * getD b 510 0 + 16777216 * getD b 511 0
+unfolding checkOf word32 word
 check-bytes b = omega arith
+
+-- "The check of each block now starts from the check of the block before it; block 0 still starts from 2166136261." (02 b)
+pub start-bytes : (s : List ℕ) → (startOf s 0 ≡ 2166136261)
+    × ((n : ℕ) → startOf s (suc n) ≡ getD s (512 * n + 508) 0 + 256 * getD s (512 * n + 509) 0 + 65536 * getD s (512 * n + 510) 0 + 16777216 * getD s (512 * n + 511) 0)
+unfolding startOf fnvStart
+start-bytes s = (
+  refl,
+  λ n. rw (check-bytes (block s n), block-byte s n 508 (omega arith), block-byte s n 509 (omega arith), block-byte s n 510 (omega arith), block-byte s n 511 (omega arith)),
+)
 
 -- the numbers in a row
 pub row-in : (k p n : ℕ) → p ≤ n → n < p + k → In n (row k p)

@@ -6,12 +6,13 @@ use Prim.Native.Nat.{ℕ, zero, suc, _+_, _*_, _/_, _%_, _≤_, _<_}
 use mathlib.Core.List.{List, [], _∷_, _++_}
 use native.Mathlib.Omega.{arith}
 use native.Mathlib.Nat.{add-assoc, add-zero, zero-add, suc-add}
-use lib.ListN.{length, getD, take, drop, length-append, length-take, length-drop, take-append-drop, List·getD-append}
+use lib.ListN.{length, getD, take, drop, length-take, length-drop, take-append-drop, List·getD-append}
 use lib.Seq.{length-take-le, take-all, take-nil, take-add, take-take, drop-drop, getD-take, getD-drop, getD-append-add, ext-getD}
 use Rattle.rules.specs.Records.{base, byteOf, word, kindOf, fieldA, fieldB, fieldC, fieldD, recordCount, recordsFrom, units, textOf, paddingOf}
 use Rattle.rules.specs.Blocks.{payloads, unpacked}
 use Rattle.rules.specs.Lexeme.{lowest, highest}
 use Rattle.rules.specs.Templates.{variable, fieldNumbers}
+use Rattle.laws.specs.Blocks.{unpacked-length}
 use Rattle.theorems.specs.Streams.{WellSized}
 
 -- record i of the stream s is the 8 bytes of u from `at` on, by whichever reader; a byte past the end is 0
@@ -42,17 +43,9 @@ pub record RecordsUnpacked (s : List ℕ) : Type 0 where
   pub in-a-row : (n i : ℕ) → recordsFrom s n i ≡ take (8 * n) (drop (8 * i) (unpacked s))
   pub each : (i : ℕ) → ReadAt s i (unpacked s) (8 * i)
 
--- the payload of k blocks; its byte x of block b, and 0 past the end
+-- byte x of block b's payload, and 0 past the end
 block-payload-length : (s : List ℕ) → 512 ≤ length s → length (take 504 (drop 4 s)) ≡ 504
 block-payload-length s l = length-take-le 504 (drop 4 s) (rw length-drop (omega arith))
-
-payloads-length : (k : ℕ) (s : List ℕ) → length s ≡ 512 * k → length (payloads k s) ≡ 504 * k
-unfolding payloads
-payloads-length zero s l = refl
-payloads-length (suc k) s l =
-    length-append (take 504 (drop 4 s)) (payloads k (drop 512 s))
-    ∙ ap₂ _+_ (block-payload-length s (omega arith)) (payloads-length k (drop 512 s) (rw length-drop (omega arith)))
-    ∙ omega arith
 
 payload-byte : (k b x : ℕ) (s : List ℕ) → length s ≡ 512 * k → x < 504 → getD (payloads k s) (504 * b + x) 0 ≡ getD s (512 * b + 4 + x) 0
 unfolding payloads
@@ -74,15 +67,15 @@ payload-byte (suc k) (suc b) x s l m =
     ∙ ap (λ (n : ℕ). getD s n 0) f
 
 -- what is left of a first part
-drop-take : (m n : ℕ) (l : List ℕ) → drop m (take (m + n) l) ≡ take n (drop m l)
+pub drop-take : (m n : ℕ) (l : List ℕ) → drop m (take (m + n) l) ≡ take n (drop m l)
 drop-take zero n l = rw zero-add
 drop-take (suc m) n [] = rw suc-add (sym (take-nil n))
 drop-take (suc m) n (x ∷ l) = rw suc-add (drop-take m n l)
 
 module _ (s : List ℕ) (w : length s % 512 ≡ 0) where
-  unpacked-length : length (unpacked s) ≡ 8 * recordCount s
-  unfolding unpacked recordCount
-  unpacked-length = payloads-length (length s / 512) s (omega arith) ∙ omega arith
+  eight-bytes-each : length (unpacked s) ≡ 8 * recordCount s
+  unfolding recordCount
+  eight-bytes-each = unpacked-length s ∙ omega arith
 
   bytes-of-payload : (b x : ℕ) → x < 504 → getD (unpacked s) (504 * b + x) 0 ≡ getD s (512 * b + 4 + x) 0
   unfolding unpacked
@@ -101,7 +94,7 @@ module _ (s : List ℕ) (w : length s % 512 ≡ 0) where
   -- the whole of record i: past the end of the stream both are cut short
   record-length : (i : ℕ) → length (take 8 (drop (base i) s)) ≡ length (take 8 (drop (8 * i) (unpacked s)))
   unfolding base recordCount
-  record-length i = simp (length-take, length-drop) (omega (arith, unpacked-length))
+  record-length i = simp (length-take, length-drop) (omega (arith, eight-bytes-each))
 
   record-bytes : (i : ℕ) → take 8 (drop (base i) s) ≡ take 8 (drop (8 * i) (unpacked s))
   record-bytes i = ext-getD 0 _ _ (record-length i) λ j l.
@@ -117,7 +110,7 @@ module _ (s : List ℕ) (w : length s % 512 ≡ 0) where
       rw (e, take-add 8 (8 * n) (drop (8 * i) (unpacked s)), drop-drop, f) (ap₂ _++_ (record-bytes i) (records-in-a-row n (suc i)))
 
   records-end-to-end : recordsFrom s (recordCount s) 0 ≡ unpacked s
-  records-end-to-end = records-in-a-row (recordCount s) 0 ∙ take-all (8 * recordCount s) (unpacked s) (omega (arith, unpacked-length))
+  records-end-to-end = records-in-a-row (recordCount s) 0 ∙ take-all (8 * recordCount s) (unpacked s) (omega (arith, eight-bytes-each))
 
   -- each reader by itself
   byte-of : (i j : ℕ) → j < 8 → byteOf s i j ≡ getD (unpacked s) (8 * i + j) 0
@@ -159,4 +152,4 @@ module _ (s : List ℕ) (w : length s % 512 ≡ 0) where
 pub records-unpacked : (s : List ℕ) → WellSized s → RecordsUnpacked s
 records-unpacked s h =
     let w = h .whole-blocks in
-    record { end-to-end = records-end-to-end s w; payload-bytes = bytes-of-payload s w; eight-each = unpacked-length s w; in-a-row = records-in-a-row s w; each = read-at s w }
+    record { end-to-end = records-end-to-end s w; payload-bytes = bytes-of-payload s w; eight-each = eight-bytes-each s w; in-a-row = records-in-a-row s w; each = read-at s w }

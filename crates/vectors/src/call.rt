@@ -5,7 +5,7 @@ use crate::print::labelled;
 use crate::print::text;
 use rules::Answer;
 
-// What a call is given besides the streams: a number (the fuel, the kind), and the lengths of output and scratch.
+// What a call is given besides the streams: a number (the fuel, the kind, the start of a check), and the lengths of output and scratch.
 pub struct Lent {
     pub number: u32,
     pub room: usize,
@@ -46,7 +46,7 @@ fn dispatch(
     let kind = (number % 256) as u8;
     match call {
         10 => hash(b" ", first),
-        11 => block_payload(first),
+        11 => block_payload(first, number),
         12 => pack(kind, first, out),
         13 => unpack(kind, first, out),
         14 => evaluate(first, second, third, number, out, scratch),
@@ -55,8 +55,8 @@ fn dispatch(
 }
 
 // The length of what is handed back, and its bytes.
-fn block_payload(block: &[u8]) {
-    let payload = feed::block_payload(block);
+fn block_payload(block: &[u8], start: u32) {
+    let payload = feed::block_payload(block, start);
     labelled(b" ", payload.len());
     hash(b"  bytes-fnv=", payload);
 }

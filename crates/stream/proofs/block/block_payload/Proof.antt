@@ -2,7 +2,7 @@
 use Prim.Native.Nat.{ℕ, _+_}
 use mathlib.Core.Path.{refl, ap, sym, _∙_}
 use native.Mathlib.Omega.{arith}
-use Rattle.stream.proofs.BlockLaws.{single-length, single-start, payload-single, payload-none}
+use Rattle.stream.proofs.BlockLaws.{single-length, single-begins, payload-single, payload-none}
 use borrow.Author.Needs.{needs}
 use Rattle.stream.proofs.block.block_payload.Statement.{statement}
 use Rattle.stream.proofs.block.block_payload.Tie as tie
@@ -17,7 +17,7 @@ part-result-start : tie.Need-part-result-start
 part-result-start c = search needs
 
 part-result-end : tie.Need-part-result-end
-part-result-end c = omega (arith, single-length (c .before .before .before .args .block .now) (sym (c .before .is-single .ensures) ∙ c .if1 .taken))
+part-result-end c = omega (arith, single-length (c .before .before .before .args .block .now) (c .before .before .before .args .start) (sym (c .before .is-single .ensures) ∙ c .if1 .taken))
 
 sub-result-2 : tie.Need-sub-result-2
 sub-result-2 c = search needs
@@ -30,14 +30,15 @@ part-result-end-2 c = search needs
 
 returns : tie.Need-returns
 returns c =
-    let block = c .before .before .before .before .args .block in
+    let args = c .before .before .before .before .args in
+    let block = args .block in
     let e = sym (c .before .before .is-single .ensures) ∙ c .before .if1 .taken in (
-      payload-single (block .now) e,
-      ap {B = ℕ × ℕ} (λ (at : ℕ). (block .ptr .0, at + block .ptr .1)) (single-start (block .now) e),
+      payload-single (block .now) (args .start) e,
+      ap {B = ℕ × ℕ} (λ (at : ℕ). (block .ptr .0, at + block .ptr .1)) (single-begins (block .now) (args .start) e),
     )
 
 returns-2 : tie.Need-returns-2
-returns-2 c = (payload-none _ (sym (c .before .before .is-single .ensures) ∙ c .before .if1 .left), refl)
+returns-2 c = (payload-none _ _ (sym (c .before .before .is-single .ensures) ∙ c .before .if1 .left), refl)
 
 pub block-payload-spec : {M : Type 1} → statement M
 block-payload-spec =

@@ -1,4 +1,5 @@
-use Rattle.rules.specs.Blocks.{fnvStart}
+use mathlib.Core.Path.{_∙_}
+use Rattle.stream.proofs.BlockLaws.{sound-by}
 use borrow.Author.Needs.{needs}
 use Rattle.stream.proofs.block.is_sound.Statement.{statement}
 use Rattle.stream.proofs.block.is_sound.Tie as tie
@@ -16,11 +17,10 @@ fnv1a-requires : tie.Need-fnv1a-requires
 fnv1a-requires c κs = search needs
 
 is-sound-by-requires : tie.Need-is-sound-by-requires
-unfolding fnvStart
-is-sound-by-requires c κs = (search needs, c .fnv1a .ensures)
+is-sound-by-requires c κs = search needs
 
 returns : tie.Need-returns
-returns c = search needs
+returns c = c .is-sound-by .ensures ∙ sound-by _ _ _ _ (c .before .fnv1a .ensures)
 
 pub is-sound-spec : {M : Type 1} → statement M
 is-sound-spec =

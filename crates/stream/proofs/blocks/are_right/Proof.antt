@@ -1,40 +1,14 @@
--- Each block is judged by the check that was made of its own bytes.
-use mathlib.Core.Path.{ap, sym, _∙_}
-use Rattle.rules.specs.Blocks.{fnvStart, fnv1a}
+-- Each block is judged by its own check.
 use Rattle.stream.proofs.BlockLaws.{told-right, told-wrong}
 use borrow.Author.Needs.{needs}
 use Rattle.stream.proofs.blocks.are_right.Statement.{statement}
 use Rattle.stream.proofs.blocks.are_right.Tie as tie
 
-covered-requires : tie.Need-covered-requires
-covered-requires c κs = search needs
-
-add-covered : tie.Need-add-covered
-add-covered c = search needs
-
-covered-requires-2 : tie.Need-covered-requires-2
-covered-requires-2 c κs = search needs
-
-add-covered-2 : tie.Need-add-covered-2
-add-covered-2 c = search needs
-
-covered-requires-3 : tie.Need-covered-requires-3
-covered-requires-3 c κs = search needs
-
-add-covered-3 : tie.Need-add-covered-3
-add-covered-3 c = search needs
-
-covered-requires-4 : tie.Need-covered-requires-4
-covered-requires-4 c κs = search needs
-
-fnv1a-four-requires : tie.Need-fnv1a-four-requires
-fnv1a-four-requires c κs =
-    let c2 = c .before .before in
-    let long = sym (c2 .before .covered .ensures .1) in
-    (c2 .covered2 .ensures .1 ∙ long, c .before .covered3 .ensures .1 ∙ long, c .covered4 .ensures .1 ∙ long)
+checks-from-requires : tie.Need-checks-from-requires
+checks-from-requires c κs = search needs
 
 is-right-by-requires : tie.Need-is-right-by-requires
-is-right-by-requires c κs = (search needs, c .fnv1a-four .ensures .a ∙ ap (fnv1a fnvStart) (c .before .before .before .before .covered .ensures .0))
+is-right-by-requires c κs = (search needs, c .checks-from .ensures .a)
 
 returns : tie.Need-returns
 returns c = simp (told-wrong _ _ (c .before .is-right-by .ensures) (c .if1 .taken))
@@ -43,9 +17,7 @@ add-is-right-by : tie.Need-add-is-right-by
 add-is-right-by c = search needs
 
 is-right-by-requires-2 : tie.Need-is-right-by-requires-2
-is-right-by-requires-2 c κs =
-    let four = c .before .before in
-    (search needs, four .fnv1a-four .ensures .b ∙ ap (fnv1a fnvStart) (four .before .before .before .covered2 .ensures .0))
+is-right-by-requires-2 c κs = (search needs, c .before .before .checks-from .ensures .b)
 
 returns-2 : tie.Need-returns-2
 returns-2 c =
@@ -56,9 +28,7 @@ add-is-right-by-2 : tie.Need-add-is-right-by-2
 add-is-right-by-2 c = search needs
 
 is-right-by-requires-3 : tie.Need-is-right-by-requires-3
-is-right-by-requires-3 c κs =
-    let four = c .before .before .before .before in
-    (search needs, four .fnv1a-four .ensures .c ∙ ap (fnv1a fnvStart) (four .before .before .covered3 .ensures .0))
+is-right-by-requires-3 c κs = (search needs, c .before .before .before .before .checks-from .ensures .c)
 
 returns-3 : tie.Need-returns-3
 returns-3 c =
@@ -70,9 +40,7 @@ add-is-right-by-3 : tie.Need-add-is-right-by-3
 add-is-right-by-3 c = search needs
 
 is-right-by-requires-4 : tie.Need-is-right-by-requires-4
-is-right-by-requires-4 c κs =
-    let four = c .before .before .before .before .before .before in
-    (search needs, four .fnv1a-four .ensures .d ∙ ap (fnv1a fnvStart) (four .before .covered4 .ensures .0))
+is-right-by-requires-4 c κs = (search needs, c .before .before .before .before .before .before .checks-from .ensures .d)
 
 returns-4 : tie.Need-returns-4
 returns-4 c =
@@ -85,14 +53,7 @@ pub are-right-spec : {M : Type 1} → statement M
 are-right-spec =
     tie.close
     (tie.spec
-    covered-requires
-    add-covered
-    covered-requires-2
-    add-covered-2
-    covered-requires-3
-    add-covered-3
-    covered-requires-4
-    fnv1a-four-requires
+    checks-from-requires
     is-right-by-requires
     returns
     add-is-right-by

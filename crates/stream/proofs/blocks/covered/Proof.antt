@@ -1,13 +1,12 @@
-use Rattle.stream.proofs.BlockLaws.{covered-part, covered-length}
+use mathlib.Core.Path.{ap}
+use native.Mathlib.Omega.{arith}
+use lib.ListN.{take, length-take}
 use borrow.Author.Needs.{needs}
 use Rattle.stream.proofs.blocks.covered.Statement.{statement}
 use Rattle.stream.proofs.blocks.covered.Tie as tie
 
-mul-from : tie.Need-mul-from
-mul-from c = search needs
-
-add-to : tie.Need-add-to
-add-to c = search needs
+block-at-requires : tie.Need-block-at-requires
+block-at-requires c κs = search needs
 
 sub-result : tie.Need-sub-result
 sub-result c = search needs
@@ -19,8 +18,8 @@ part-result-end : tie.Need-part-result-end
 part-result-end c = search needs
 
 returns : tie.Need-returns
-returns c = (covered-part (c .before .args .s .now) (c .before .args .n), covered-length _ _ (c .before .pre))
+returns c = (ap (take 508) (c .before .block-at .ensures .0), simp length-take (omega arith))
 
 pub covered-spec : {M : Type 1} → statement M
 covered-spec =
-    tie.close (tie.spec mul-from add-to sub-result part-result-start part-result-end returns)
+    tie.close (tie.spec block-at-requires sub-result part-result-start part-result-end returns)

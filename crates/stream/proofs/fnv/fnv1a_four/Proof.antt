@@ -3,7 +3,7 @@ use Prim.Native.Nat.{_-_, _≤_}
 use mathlib.Core.Path.{_≡_, refl}
 use native.Mathlib.Omega.{arith}
 use lib.ListN.{length, drop}
-use Rattle.rules.specs.Blocks.{fnvStart, fnv1a}
+use Rattle.rules.specs.Blocks.{fnv1a}
 use Rattle.stream.proofs.FnvLaws.{fnv-next, fnv-done}
 use borrow.Author.Needs.{needs}
 use Rattle.stream.proofs.fnv.fnv1a_four.Statement.{statement}
@@ -11,13 +11,12 @@ use Rattle.stream.proofs.fnv.fnv1a_four.Tie as tie
 
 abbrev Inv-loop : tie.InvT-loop
 Inv-loop a b c d w₀ x₀ y₀ z₀ i₀ w x y z i =
-    (i ≤ length a) × (fnv1a w (drop i a) ≡ fnv1a fnvStart a) × (fnv1a x (drop i b) ≡ fnv1a fnvStart b) × (fnv1a y (drop i c) ≡ fnv1a fnvStart c) × (fnv1a z (drop i d) ≡ fnv1a fnvStart d)
+    (i ≤ length a) × (fnv1a w (drop i a) ≡ fnv1a w₀ a) × (fnv1a x (drop i b) ≡ fnv1a x₀ b) × (fnv1a y (drop i c) ≡ fnv1a y₀ c) × (fnv1a z (drop i d) ≡ fnv1a z₀ d)
 
 abbrev μ-loop : tie.MeasureT-loop
 μ-loop a b c d w₀ x₀ y₀ z₀ i₀ w x y z i = length a - i
 
 loop-holds : tie.Need-loop-holds Inv-loop μ-loop
-unfolding fnvStart
 loop-holds c = (omega arith, refl, refl, refl, refl)
 
 shared-slice-read-step : tie.Need-shared-slice-read-step Inv-loop μ-loop

@@ -2,8 +2,9 @@
 use mathlib.Core.Path.{sym, _∙_}
 use borrow.Author.Tests.{not-true, not-false}
 use Rattle.rules.specs.Answers.{pack}
+use Rattle.laws.specs.Blocks.{packed-length}
 use Rattle.stream.proofs.BlockLaws.{found, unfound}
-use Rattle.stream.proofs.PackLaws.{refused-leaves, finished-leaves, packed-length, pack-length, pack-kind, pack-room, pack-fits}
+use Rattle.stream.proofs.PackLaws.{refused-leaves, finished-leaves, pack-length, pack-kind, pack-room, pack-fits}
 use borrow.Author.Needs.{needs}
 use Rattle.stream.proofs.pack.pack.Statement.{statement}
 use Rattle.stream.proofs.pack.pack.Tie as tie

@@ -1,6 +1,6 @@
 -- Each call fills the beginning of the rest after what stands already: `block-put` says what stands in the end.
 use mathlib.Core.Path.{refl}
-use Rattle.rules.specs.Blocks.{fnvStart, bytes32}
+use Rattle.rules.specs.Blocks.{bytes32}
 use Rattle.stream.proofs.PackLaws.{block-put}
 use borrow.Author.Needs.{needs}
 use Rattle.stream.proofs.pack.put_block.Statement.{statement}
@@ -85,7 +85,7 @@ same-length : tie.Need-same-length
 same-length c = search needs
 
 returns : tie.Need-returns
-unfolding fnvStart bytes32
+unfolding bytes32
 returns c =
     let c2 = c .before .before in
     let c4 = c2 .before .before in
@@ -93,7 +93,7 @@ returns c =
     let c13 = c9 .before .before .before .before in
     let c17 = c13 .before .before .before .before in
     let c21 = c17 .before .before .before .before in
-    block-put (c21 .args .out .now) (c17 .put-four .last .1 .1 .1 .1 .0) _ _ _ (c13 .copy-into .last .1 .0) (c9 .put-zeros .last .1 .0) (c2 .put-four2 .last .1 .1 .1 .1 .0) _ _ _ _
+    block-put (c21 .args .out .now) (c17 .put-four .last .1 .1 .1 .1 .0) _ _ _ (c13 .copy-into .last .1 .0) (c9 .put-zeros .last .1 .0) (c2 .put-four2 .last .1 .1 .1 .1 .0) _ _ _ _ _
     (c21 .pre .0) (c21 .pre .1) (c17 .put-four .ensures) refl (c13 .copy-into .ensures) refl (c9 .put-zeros .ensures) (c4 .fnv1a .ensures) refl (c2 .put-four2 .ensures)
 
 pub put-block-spec : {M : Type 1} → statement M

@@ -3,24 +3,25 @@ use Prim.Native.Nat.{_+_, _*_, _/_, _-_, _≤_}
 use mathlib.Core.Path.{_≡_, refl, _∙_}
 use native.Mathlib.Omega.{arith}
 use lib.ListN.{length}
-use Rattle.rules.specs.Blocks.{packedBlocks}
-use Rattle.stream.proofs.PackLaws.{begun, rest-length, blocks-turn, blocks-all}
+use Rattle.rules.specs.Blocks.{fnvStart}
+use Rattle.stream.proofs.PackLaws.{Chain, rest-length, chain-begins, chain-turn, chain-all}
 use borrow.Author.Needs.{needs}
 use Rattle.stream.proofs.pack.put_blocks.Statement.{statement}
 use Rattle.stream.proofs.pack.put_blocks.Tie as tie
 
 abbrev Inv-loop : tie.InvT-loop
-Inv-loop kind payload out₀ blocks n₀ out n = (n ≤ blocks) × (blocks ≡ (length payload + 503) / 504) × (length out ≡ length out₀) × (out ≡ begun out₀ (packedBlocks kind n 0 payload))
+Inv-loop kind payload out₀ blocks start₀ n₀ out start n =
+    (n ≤ blocks) × (blocks ≡ (length payload + 503) / 504) × (length out ≡ length out₀) × Chain kind payload out₀ out blocks start n
 
 abbrev μ-loop : tie.MeasureT-loop
-μ-loop kind payload out₀ blocks n₀ out n = blocks - n
+μ-loop kind payload out₀ blocks start₀ n₀ out start n = blocks - n
 
 add-blocks : tie.Need-add-blocks Inv-loop μ-loop
 add-blocks c = search needs
 
 loop-holds : tie.Need-loop-holds Inv-loop μ-loop
-unfolding packedBlocks
-loop-holds c = (omega arith, refl, refl, refl)
+unfolding fnvStart
+loop-holds c = (omega arith, refl, refl, chain-begins _ _ _)
 
 mul-from : tie.Need-mul-from Inv-loop μ-loop
 mul-from c = search needs
@@ -62,13 +63,26 @@ loop-less : tie.Need-loop-less Inv-loop μ-loop
 loop-less c = search needs
 
 loop-again : tie.Need-loop-again Inv-loop μ-loop
-loop-again c = (omega arith, refl, rest-length (512 * c .before .before .before .before .before .before .before .loop .n) (c .before .before .before .before .before .before .before .loop .out) (c .before .before .put-block .last .1 .1 .1 .0) (c .before .before .put-block .kept .1 .1 .1 .0) ∙ c .before .before .before .before .before .before .before .loop .inv .2, blocks-turn _ (c .before .before .before .before .before .before .before .loop .n) (c .before .before .before .before .before .least .result) (c .before .before .before .before .before .before .before .before .before .before .args .payload .now) (c .before .before .before .before .before .before .before .before .before .before .args .out .now) (c .before .before .before .before .before .before .before .loop .out) (c .before .before .put-block .last .1 .1 .1 .0) (c .before .before .before .before .before .least .ensures) (omega (arith, c .before .before .before .before .before .before .before .loop .inv .1, c .before .before .before .before .before .before .loop-test .taken)) (c .before .before .before .before .before .before .before .loop .inv .3) (c .before .before .put-block .ensures))
+loop-again c =
+    let c2 = c .before .before in
+    let c5 = c2 .before .before .before in
+    let test = c5 .before in
+    let loop = test .before in
+    let entry = loop .before .before .before in
+    let inv = loop .loop .inv in
+    let last = c2 .put-block .last .1 .1 .1 .1 .0 in (
+      omega arith,
+      refl,
+      rest-length (512 * loop .loop .n) (loop .loop .out) last (c2 .put-block .kept .1 .1 .1 .1 .0) ∙ inv .2,
+      chain-turn _ (entry .args .payload .now) (entry .args .out .now) (loop .loop .out) _ _ (loop .loop .n) (inv .1) (test .loop-test .taken) (inv .3)
+          (c5 .least .result) _ last (c5 .least .ensures) (c2 .put-block .ensures .0) (c2 .put-block .ensures .1),
+    )
 
 same-length : tie.Need-same-length Inv-loop μ-loop
 same-length c = c .before .loop .inv .2
 
 returns : tie.Need-returns Inv-loop μ-loop
-returns c = blocks-all _ _ _ _ _ (c .before .loop .inv .0) (c .loop-test .left) (c .before .loop .inv .3)
+returns c = let inv = c .before .loop .inv in chain-all _ _ _ _ _ _ _ (inv .1) (inv .0) (c .loop-test .left) (inv .3)
 
 pub put-blocks-spec : {M : Type 1} → statement M
 put-blocks-spec =

@@ -2,8 +2,9 @@
 use mathlib.Core.Path.{sym, _∙_}
 use borrow.Author.Tests.{not-true, not-false}
 use Rattle.rules.specs.Answers.{unpack}
+use Rattle.laws.specs.Blocks.{unpacked-length}
 use Rattle.stream.proofs.BlockLaws.{found, unfound}
-use Rattle.stream.proofs.PackLaws.{refused-leaves, finished-leaves, unpacked-length, unpack-length, unpack-kind, unpack-block, unpack-room, unpack-fits}
+use Rattle.stream.proofs.PackLaws.{refused-leaves, finished-leaves, unpack-length, unpack-kind, unpack-block, unpack-room, unpack-fits}
 use borrow.Author.Needs.{needs}
 use Rattle.stream.proofs.pack.unpack.Statement.{statement}
 use Rattle.stream.proofs.pack.unpack.Tie as tie
