@@ -41,6 +41,7 @@
  *    1   a stream's length is zero, above 65,536 or no       1, 2, 3  0
  *        multiple of 512
  *    2   a block has a wrong number, kind, byte 3 or check   1, 2, 3  the block
+ *        (which starts from the check of the block before)
  *    3   the records break the layout: a kind or form that   1, 2, 3  0
  *        there isn't, a field that must be zero, a number
  *        out of its row, a wrong size, padding, or what
@@ -92,13 +93,18 @@ extern "C" {
 #define FEED_BYTES 4
 #define FEED_ANSWER 5
 
-/* Sizes: a block and its payload, which starts at byte 4; the longest stream;
- * and the scratch that an evaluate call needs, in 16-bit numbers. */
+/* Sizes: a block and its payload, which starts at byte 4 and is followed by the
+ * block's check, four bytes with the lowest first; the longest stream; and the
+ * scratch that an evaluate call needs, in 16-bit numbers. */
 #define FEED_BLOCK 512
 #define FEED_PAYLOAD 504
 #define FEED_PAYLOAD_START 4
 #define FEED_STREAM_MOST 65536
 #define FEED_SCRATCH 4800
+
+/* The number that the check of block 0 starts from; that of each other block
+ * starts from the check of the block before it. */
+#define FEED_CHECK_START 2166136261u
 
 /*
  * feed_check: may this grammar and template set be used?
@@ -147,8 +153,9 @@ void feed_evaluate(const uint8_t *grammar, size_t grammar_length,
  *            then 2 for a kind outside 1 to 3, then 12 if the blocks don't fit
  *            the output.
  * Afterwards: refused, nothing is written; else only the bytes counted are. The
- *            last block is filled with zeros after the payload. What follows in
- *            the output is as it was.
+ *            last block is filled with zeros after the payload, and each check
+ *            starts from the one before it. What follows in the output is as it
+ *            was.
  */
 void feed_pack(uint8_t kind,
                const uint8_t *payload, size_t payload_length,
@@ -175,14 +182,30 @@ void feed_unpack(uint8_t kind,
 /*
  * feed_block_payload: the payload of a single block, where it lies.
  *
- * Lent:      the block, only read.
+ * Lent:      the block, only read; and the number that its check starts from,
+ *            any: FEED_CHECK_START for block 0 of a stream, for each other block
+ *            the check of the block before it.
  * Comes back: FEED_PAYLOAD, and the payload is the 504 bytes from
  *            block + FEED_PAYLOAD_START on; or 0, an empty part, for a length
  *            other than 512, a kind outside 1 to 3, a byte 3 that isn't zero or
- *            a wrong check. The block's number isn't judged.
+ *            a wrong check. The block's number (bytes 0 and 1) isn't judged, and
+ *            each kind of the three (byte 2) is taken.
  * Afterwards: every lent byte is as it was.
+ *
+ * A stream, block by block, up to the first block that is wrong or doesn't follow
+ * the one before it (examples/c/blocks.c is a whole program):
+ *
+ *     uint32_t start = FEED_CHECK_START;
+ *     for (; length >= FEED_BLOCK; block += FEED_BLOCK, length -= FEED_BLOCK) {
+ *         if (feed_block_payload(block, FEED_BLOCK, start) == 0)
+ *             break;
+ *         use(block + FEED_PAYLOAD_START, FEED_PAYLOAD);
+ *         const uint8_t *check = block + FEED_PAYLOAD_START + FEED_PAYLOAD;
+ *         start = check[0] | (uint32_t)check[1] << 8 | (uint32_t)check[2] << 16
+ *                 | (uint32_t)check[3] << 24;
+ *     }
  */
-size_t feed_block_payload(const uint8_t *block, size_t block_length);
+size_t feed_block_payload(const uint8_t *block, size_t block_length, uint32_t start);
 
 #ifdef __cplusplus
 }

@@ -2,6 +2,7 @@
 
 use crate::case::{Call, Case};
 use crate::records::{altered, cut, damaged};
+use build::CHECK_START;
 
 /// All of them.
 #[must_use]
@@ -40,8 +41,12 @@ fn check_value(name: &str, bytes: &[u8]) -> Case {
 }
 
 fn single(name: &str, block: &[u8]) -> Case {
+    single_from(name, block, CHECK_START)
+}
+
+fn single_from(name: &str, block: &[u8], start: u32) -> Case {
     let label = format!("block-payload {name}");
-    case(label, Call::BlockPayload(block.to_vec()))
+    case(label, Call::BlockPayload(block.to_vec(), start))
 }
 
 fn pack(kind: u8, length: usize, room: usize) -> Case {

@@ -17,8 +17,8 @@ pub struct Case {
 pub enum Call {
     /// FNV-1a of these bytes.
     Fnv1a(Vec<u8>),
-    /// The payload of a single block.
-    BlockPayload(Vec<u8>),
+    /// The payload of a single block whose check starts from this number.
+    BlockPayload(Vec<u8>, u32),
     /// A payload packed as a kind into an output of so many bytes.
     Pack(u8, Vec<u8>, usize),
     /// A stream unpacked as a kind into an output of so many bytes.

@@ -20,8 +20,8 @@ fn line(case: &Case) -> String {
 fn answered(call: &Call) -> String {
     match call {
         Call::Fnv1a(bytes) => format!("{:08x}", fnv1a(bytes)),
-        Call::BlockPayload(block) => {
-            let payload = reference::block_payload(block);
+        Call::BlockPayload(block, start) => {
+            let payload = reference::block_payload(block, *start);
             format!("{}{}", payload.len(), hashed(payload))
         }
         Call::Pack(kind, payload, room) => {

@@ -90,18 +90,18 @@ impl Writer {
 }
 
 fn asked(call: &Call) -> Asked<'_> {
-    let of = |call, number: u8, bytes, room| Asked {
+    let of = |call, number: u32, bytes, room| Asked {
         call,
-        number: number.into(),
+        number,
         streams: [bytes, &[], &[]],
         room,
         numbers: 0,
     };
     match call {
         Call::Fnv1a(bytes) => of(10, 0, bytes, 0),
-        Call::BlockPayload(block) => of(11, 0, block, 0),
-        Call::Pack(kind, payload, room) => of(12, *kind, payload, *room),
-        Call::Unpack(kind, stream, room) => of(13, *kind, stream, *room),
+        Call::BlockPayload(block, start) => of(11, *start, block, 0),
+        Call::Pack(kind, payload, room) => of(12, (*kind).into(), payload, *room),
+        Call::Unpack(kind, stream, room) => of(13, (*kind).into(), stream, *room),
         Call::Evaluate(set, lent) => Asked {
             call: 14,
             number: lent.fuel,

@@ -41,7 +41,8 @@ pub enum Refusal {
         /// The stream with that length.
         stream: Stream,
     },
-    /// 2: a block has a wrong number, kind, byte 3 or check. Of [`pack`](crate::pack) and
+    /// 2: a block has a wrong number, kind, byte 3 or check. A check starts from that of the block before
+    /// it, so a block of another stream is refused here, too. Of [`pack`](crate::pack) and
     /// [`unpack`](crate::unpack) also, with block 0: the kind asked for is outside 1 to 3.
     Block {
         /// The stream that holds the block.

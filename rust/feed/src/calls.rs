@@ -48,7 +48,7 @@ mod library {
             output_length: usize,
             answer: *mut u64,
         );
-        pub fn feed_block_payload(block: *const u8, block_length: usize) -> usize;
+        pub fn feed_block_payload(block: *const u8, block_length: usize, start: u32) -> usize;
     }
 }
 
@@ -140,7 +140,8 @@ pub fn evaluate(
     Answer::from_fields(answer)
 }
 
-/// Turns a payload into blocks of a kind, numbered from 0 and zero-filled at the end.
+/// Turns a payload into blocks of a kind, numbered from 0 and zero-filled at the end. The check of
+/// block 0 starts from [`CHECK_START`](crate::CHECK_START), that of each other from the check before it.
 ///
 /// The payload has 8 to 64,512 bytes, a multiple of 8. Tried are 1 (its length), 2 (a kind outside 1 to
 /// 3) and 12 (the blocks don't fit the output). Refused, nothing is written, else only the bytes
@@ -151,7 +152,7 @@ pub fn evaluate(
 /// let mut blocks = [0; feed::BLOCK];
 /// let answer = feed::pack(3, &record, &mut blocks);
 /// assert_eq!(answer.fields(), [0, 0, 0, 0, 512]);
-/// assert_eq!(feed::block_payload(&blocks)[..8], record);
+/// assert_eq!(feed::block_payload(&blocks, feed::CHECK_START)[..8], record);
 ///
 /// let answer = feed::pack(3, &record[..7], &mut blocks);
 /// assert_eq!(answer.refusal(), Some(feed::Refusal::Length { stream: feed::Stream::Lent }));
@@ -214,18 +215,45 @@ pub fn unpack(kind: u8, stream: &[u8], output: &mut [u8]) -> Answer {
 /// The payload of a single block, as a part of the lent bytes.
 ///
 /// It is empty for a length other than 512, a kind outside 1 to 3, a byte 3 that isn't zero or a wrong
-/// check. The block's number isn't judged.
+/// check. The check starts from `start`: [`CHECK_START`](crate::CHECK_START) for block 0 of a stream, and
+/// for each other block the check of the block before it, which is that block's last four bytes. Any
+/// number may be given.
+///
+/// The block's number isn't judged, and each kind of the three is taken: they are its bytes 0 and 1, and
+/// its byte 2.
+///
+/// So a stream can be gone through block by block, with one block at hand at a time:
 ///
 /// ```
-/// let mut blocks = [0; feed::BLOCK];
-/// assert!(feed::pack(2, b"8 bytes.", &mut blocks).finished().is_ok());
-/// assert_eq!(feed::block_payload(&blocks).len(), feed::PAYLOAD);
-/// assert!(feed::block_payload(&blocks[1..]).is_empty());
+/// /// The blocks before the first that is wrong or doesn't follow the one before it.
+/// fn sound_blocks(stream: &[u8]) -> usize {
+///     let (mut count, mut start) = (0, feed::CHECK_START);
+///     for block in stream.chunks(feed::BLOCK) {
+///         let payload = feed::block_payload(block, start);
+///         if payload.is_empty() {
+///             break;
+///         }
+///         count += 1; // or whatever is to be done with the payload
+///         start = u32::from_le_bytes(*block.last_chunk().unwrap());
+///     }
+///     count
+/// }
+///
+/// let [mut morning, mut evening] = [[0; 4 * feed::BLOCK]; 2];
+/// for (upload, text) in [(&mut morning, b"sunrise."), (&mut evening, b"sunset..")] {
+///     assert!(feed::pack(3, &text.repeat(4 * 63), upload).finished().is_ok());
+/// }
+/// assert_eq!(sound_blocks(&morning), 4);
+///
+/// // Two blocks of one upload, and the rest of another.
+/// let joined = [&morning[..2 * feed::BLOCK], &evening[2 * feed::BLOCK..]].concat();
+/// assert_eq!(sound_blocks(&joined), 2);
+/// assert_eq!(sound_blocks(&morning[1..]), 0);
 /// ```
 #[must_use]
-pub fn block_payload(block: &[u8]) -> &[u8] {
-    // SAFETY: the block is a live slice with its own length, and is only read.
-    let length = unsafe { library::feed_block_payload(block.as_ptr(), block.len()) };
+pub fn block_payload(block: &[u8], start: u32) -> &[u8] {
+    // SAFETY: the block is a live slice with its own length, and is only read. Any start may be given.
+    let length = unsafe { library::feed_block_payload(block.as_ptr(), block.len(), start) };
     block
         .get(PAYLOAD_START..PAYLOAD_START + length)
         .unwrap_or_default()

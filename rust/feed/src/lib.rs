@@ -11,7 +11,7 @@
 //! | [`check`] | judges a grammar and a template set |
 //! | [`evaluate`] | writes the text of a value into a lent output |
 //! | [`pack`], [`unpack`] | turn records into blocks and back |
-//! | [`block_payload`] | gives the payload of a single block, where it lies |
+//! | [`block_payload`] | gives the payload of a single block, where it lies, if its check follows the block before |
 //!
 //! The first four give an [`Answer`]; [`Answer::finished`] turns it into a `Result` whose error is the
 //! [`Refusal`] in plain words.
@@ -51,6 +51,10 @@ pub const PAYLOAD: usize = 504;
 
 /// Where the payload starts in its block.
 pub const PAYLOAD_START: usize = 4;
+
+/// The number that the check of block 0 starts from; that of each other block starts from the check
+/// before it.
+pub const CHECK_START: u32 = 2_166_136_261;
 
 /// The bytes of the longest stream: 128 blocks.
 pub const STREAM_MOST: usize = 65_536;

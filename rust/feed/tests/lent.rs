@@ -1,6 +1,6 @@
 //! The wrapper against the paper's cases, with every lent byte looked at.
 
-use feed::{Answer, Refusal, Stream, SCRATCH};
+use feed::{Answer, Refusal, Stream, CHECK_START, SCRATCH};
 use std::path::Path;
 
 /// A byte that no call would write by chance where it must not.
@@ -203,7 +203,7 @@ fn empty_slices_are_lent_safely() {
         feed::unpack(1, &grammar, &mut []).refusal(),
         Some(Refusal::NoRoom)
     );
-    assert!(feed::block_payload(&[]).is_empty());
+    assert!(feed::block_payload(&[], CHECK_START).is_empty());
 }
 
 #[test]
@@ -264,20 +264,78 @@ fn unpacking_names_the_wrong_block() {
 #[test]
 fn a_payload_lies_in_its_block() {
     let grammar = example().grammar;
-    let payload = feed::block_payload(&grammar);
+    let payload = feed::block_payload(&grammar, CHECK_START);
     assert_eq!(payload.as_ptr(), grammar[feed::PAYLOAD_START..].as_ptr());
     assert_eq!(payload.len(), feed::PAYLOAD);
     for byte in [0, 1, 2, 3, 100, 511] {
         let mut damaged = grammar.clone();
         damaged[byte] ^= 4;
-        assert!(feed::block_payload(&damaged).is_empty(), "byte {byte}");
+        assert!(
+            feed::block_payload(&damaged, CHECK_START).is_empty(),
+            "byte {byte}"
+        );
     }
+}
+
+/// The check that a block holds.
+fn check_of(block: &[u8]) -> u32 {
+    u32::from_le_bytes(*block.last_chunk().expect("four bytes"))
 }
 
 #[test]
 fn the_number_of_a_single_block_is_not_judged() {
     let mut blocks = [0; 1024];
     assert_eq!(feed::pack(1, &[5; 1008], &mut blocks).number, 0);
-    assert_eq!(feed::block_payload(&blocks[512..]), [5; 504]);
-    assert!(feed::block_payload(&blocks).is_empty());
+    let start = check_of(&blocks[..512]);
+    assert_eq!(feed::block_payload(&blocks[512..], start), [5; 504]);
+    assert!(feed::block_payload(&blocks, start).is_empty());
+}
+
+#[test]
+fn a_single_block_is_judged_from_the_start_given() {
+    let mut blocks = [0; 1024];
+    assert_eq!(feed::pack(1, &[5; 1008], &mut blocks).number, 0);
+    let (first, second) = blocks.split_at(512);
+    let start = check_of(first);
+    assert_eq!(feed::block_payload(first, CHECK_START), [5; 504]);
+    assert!(feed::block_payload(first, start).is_empty());
+    for other in [0, CHECK_START, start ^ 1, start ^ 1 << 31, u32::MAX] {
+        assert!(feed::block_payload(second, other).is_empty(), "{other}");
+    }
+}
+
+#[test]
+fn blocks_of_two_uploads_are_refused_where_they_join() {
+    let [mut one, mut two] = [[0; 9 * 512]; 2];
+    assert_eq!(feed::pack(1, &[5; 9 * 504], &mut one).number, 0);
+    assert_eq!(feed::pack(1, &[6; 9 * 504], &mut two).number, 0);
+    for joint in 1..9 {
+        let joined = [&one[..512 * joint], &two[512 * joint..]].concat();
+        let mut payload = [GUARD; 9 * 504];
+        let answer = feed::unpack(1, &joined, &mut payload);
+        assert_eq!(answer.fields(), [2, 0, joint as u64, 0, 0]);
+        assert_eq!(payload, [GUARD; 9 * 504]);
+    }
+}
+
+/// The constants of the header for C are the wrapper's.
+#[test]
+fn the_header_has_the_same_constants() {
+    let path = Path::new(env!("CARGO_MANIFEST_DIR")).join("../../include/feed.h");
+    let header = std::fs::read_to_string(path).expect("the header");
+    let defined = |name: &str| {
+        let number = header.lines().find_map(|line| {
+            let mut words = line.split_whitespace();
+            let found = words.next() == Some("#define") && words.next() == Some(name);
+            words.next().filter(|_| found)
+        });
+        let number = number.unwrap_or_else(|| panic!("no {name}"));
+        number.trim_end_matches('u').parse::<u64>().expect(name)
+    };
+    assert_eq!(defined("FEED_BLOCK"), feed::BLOCK as u64);
+    assert_eq!(defined("FEED_PAYLOAD"), feed::PAYLOAD as u64);
+    assert_eq!(defined("FEED_PAYLOAD_START"), feed::PAYLOAD_START as u64);
+    assert_eq!(defined("FEED_CHECK_START"), u64::from(CHECK_START));
+    assert_eq!(defined("FEED_STREAM_MOST"), feed::STREAM_MOST as u64);
+    assert_eq!(defined("FEED_SCRATCH"), SCRATCH as u64);
 }

@@ -87,7 +87,7 @@ fn marks_and_refusals_agree_on_the_podcast_example() {
 fn marks_and_refusals_agree_on_tails() {
     for kind in KINDS {
         let blocks = stream("harbour", kind);
-        let payload = feed::block_payload(&blocks);
+        let payload = feed::block_payload(&blocks, feed::CHECK_START);
         for length in (8..=payload.len()).step_by(8) {
             let cut = &payload[..length];
             assert_eq!(

@@ -1,5 +1,5 @@
 //! The page machine in plain Rust, written from document 01 and the requests of 02 that have landed
-//! (a: separators), and from nothing else.
+//! (a: separators; b: checks that start from the block before), and from nothing else.
 //!
 //! A grammar, a template set and a value go in as streams of 512-byte blocks; a text that the
 //! grammar derives, or one numbered refusal, comes out. This crate exists to be compared with the
@@ -39,5 +39,5 @@ mod value;
 mod walk;
 
 pub use answer::Answer;
-pub use blocks::{block_payload, fnv1a, pack, unpack};
+pub use blocks::{block_payload, fnv1a, fnv1a_from, pack, unpack, START};
 pub use calls::{check, evaluate, SCRATCH};

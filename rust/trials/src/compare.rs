@@ -198,7 +198,7 @@ pub fn packing(
     Ok(first)
 }
 
-/// Compares the payload of a single block, which must be a part of it.
+/// Compares the payload of a single block from a start, which must be a part of it.
 ///
 /// # Errors
 /// The first difference.
@@ -206,12 +206,13 @@ pub fn block_payload(
     one: &dyn Machine,
     two: &dyn Machine,
     block: &[u8],
+    start: u32,
 ) -> Result<usize, Difference> {
-    let (first, second) = (one.block_payload(block), two.block_payload(block));
+    let [first, second] = [one, two].map(|machine| machine.block_payload(block, start));
     let starts_well = |part: &[u8]| part.is_empty() || part.as_ptr() == block[4..].as_ptr();
     if first != second || !starts_well(first) || !starts_well(second) {
         return Err(Difference(format!(
-            "block of {} bytes: {} gives {} bytes, {} gives {}",
+            "block of {} bytes from {start}: {} gives {} bytes, {} gives {}",
             block.len(),
             one.name(),
             first.len(),

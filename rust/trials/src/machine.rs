@@ -26,8 +26,9 @@ pub trait Machine {
     /// Unpacking.
     fn unpack(&self, kind: u8, stream: &[u8], out: &mut [u8]) -> Fields;
 
-    /// The payload of a single block, as a part of it, or an empty part.
-    fn block_payload<'a>(&self, block: &'a [u8]) -> &'a [u8];
+    /// The payload of a single block whose check starts from a number, as a part of it, or an empty
+    /// part.
+    fn block_payload<'a>(&self, block: &'a [u8], start: u32) -> &'a [u8];
 }
 
 /// The reference implementation.
@@ -73,7 +74,7 @@ impl Machine for Reference {
         fields(reference::unpack(kind, stream, out))
     }
 
-    fn block_payload<'a>(&self, block: &'a [u8]) -> &'a [u8] {
-        reference::block_payload(block)
+    fn block_payload<'a>(&self, block: &'a [u8], start: u32) -> &'a [u8] {
+        reference::block_payload(block, start)
     }
 }

@@ -271,11 +271,11 @@ impl Machine for Mutant {
         Reference.unpack(kind, stream, out)
     }
 
-    fn block_payload<'a>(&self, block: &'a [u8]) -> &'a [u8] {
+    fn block_payload<'a>(&self, block: &'a [u8], start: u32) -> &'a [u8] {
         if *self == Mutant::JudgesSingleNumber && block.first() != Some(&0) {
             return &[];
         }
-        Reference.block_payload(block)
+        Reference.block_payload(block, start)
     }
 }
 

@@ -36,7 +36,7 @@ impl Machine for Proved {
         feed::unpack(kind, stream, out).fields()
     }
 
-    fn block_payload<'a>(&self, block: &'a [u8]) -> &'a [u8] {
-        feed::block_payload(block)
+    fn block_payload<'a>(&self, block: &'a [u8], start: u32) -> &'a [u8] {
+        feed::block_payload(block, start)
     }
 }

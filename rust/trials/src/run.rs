@@ -231,7 +231,8 @@ fn try_packing(
     tally.packing[fields[0] as usize] += 1;
     let start = random.below(stream.len() / 512 + 1) * 512;
     let end = (start + *random.pick(&[512, 512, 512, 511, 513, 0])).min(stream.len());
-    let given = compare::block_payload(one, two, &stream[start..end.max(start)])?;
+    let block = &stream[start..end.max(start)];
+    let given = compare::block_payload(one, two, block, build::CHECK_START)?;
     tally.blocks[usize::from(given > 0)] += 1;
     Ok(())
 }

@@ -189,7 +189,7 @@ fn answer_to(machine: &dyn Machine, call: &str, unpacked: &mut Vec<u8>) -> Strin
             with_bytes(fields, &out)
         }
         ("block-payload", _) => {
-            let payload = machine.block_payload(&unpacked[..512]);
+            let payload = machine.block_payload(&unpacked[..512], build::CHECK_START);
             assert!(payload.is_empty() || *payload == unpacked[4..508]);
             format!("{} bytes", payload.len())
         }
