@@ -26,7 +26,8 @@ fn payload(length: usize) -> Vec<u8> {
 }
 
 /// The first so many bytes of the payload, packed as a kind.
-fn packed(kind: u8, length: usize) -> Vec<u8> {
+#[must_use]
+pub fn packed(kind: u8, length: usize) -> Vec<u8> {
     let mut out = vec![0; 65_536];
     let answer = reference::pack(kind, &payload(length), &mut out);
     cut(out, answer.bytes)
@@ -44,7 +45,9 @@ fn single(name: &str, block: &[u8]) -> Case {
     single_from(name, block, CHECK_START)
 }
 
-fn single_from(name: &str, block: &[u8], start: u32) -> Case {
+/// The payload of a single block whose check starts from this number.
+#[must_use]
+pub fn single_from(name: &str, block: &[u8], start: u32) -> Case {
     let label = format!("block-payload {name}");
     case(label, Call::BlockPayload(block.to_vec(), start))
 }
@@ -56,7 +59,14 @@ fn pack(kind: u8, length: usize, room: usize) -> Case {
 
 fn unpack(kind: u8, stream: &[u8], room: usize) -> Case {
     let length = stream.len();
-    let label = format!("unpack expected={kind} length={length} out={room}");
+    let name = format!("expected={kind} length={length} out={room}");
+    unpack_named(&name, kind, stream, room)
+}
+
+/// The payload of a stream that should be of a kind.
+#[must_use]
+pub fn unpack_named(name: &str, kind: u8, stream: &[u8], room: usize) -> Case {
+    let label = format!("unpack {name}");
     case(label, Call::Unpack(kind, stream.to_vec(), room))
 }
 

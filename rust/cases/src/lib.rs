@@ -6,6 +6,7 @@
 //! | module | cases |
 //! |---|---|
 //! | `blocks` | check values, single blocks, packing and unpacking |
+//! | `chains` | checks that start from the block before: two uploads, old checks, chances |
 //! | `streams` | refusals 1 to 3, each at its edge, alone and ahead of what is tried later |
 //! | `sets` | refusals 4 to 7 |
 //! | `runs` | refusals 8 to 12, and runs that finish |
@@ -15,6 +16,7 @@
 
 mod blocks;
 mod case;
+mod chains;
 mod example;
 mod expected;
 mod file;
@@ -35,6 +37,7 @@ pub use file::file;
 pub fn all() -> Vec<Case> {
     [
         blocks::all(),
+        chains::all(),
         streams::all(),
         sets::all(),
         runs::all(),

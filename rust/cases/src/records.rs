@@ -1,6 +1,7 @@
 //! Records in a row, and blocks, with something changed in them.
 
 use build::{blocks, mend, Record};
+use std::ops::Range;
 
 /// The records of a stream, in order.
 #[derive(Clone, Debug)]
@@ -17,6 +18,13 @@ impl Records {
     #[must_use]
     pub fn with(mut self, place: usize, record: Record) -> Self {
         self.0[place] = record;
+        self
+    }
+
+    /// With these records in place of some.
+    #[must_use]
+    pub fn replaced(mut self, places: Range<usize>, records: Vec<Record>) -> Self {
+        self.0.splice(places, records);
         self
     }
 
