@@ -69,6 +69,12 @@ pub fn due_check(block: &[u8], start: u32) -> u32 {
     fnv1a_from(start, &block[..CHECK_AT])
 }
 
+/// The one number from which the check that a whole block holds is right.
+#[must_use]
+pub fn start_of(block: &[u8]) -> u32 {
+    taken_back(check_of(block), &block[..CHECK_AT])
+}
+
 /// Gives a whole block a check.
 pub fn set_check(block: &mut [u8], check: u32) {
     block[CHECK_AT..BLOCK].copy_from_slice(&check.to_le_bytes());
@@ -179,6 +185,10 @@ mod tests {
         assert_eq!(PRIME.wrapping_mul(INVERSE), 1);
         let hash = fnv1a_from(77, b"any bytes");
         assert_eq!(taken_back(hash, b"any bytes"), 77);
+        let stream = three_blocks();
+        let starts: Vec<u32> = stream.chunks(BLOCK).map(start_of).collect();
+        let checks: Vec<u32> = stream.chunks(BLOCK).map(check_of).collect();
+        assert_eq!(starts, [CHECK_START, checks[0], checks[1]]);
     }
 
     #[test]

@@ -42,7 +42,7 @@ mod value;
 
 pub use blocks::{
     blocks, check_of, due_check, fnv1a, fnv1a_from, mend, mend_each, mend_from, payload, set_check,
-    with_check, BLOCK, CHECK_START, PAYLOAD,
+    start_of, with_check, BLOCK, CHECK_START, PAYLOAD,
 };
 pub use grammar::{Class, Element, Grammar, Production};
 pub use records::{record, records_of, text_units, Record};

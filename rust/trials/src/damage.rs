@@ -1,16 +1,17 @@
 //! Damage to streams: every field, flipped bytes, cut and joined streams, odd lengths.
 
-use build::{blocks, mend, records_of, Record, BLOCK};
+use build::{blocks, check_of, mend, mend_from, records_of, Record, BLOCK, CHECK_START};
 
 use crate::generate::Streams;
 use crate::random::Random;
+use crate::uploads;
 
 /// Damages one of the streams, or puts them in the wrong places. `other` is a set to borrow from.
 pub fn damage(random: &mut Random, streams: &mut Streams, other: &Streams) {
     let index = random.below(3);
     let kind = index as u8 + 1;
     let stream = streams.part_mut(index);
-    match random.below(22) {
+    match random.below(26) {
         0..=7 => change_field(random, stream, kind),
         8 | 9 => move_records(random, stream, kind),
         10 | 11 => flip(random, stream),
@@ -23,8 +24,21 @@ pub fn damage(random: &mut Random, streams: &mut Streams, other: &Streams) {
         16 | 17 => change_length(random, stream),
         18 => *stream = other.parts()[index].to_vec(),
         19 | 20 => change_repetition(random, &mut streams.grammar),
+        21..=24 => damage_chain(random, streams, other),
         _ => *stream = other.parts()[random.below(3)].to_vec(),
     }
+}
+
+/// Damages the chain of checks of the longest stream. A stream of one block gets more of them, so
+/// that there is one.
+fn damage_chain(random: &mut Random, streams: &mut Streams, other: &Streams) {
+    let longest = (0..3).max_by_key(|&index| streams.parts()[index].len());
+    let index = longest.unwrap_or(0);
+    let stream = streams.part_mut(index);
+    if stream.len() == BLOCK {
+        append_zero_blocks(stream, random.between(1, 9));
+    }
+    uploads::damage(random, stream, other.parts()[index]);
 }
 
 /// Gives one field of one record another value; the checks are mended.
@@ -146,17 +160,24 @@ fn flip(random: &mut Random, stream: &mut [u8]) {
     };
 }
 
-/// Gives a block another number, kind or byte 3; its check is mended.
+/// Gives a block another number, kind or byte 3; its check is mended, and at times those behind it,
+/// which start from it.
 fn change_header(random: &mut Random, stream: &mut [u8]) {
     let count = stream.len() / BLOCK;
     if count == 0 {
         return;
     }
-    let start = random.below(count) * BLOCK;
-    let block = &mut stream[start..start + BLOCK];
+    let (before, behind) = stream.split_at_mut(random.below(count) * BLOCK);
     let at = random.below(4);
-    block[at] = odd_byte(random, block[at]);
-    mend(block);
+    behind[at] = odd_byte(random, behind[at]);
+    let start = before
+        .rchunks_exact(BLOCK)
+        .next()
+        .map_or(CHECK_START, check_of);
+    match random.once_in(2) {
+        true => mend_from(behind, start),
+        false => mend_from(&mut behind[..BLOCK], start),
+    }
 }
 
 /// Swaps, doubles, drops or borrows a block.
@@ -186,17 +207,17 @@ fn change_length(random: &mut Random, stream: &mut Vec<u8>) {
         2 => stream.truncate(random.below(length / BLOCK + 1) * BLOCK),
         3 => stream.push(0),
         4 => stream.resize(length + BLOCK, 0),
-        5 => append_zero_block(stream),
+        5 => append_zero_blocks(stream, 1),
         6 => stream.resize(65_536 + BLOCK, 0),
         _ => stream.resize(65_536 + random.below(3), 0),
     }
 }
 
-/// Appends a sound block of zero records.
-fn append_zero_block(stream: &mut Vec<u8>) {
+/// Appends sound blocks of zero records.
+fn append_zero_blocks(stream: &mut Vec<u8>, count: usize) {
     if let [_, _, kind, ..] = stream[..] {
         let mut records = records_of(stream);
-        records.extend([[0; 8]; BLOCK / 8 - 1]);
+        records.extend(vec![[0; 8]; count * (BLOCK / 8 - 1)]);
         *stream = blocks(kind, &records);
     }
 }

@@ -4,6 +4,7 @@
 //! and scratch lengths, and two implementations of [`Machine`] are compared in all five fields of
 //! every answer and in every lent byte ([`compare`]). A seed decides everything.
 
+pub mod chains;
 pub mod compare;
 pub mod damage;
 pub mod faulty;
@@ -14,6 +15,7 @@ pub mod mutants;
 pub mod proved;
 pub mod random;
 pub mod run;
+mod uploads;
 
 pub use machine::{Fields, Machine, Reference};
 pub use random::Random;

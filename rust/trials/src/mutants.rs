@@ -1,7 +1,8 @@
 //! Machines with one fault each: the trials must tell every one of them from the reference.
 
-use build::{blocks, mend, records_of, Record, BLOCK};
+use build::{blocks, mend, records_of, Record, BLOCK, CHECK_START};
 
+use crate::chains::Chain;
 use crate::faulty::{productions, text_length, walk, Fault};
 use crate::machine::{Fields, Machine, Reference};
 
@@ -56,6 +57,18 @@ pub enum Mutant {
     ForgivesSeparatedNames,
     /// Walks with a fault in its separators.
     Separates(Fault),
+    /// Judges the blocks of a set by another chain of checks.
+    Judges(Chain),
+    /// Unpacks by another chain of checks.
+    Unpacks(Chain),
+    /// Packs with another chain of checks.
+    Packs(Chain),
+    /// Gives a wrong block's refusal the place of the block before it.
+    PlaceBefore,
+    /// Starts a single block's check from 2166136261, whatever it is given.
+    SingleIgnoresStart,
+    /// Takes a single block whose check starts from 2166136261, too.
+    SingleTakesOld,
 }
 
 impl Mutant {
@@ -63,11 +76,17 @@ impl Mutant {
     #[must_use]
     pub fn all() -> Vec<Mutant> {
         let separates = Fault::ALL.map(Mutant::Separates);
-        [&Self::OTHERS[..], &separates].concat()
+        let packs = Chain::OTHER.map(Mutant::Packs);
+        let judges = [&Chain::OTHER[..], &Chain::LENIENT].concat();
+        let judges = judges.into_iter();
+        let judges = judges.flat_map(|chain| [Mutant::Judges(chain), Mutant::Unpacks(chain)]);
+        let mut all = [&Self::OTHERS[..], &separates, &packs].concat();
+        all.extend(judges);
+        all
     }
 
-    /// All but those of a faulty walk.
-    const OTHERS: [Mutant; 23] = [
+    /// All but those of a faulty walk or chain.
+    const OTHERS: [Mutant; 26] = [
         Mutant::DepthBeforeFuel,
         Mutant::OneStepMore,
         Mutant::CountsTheUnreached,
@@ -91,6 +110,9 @@ impl Mutant {
         Mutant::ForgivesSeparatorsPadding,
         Mutant::TakesFormFive,
         Mutant::ForgivesSeparatedNames,
+        Mutant::PlaceBefore,
+        Mutant::SingleIgnoresStart,
+        Mutant::SingleTakesOld,
     ];
 
     /// The stream as the faulty machine takes it.
@@ -98,8 +120,11 @@ impl Mutant {
         let mut taken = stream.to_vec();
         match self {
             Mutant::ForgivesChecks => mend(&mut taken),
-            Mutant::ForgivesByteThree => rewrite(&mut taken, |_, block| block[3] = 0),
-            Mutant::ForgivesNumbers => rewrite(&mut taken, |number, block| {
+            Mutant::Judges(chain) => chain.rewritten(&mut taken, |_, _| {}),
+            Mutant::ForgivesByteThree => {
+                Chain::Right.rewritten(&mut taken, |_, block| block[3] = 0);
+            }
+            Mutant::ForgivesNumbers => Chain::Right.rewritten(&mut taken, |number, block| {
                 block[..2].copy_from_slice(&(number as u16).to_le_bytes());
             }),
             Mutant::ForgivesTails => while drop_zero_block(&mut taken) {},
@@ -124,18 +149,6 @@ impl Mutant {
             _ => {}
         }
         taken
-    }
-}
-
-/// Changes blocks whose checks hold, and mends them.
-fn rewrite(stream: &mut [u8], change: impl Fn(usize, &mut [u8])) {
-    for (number, block) in stream.chunks_exact_mut(BLOCK).enumerate() {
-        let mut sound = block.to_vec();
-        mend(&mut sound);
-        if sound == block {
-            change(number, block);
-            mend(block);
-        }
     }
 }
 
@@ -264,18 +277,31 @@ impl Machine for Mutant {
             (Mutant::PacksKindFour, 4) => 3,
             _ => kind,
         };
-        Reference.pack(kind, payload, out)
+        let fields = Reference.pack(kind, payload, out);
+        if let Mutant::Packs(chain) = self {
+            chain.packed(&mut out[..fields[4] as usize]);
+        }
+        fields
     }
 
     fn unpack(&self, kind: u8, stream: &[u8], out: &mut [u8]) -> Fields {
-        Reference.unpack(kind, stream, out)
+        let mut taken = stream.to_vec();
+        if let Mutant::Unpacks(chain) = self {
+            chain.rewritten(&mut taken, |_, _| {});
+        }
+        Reference.unpack(kind, &taken, out)
     }
 
     fn block_payload<'a>(&self, block: &'a [u8], start: u32) -> &'a [u8] {
-        if *self == Mutant::JudgesSingleNumber && block.first() != Some(&0) {
-            return &[];
+        let given = Reference.block_payload(block, start);
+        match self {
+            Mutant::JudgesSingleNumber if block.first() != Some(&0) => &[],
+            Mutant::SingleIgnoresStart => Reference.block_payload(block, CHECK_START),
+            Mutant::SingleTakesOld if given.is_empty() => {
+                Reference.block_payload(block, CHECK_START)
+            }
+            _ => given,
         }
-        Reference.block_payload(block, start)
     }
 }
 
@@ -303,6 +329,7 @@ impl Mutant {
             }
             (Mutant::ZeroesScratch, 8) => scratch.fill(0),
             (Mutant::NoPlaceForEight, 8) => fields[2] = 0,
+            (Mutant::PlaceBefore, 2) => fields[2] = fields[2].saturating_sub(1),
             (Mutant::RefusesGreek, 0) if !out[..written].is_ascii() => fields = [8, 3, 0, 0, 0],
             _ => {}
         }

@@ -2,11 +2,14 @@
 
 use std::fmt;
 
+use build::{check_of, mend_from, BLOCK, CHECK_START, PAYLOAD};
+
 use crate::compare::{self, Call, Difference, Packing};
 use crate::damage::damage;
 use crate::generate::{self, Streams};
 use crate::machine::{Fields, Machine};
 use crate::random::Random;
+use crate::uploads;
 
 /// How often each answer number was reached.
 #[derive(Clone, Debug, Default, PartialEq, Eq)]
@@ -21,6 +24,9 @@ pub struct Tally {
     pub packing: [usize; 13],
     /// Single blocks that were refused, and those whose payload was given back.
     pub blocks: [usize; 2],
+    /// First evaluate calls and calls of unpacking that answered 2 at block 0, at 1 to 3, and at a
+    /// later one.
+    pub places: [usize; 3],
 }
 
 impl Tally {
@@ -28,6 +34,18 @@ impl Tally {
     #[must_use]
     pub fn absent(&self) -> Vec<usize> {
         (0..13).filter(|&n| self.evaluate[n] == 0).collect()
+    }
+
+    /// Counts the place of an answer 2.
+    fn count_place(&mut self, [number, _, place, ..]: Fields) {
+        if number == 2 {
+            let group = match place {
+                0 => 0,
+                1..=3 => 1,
+                _ => 2,
+            };
+            self.places[group] += 1;
+        }
     }
 
     fn add(&mut self, other: &Tally) {
@@ -42,9 +60,9 @@ impl Tally {
                 *count += more;
             }
         }
-        for (count, more) in self.blocks.iter_mut().zip(other.blocks) {
-            *count += more;
-        }
+        let more = other.blocks.iter().chain(&other.places);
+        let mine = self.blocks.iter_mut().chain(&mut self.places);
+        mine.zip(more).for_each(|(count, more)| *count += more);
     }
 }
 
@@ -64,6 +82,11 @@ impl fmt::Display for Tally {
             }
             writeln!(f)?;
         }
+        let [first, early, late] = self.places;
+        writeln!(
+            f,
+            "2 at block 0: {first}, at 1 to 3: {early}, later: {late}"
+        )?;
         let [refused, given] = self.blocks;
         write!(f, "single blocks: {given} given back, {refused} refused")
     }
@@ -158,6 +181,7 @@ pub fn try_streams(
     let first = compare::evaluate(one, two, parts, whole)?;
     tally.cases[first[0] as usize] += 1;
     tally.evaluate[first[0] as usize] += 1;
+    tally.count_place(first);
     for call in more_calls(random, first) {
         let fields = compare::evaluate(one, two, parts, call)?;
         tally.evaluate[fields[0] as usize] += 1;
@@ -210,16 +234,25 @@ fn try_packing(
     streams: &Streams,
     tally: &mut Tally,
 ) -> Result<(), Difference> {
-    let kind = *random.pick(&[1, 1, 2, 2, 3, 3, 0, 4, 255]);
-    let stream = *random.pick(&streams.parts());
-    let (how, length) = match random.below(3) {
-        0 => (Packing::Unpack, stream.len()),
-        _ => (Packing::Pack, payload_length(random)),
+    let index = random.below(3);
+    let stream = streams.parts()[index];
+    let own = index as u8 + 1;
+    let kind = match random.below(4) {
+        0 => *random.pick(&[1, 2, 3, 0, 4, 255]),
+        _ => own,
     };
-    let payload: Vec<u8> = (0..length).map(|_| random.byte()).collect();
-    let (input, needed) = match how {
-        Packing::Unpack => (stream, stream.len() / 512 * 504),
-        Packing::Pack => (&payload[..], payload.len().div_ceil(504) * 512),
+    let (how, input) = match random.below(4) {
+        0 => (Packing::Unpack, stream.to_vec()),
+        1 => (Packing::Unpack, uploads::stream(random, own, stream)),
+        _ => {
+            let length = payload_length(random);
+            let payload = (0..length).map(|_| random.byte());
+            (Packing::Pack, payload.collect())
+        }
+    };
+    let needed = match how {
+        Packing::Unpack => input.len() / BLOCK * PAYLOAD,
+        Packing::Pack => input.len().div_ceil(PAYLOAD) * BLOCK,
     };
     let room = match random.below(5) {
         0 => needed.saturating_sub(1),
@@ -227,20 +260,46 @@ fn try_packing(
         2 => needed + random.below(600),
         _ => needed,
     };
-    let fields = compare::packing(one, two, how, kind, input, room)?;
+    let fields = compare::packing(one, two, how, kind, &input, room)?;
     tally.packing[fields[0] as usize] += 1;
-    let start = random.below(stream.len() / 512 + 1) * 512;
-    let end = (start + *random.pick(&[512, 512, 512, 511, 513, 0])).min(stream.len());
-    let block = &stream[start..end.max(start)];
-    let given = compare::block_payload(one, two, block, build::CHECK_START)?;
+    if how == Packing::Unpack {
+        tally.count_place(fields);
+    }
+    let given = try_single_block(one, two, random, stream)?;
     tally.blocks[usize::from(given > 0)] += 1;
     Ok(())
+}
+
+/// A single block of a stream from the start that it has there, or from some other, which its check
+/// may have been mended from.
+fn try_single_block(
+    one: &dyn Machine,
+    two: &dyn Machine,
+    random: &mut Random,
+    stream: &[u8],
+) -> Result<usize, Difference> {
+    let at = random.below(stream.len() / BLOCK) * BLOCK;
+    let length = match random.below(8) {
+        0 => *random.pick(&[BLOCK - 1, BLOCK + 1, 0]),
+        _ => BLOCK,
+    };
+    let before = stream[..at].rchunks_exact(BLOCK).next();
+    let mut block = stream[at..(at + length).min(stream.len())].to_vec();
+    let start = match random.once_in(2) {
+        true => before.map_or(CHECK_START, check_of),
+        false => uploads::some_start(random, stream),
+    };
+    if random.once_in(4) {
+        mend_from(&mut block, start);
+    }
+    compare::block_payload(one, two, &block, start)
 }
 
 fn payload_length(random: &mut Random) -> usize {
     match random.below(6) {
         0 => *random.pick(&[0, 7, 8, 9, 496, 504, 512, 1008, 64_504, 64_512, 64_520]),
         1 => random.below(2_000),
+        2 => 8 * random.between(200, 1_300),
         _ => 8 * random.between(1, 200),
     }
 }

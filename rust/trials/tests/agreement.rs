@@ -1,7 +1,9 @@
 //! Two machines agree on generated and damaged sets; every fault put in is found.
 
-use build::{mend, Element, Grammar, Node, Path, Templates, Value};
-use trials::compare::{self, Call};
+use build::{mend, mend_each, with_check, BLOCK, CHECK_START, PAYLOAD};
+use build::{Element, Grammar, Node, Path, Templates, Value};
+use trials::chains::Chain;
+use trials::compare::{self, Call, Packing};
 use trials::faulty::Fault;
 use trials::generate::{self, Streams};
 use trials::mutants::Mutant;
@@ -21,6 +23,8 @@ fn no_difference_and_every_number_is_reached() {
         Ok(tally) => {
             println!("{tally}");
             assert_eq!(tally.absent(), [0; 0], "numbers that no call answered");
+            let [_, early, late] = tally.places;
+            assert!(early > 200 && late > 50, "2 behind block 0: too rare");
         }
         Err(failure) => panic!("{failure}"),
     }
@@ -36,12 +40,14 @@ fn every_mutant_is_found() {
     }
 }
 
-/// The walk that the faults in separators are put into is right without one.
+/// What the faults in separators and in chains of checks are put into is right without one.
 #[test]
-fn a_walk_without_a_fault_is_no_mutant() {
-    let right = Mutant::Separates(Fault::None);
-    if let Err(failure) = run(&Reference, &right, seed(), 0..4_000) {
-        panic!("{failure}");
+fn a_machine_without_a_fault_is_no_mutant() {
+    let chains = [Mutant::Judges, Mutant::Unpacks, Mutant::Packs].map(|part| part(Chain::Right));
+    for right in [&[Mutant::Separates(Fault::None)], &chains[..]].concat() {
+        if let Err(failure) = run(&Reference, &right, seed(), 0..2_000) {
+            panic!("{failure}");
+        }
     }
 }
 
@@ -78,6 +84,54 @@ fn what_is_packed_comes_back_with_zero_fill_at_most() {
         let (same, fill) = back[..bytes as usize].split_at(length);
         assert!(same == payload, "the payload of {length} bytes");
         assert!(fill.len() < 504 && fill.iter().all(|&byte| byte == 0));
+    }
+}
+
+/// The stream of a text of so many blocks and nearly nothing but one letter.
+fn letters(blocks: usize, letter: &str) -> Vec<u8> {
+    Value::text(letter.repeat(blocks * PAYLOAD - 8)).stream()
+}
+
+/// Both machines unpack a value stream, or refuse it at this block.
+#[track_caller]
+fn unpacks(stream: &[u8], refused: Option<usize>) {
+    let room = stream.len() / BLOCK * PAYLOAD;
+    let fields = compare::packing(&Reference, &SECOND, Packing::Unpack, 3, stream, room);
+    let expected = match refused {
+        Some(place) => [2, 0, place as u64, 0, 0],
+        None => [0, 0, 0, 0, room as u64],
+    };
+    assert_eq!(fields.map_err(|found| found.to_string()), Ok(expected));
+}
+
+/// The first blocks of one stream and the rest of another, at every block of streams of every number
+/// of blocks that machines may take at once: refused at the first block of the other one.
+#[test]
+fn every_joint_of_two_uploads() {
+    for count in 1..=13 {
+        let [one, other] = ["o", "x"].map(|letter| letters(count, letter));
+        for joint in 0..=count {
+            let at = joint * BLOCK;
+            let joined = [&one[..at], &other[at..]].concat();
+            let place = Some(joint).filter(|joint| (1..count).contains(joint));
+            unpacks(&joined, place);
+        }
+    }
+}
+
+/// A31: old checks are refused at the block after the first whose check isn't 2166136261, unless
+/// that is the last.
+#[test]
+fn old_checks_are_refused_after_the_first_that_is_no_chance() {
+    for count in 1..=6 {
+        for chances in 0..=count {
+            let mut old = letters(count, "o");
+            for block in old.chunks_exact_mut(BLOCK).take(chances) {
+                with_check(block, CHECK_START, CHECK_START);
+            }
+            mend_each(&mut old);
+            unpacks(&old, Some(chances + 1).filter(|&place| place < count));
+        }
     }
 }
 

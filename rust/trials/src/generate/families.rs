@@ -9,10 +9,11 @@ use super::grammars::draw_class;
 use super::lexemes::{lexeme, near_lexeme};
 use super::{separators, Streams};
 use crate::random::Random;
+use crate::uploads;
 
 /// A set of one of the families.
 pub(super) fn set(random: &mut Random) -> Streams {
-    match random.below(22) {
+    match random.below(23) {
         0 => deep_body(random),
         1 => deep_value(random),
         2 => thousands_deep(random),
@@ -29,6 +30,7 @@ pub(super) fn set(random: &mut Random) -> Streams {
         14 => tails(random),
         15..=17 => words(random),
         18..=20 => separators::set(random),
+        21 => chances(random),
         _ => most_blocks(random),
     }
 }
@@ -334,6 +336,22 @@ fn long_texts(random: &mut Random) -> Streams {
     templates.template(0, [text], body);
     let value = Value::text("aω😀".repeat(length() / 7));
     Streams::of(&grammar, &templates, &value)
+}
+
+/// A text over several blocks, of which the first have the check 2166136261: letters make it so,
+/// and the text is finished, with checks of the old kind too.
+fn chances(random: &mut Random) -> Streams {
+    let mut grammar = Grammar::new();
+    let class = grammar.class(0, 60_000, &[(0x61, 0x7A)]);
+    grammar.production(0, [Element::Class(class)]);
+    let mut templates = Templates::new();
+    let text = templates.text(class);
+    templates.template(0, [text], Node::build(0, [Node::place(Path::variable(0))]));
+    let letters = random.between(1, 5) * 504 - 8;
+    let value = Value::text("o".repeat(letters));
+    let mut streams = Streams::of(&grammar, &templates, &value);
+    uploads::chances(random, &mut streams.value);
+    streams
 }
 
 /// Streams that end at the end of a block, or with a whole block of zeros.
