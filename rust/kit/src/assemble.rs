@@ -10,7 +10,7 @@ use crate::description::{
 };
 use crate::mistake::{Mistake, Position};
 use crate::parser::parse;
-use crate::record::{text_units, Kind, Record, STREAM_RECORDS};
+use crate::record::{self, text_units, Kind, Record, STREAM_RECORDS};
 use crate::rows::{nonterminals, numbered, row, size, text_length, unknown, word, Row};
 
 type Assembled<T> = Result<T, Mistake>;
@@ -72,12 +72,7 @@ fn packed(kind: Kind, records: &[Record], end: Position) -> Assembled<Vec<u8>> {
             format!("the {kind} takes {count} records, and a stream holds {STREAM_RECORDS}");
         return Err(Mistake::new(end, message));
     }
-    let payload: Vec<u8> = records.iter().flat_map(|record| record.0).collect();
-    let mut blocks = vec![0; payload.len().div_ceil(feed::PAYLOAD) * feed::BLOCK];
-    match feed::pack(kind.byte(), &payload, &mut blocks).finished() {
-        Ok(_) => Ok(blocks),
-        Err(refusal) => Err(Mistake::new(end, refusal.to_string())),
-    }
+    record::packed(kind, records).map_err(|refusal| Mistake::new(end, refusal.to_string()))
 }
 
 /// A variable or a field that a path may name, and its type if it is known.

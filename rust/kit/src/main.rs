@@ -1,14 +1,14 @@
-//! `kit`: assembles, prints and explains the page machine's streams.
+//! `kit`: assembles, prints, packs anew and explains the page machine's streams.
 
 #![forbid(unsafe_code)]
 
 use kit::explain::{explain, Lent, Set};
 use kit::record::Kind;
-use kit::{assemble, dump::dump};
+use kit::{assemble, dump::dump, repack, Repacked};
 use std::fmt::Display;
 use std::fs;
 use std::io::{self, Write};
-use std::path::Path;
+use std::path::{Path, PathBuf};
 use std::process::ExitCode;
 use std::str::FromStr;
 
@@ -18,6 +18,8 @@ kit: the page machine's streams
   kit assemble FILE DIR    make grammar.blk, template.blk and value.blk in DIR from the
                            description in FILE (rust/kit/FORMAT.md)
   kit dump FILE.blk        print a stream record by record
+  kit repack FILE.blk      give a stream whose checks are of the old kind those of now, in its
+  kit repack DIR           place (rust/kit/FORMAT.md); of a folder, the three streams in it
   kit explain DIR          check and evaluate the three streams in DIR by the proved library,
                            and show what is refused, where, and by which rule
       --fuel N             the most nodes visited (1000000)
@@ -25,7 +27,7 @@ kit: the page machine's streams
       --scratch N          the 16-bit numbers of the scratch (4800)
 
 Exit status: 0 fine; 1 refused: a description with a mistake, a stream that is damaged or
-odd, a set that is not accepted, a text that is not finished; 2 bad use.
+odd or not packed anew, a set that is not accepted, a text that is not finished; 2 bad use.
 ";
 
 /// The most that `--output` and `--scratch` may ask for.
@@ -80,6 +82,7 @@ fn run(words: &[&str]) -> Outcome {
     match words {
         ["assemble", file, folder] => assembled(file, Path::new(folder)),
         ["dump", file] => dumped(file),
+        ["repack", place] => repacked(Path::new(place)),
         ["explain", folder, options @ ..] => explained(Path::new(folder), lent(options)?),
         ["help" | "--help" | "-h"] => Ok((USAGE.to_string(), true)),
         _ => Err(Failure {
@@ -132,6 +135,46 @@ fn not_utf8(file: &str, error: &std::string::FromUtf8Error) -> String {
 fn dumped(file: &str) -> Outcome {
     let found = dump(file, &read(Path::new(file))?);
     Ok((found.text, found.sound))
+}
+
+/// Packs a stream or the three of a folder anew. If one of them is refused, all stay as they are.
+fn repacked(place: &Path) -> Outcome {
+    let files: Vec<(PathBuf, Option<Kind>)> = match place.is_dir() {
+        true => [Kind::Grammar, Kind::Templates, Kind::Value]
+            .map(|kind| (place.join(kind.file()), Some(kind)))
+            .to_vec(),
+        false => vec![(place.to_path_buf(), None)],
+    };
+    let (mut anew, mut text) = (Vec::new(), String::new());
+    for (file, kind) in files {
+        let name = file.display();
+        match repack(&read(&file)?, kind) {
+            Ok(Repacked::Kept) => text.push_str(&format!("{name}: kept, its checks are right\n")),
+            Ok(Repacked::Anew(blocks)) => {
+                text.push_str(&format!("{name}: packed anew, {} bytes\n", blocks.len()));
+                anew.push((file, blocks));
+            }
+            Err(why) => {
+                let why: String = why
+                    .lines()
+                    .map(|line| format!("{name}: {line}\n"))
+                    .collect();
+                return Err(Failure::refused(format!("{why}nothing is packed anew\n")));
+            }
+        }
+    }
+    for (file, blocks) in anew {
+        replace(&file, &blocks)
+            .map_err(|error| Failure::bad_use(format!("{}: {error}", file.display())))?;
+    }
+    Ok((text, true))
+}
+
+/// Gives a file other bytes, at once: whoever reads it finds the old ones or the new ones.
+fn replace(file: &Path, bytes: &[u8]) -> io::Result<()> {
+    let beside = file.with_extension("blk.new");
+    fs::write(&beside, bytes)?;
+    fs::rename(&beside, file)
 }
 
 fn explained(folder: &Path, lent: Lent) -> Outcome {

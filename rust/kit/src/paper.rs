@@ -13,6 +13,7 @@ pub fn quotes(refusal: Refusal, node_form: Option<u8>) -> Vec<&'static str> {
     }
     let mut found = vec![what_stops(refusal)];
     found.extend(match refusal {
+        Refusal::Block { .. } => &[CHAIN],
         Refusal::Layout { .. } => LAYOUT,
         Refusal::Typing { node: 0 } => &[],
         Refusal::Typing { .. } => typing(node_form),
@@ -74,6 +75,9 @@ fn typing(node_form: Option<u8>) -> &'static [&'static str] {
         _ => &[],
     }
 }
+
+const CHAIN: &str = "The check of each block now starts from the check of the block before it; \
+                     block 0 still starts from 2166136261.";
 
 const LAYOUT: &[&str] = &[
     "Unused fields are zero. Text follows its head in units of 8 bytes, the last zero-padded; \

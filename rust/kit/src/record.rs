@@ -1,6 +1,7 @@
 //! Records of 8 bytes, blocks of 512, and a stream's file read leniently.
 
-use feed::{BLOCK, PAYLOAD, PAYLOAD_START};
+use crate::checks::{wrong_check, Checks};
+use feed::{Refusal, BLOCK, PAYLOAD, PAYLOAD_START};
 use std::fmt;
 
 /// The bytes of a record.
@@ -72,6 +73,17 @@ pub fn text_units(text: &[u8]) -> impl Iterator<Item = Record> + '_ {
     })
 }
 
+/// The blocks of a kind that hold these records, by the proved packing.
+///
+/// # Errors
+/// The packing's refusal: there are none, or more than a stream holds.
+pub fn packed(kind: Kind, records: &[Record]) -> Result<Vec<u8>, Refusal> {
+    let payload: Vec<u8> = records.iter().flat_map(|record| record.0).collect();
+    let mut blocks = vec![0; payload.len().div_ceil(PAYLOAD) * BLOCK];
+    feed::pack(kind.byte(), &payload, &mut blocks).finished()?;
+    Ok(blocks)
+}
+
 /// The kind of a stream.
 #[derive(Clone, Copy, Debug, PartialEq, Eq)]
 pub enum Kind {
@@ -136,17 +148,23 @@ pub struct Found {
 impl Found {
     /// Reads whatever whole blocks the bytes hold.
     pub fn read(bytes: &[u8], expected: Option<Kind>) -> Self {
+        Self::read_by(bytes, expected, Checks::Chained)
+    }
+
+    /// The same, held against checks of a kind.
+    pub fn read_by(bytes: &[u8], expected: Option<Kind>, checks: Checks) -> Self {
         let blocks: Vec<&[u8]> = bytes.chunks_exact(BLOCK).collect();
         let kind = expected.or_else(|| blocks.iter().find_map(|block| Kind::of_byte(block[2])));
         let records = blocks
             .iter()
             .flat_map(|block| block_records(block))
             .collect();
-        let damage = blocks
-            .iter()
-            .enumerate()
-            .map(|(number, block)| damage(block, number, kind))
-            .collect();
+        let damage = |number: usize| {
+            let mut found = wrong_head(blocks[number], number, kind);
+            found.extend(wrong_check(&blocks, number, checks));
+            found
+        };
+        let damage = (0..blocks.len()).map(damage).collect();
         Self {
             kind,
             records,
@@ -183,7 +201,8 @@ fn wrong_length(length: usize) -> Option<String> {
     }
 }
 
-fn damage(block: &[u8], number: usize, kind: Option<Kind>) -> Vec<String> {
+/// What is wrong with the first four bytes of a block.
+fn wrong_head(block: &[u8], number: usize, kind: Option<Kind>) -> Vec<String> {
     let mut found = Vec::new();
     let own = usize::from(u16::from_le_bytes([block[0], block[1]]));
     if own != number {
@@ -196,34 +215,12 @@ fn damage(block: &[u8], number: usize, kind: Option<Kind>) -> Vec<String> {
     if block[3] != 0 {
         found.push(format!("byte 3 is {}, not zero", block[3]));
     }
-    let (head, check) = block.split_at(BLOCK - 4);
-    let stored = u32::from_le_bytes([check[0], check[1], check[2], check[3]]);
-    if stored != fnv1a(head) {
-        found.push(format!(
-            "its check is 0x{stored:08x}, and its bytes give 0x{:08x}",
-            fnv1a(head)
-        ));
-    }
     found
-}
-
-/// The 32-bit FNV-1a of bytes.
-fn fnv1a(bytes: &[u8]) -> u32 {
-    bytes.iter().fold(2_166_136_261, |hash, &byte| {
-        (hash ^ u32::from(byte)).wrapping_mul(16_777_619)
-    })
 }
 
 #[cfg(test)]
 mod tests {
     use super::*;
-
-    #[test]
-    fn published_values_of_the_check() {
-        assert_eq!(fnv1a(b""), 0x811c_9dc5);
-        assert_eq!(fnv1a(b"a"), 0xe40c_292c);
-        assert_eq!(fnv1a(b"foobar"), 0xbf9c_f968);
-    }
 
     #[test]
     fn fields_of_a_record() {

@@ -46,10 +46,8 @@ fn assemble_makes_the_three_files() {
         status(&["assemble", &example("harbour/feed.txt"), &name_of(&folder)]),
         Some(0)
     );
-    for name in ["grammar.blk", "template.blk", "value.blk"] {
-        let expected = fs::read(example(&format!("harbour/{name}"))).expect("a stream");
-        assert_eq!(fs::read(folder.join(name)).expect("a stream"), expected);
-    }
+    let harbour = PathBuf::from(example("harbour"));
+    assert_eq!(streams(&folder), streams(&harbour));
 }
 
 #[test]
@@ -156,12 +154,93 @@ fn explain_of_missing_files() {
     assert!(printed(&output).starts_with("check: the grammar: the length is zero"));
 }
 
+const FILES: [&str; 3] = ["grammar.blk", "template.blk", "value.blk"];
+
+fn streams(folder: &Path) -> [Vec<u8>; 3] {
+    FILES.map(|name| fs::read(folder.join(name)).expect("a stream"))
+}
+
+/// The podcast as it was packed before request b, in a fresh folder.
+fn old_podcast(name: &str) -> PathBuf {
+    let folder = folder(name);
+    let podcast = streams(Path::new(&example("podcast")));
+    for (name, mut stream) in FILES.iter().zip(podcast) {
+        for block in stream.chunks_exact_mut(feed::BLOCK) {
+            let (bytes, check) = block.split_at_mut(508);
+            let step = |hash: u32, byte: &u8| (hash ^ u32::from(*byte)).wrapping_mul(16_777_619);
+            let old = bytes.iter().fold(feed::CHECK_START, step);
+            check.copy_from_slice(&old.to_le_bytes());
+        }
+        fs::write(folder.join(name), stream).expect("written");
+    }
+    folder
+}
+
+#[test]
+fn old_checks_are_explained() {
+    let folder = old_podcast("old");
+    let output = kit(&["explain", &name_of(&folder)]);
+    assert_eq!(output.status.code(), Some(1));
+    let text = printed(&output);
+    assert!(text.starts_with("check: the grammar, block 1: a block has a wrong number"));
+    assert!(text.contains("block 0 still starts from 2166136261.\""));
+    assert!(text.contains("grammar.blk, block 1: its check is 0x"));
+    assert!(text.contains(", the check of block 0; it is a check of the old kind, "));
+    let output = kit(&["dump", &name_of(&folder.join("value.blk"))]);
+    assert!(printed(&output).contains("! block 3: its check is 0x"));
+}
+
+#[test]
+fn repack_of_a_folder() {
+    let (folder, podcast) = (old_podcast("repack"), PathBuf::from(example("podcast")));
+    let name = name_of(&folder);
+    let output = kit(&["repack", &name]);
+    assert_eq!(output.status.code(), Some(0));
+    assert!(printed(&output).starts_with(&format!("{name}/grammar.blk: packed anew, 2048 bytes\n")));
+    assert_eq!(streams(&folder), streams(&podcast));
+    let again = printed(&kit(&["repack", &name]));
+    assert_eq!(again.matches(": kept, its checks are right\n").count(), 3);
+    assert_eq!(streams(&folder), streams(&podcast));
+    assert_eq!(fs::read_dir(&folder).expect("a folder").count(), 3);
+}
+
+#[test]
+fn repack_of_a_file_of_one_block() {
+    let (file, stream) = (
+        folder("one_block").join("value.blk"),
+        fs::read(example("harbour/value.blk")).expect("a stream"),
+    );
+    fs::write(&file, &stream).expect("written");
+    assert_eq!(status(&["repack", &name_of(&file)]), Some(0));
+    assert_eq!(fs::read(&file).expect("a stream"), stream);
+}
+
+#[test]
+fn repack_of_a_damaged_stream_changes_nothing() {
+    let folder = old_podcast("refused");
+    let mut value = fs::read(folder.join("value.blk")).expect("a stream");
+    value[700] ^= 1;
+    fs::write(folder.join("value.blk"), value).expect("written");
+    let before = streams(&folder);
+    let output = kit(&["repack", &name_of(&folder)]);
+    assert_eq!(output.status.code(), Some(1));
+    let why = String::from_utf8_lossy(&output.stderr).into_owned();
+    assert!(
+        why.contains("value.blk: by the old ones, block 1: "),
+        "{why}"
+    );
+    assert!(why.ends_with("nothing is packed anew\n"), "{why}");
+    assert_eq!(streams(&folder), before);
+}
+
 #[test]
 fn bad_use() {
     assert_eq!(status(&[]), Some(2));
     assert_eq!(status(&["mend", "x"]), Some(2));
     assert_eq!(status(&["dump"]), Some(2));
     assert_eq!(status(&["dump", "there is no such file"]), Some(2));
+    assert_eq!(status(&["repack", "there is no such file"]), Some(2));
+    assert_eq!(status(&["repack", &name_of(&folder("nothing"))]), Some(2));
     assert_eq!(status(&["assemble", "there is no such file", "x"]), Some(2));
     assert_eq!(status(&["explain", "there is no such folder"]), Some(2));
     assert_eq!(status(&["explain", &example("harbour"), "--fuel"]), Some(2));
