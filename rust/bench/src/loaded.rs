@@ -41,11 +41,16 @@ type Evaluate = unsafe extern "C" fn(
     *mut u64,
 );
 
-/// The two calls of a library, which is never unloaded.
+/// Packing and unpacking have the same form.
+type Packing = unsafe extern "C" fn(u8, *const u8, usize, *mut u8, usize, *mut u64);
+
+/// The calls of a library, which is never unloaded.
 pub struct Loaded {
     file: String,
     check: Check,
     evaluate: Evaluate,
+    pack: Packing,
+    unpack: Packing,
 }
 
 impl Loaded {
@@ -69,20 +74,36 @@ impl Loaded {
             (!found.is_null()).then_some(found).ok_or_else(missing)
         };
         let (check, evaluate) = (export(c"feed_check")?, export(c"feed_evaluate")?);
-        // SAFETY: under these names the library has functions of these forms; both are pointers.
-        let (check, evaluate) = unsafe {
-            (
-                transmute::<*mut c_void, Check>(check),
-                transmute::<*mut c_void, Evaluate>(evaluate),
-            )
-        };
-        let file = path.display().to_string();
-        Ok(Loaded {
-            file,
-            check,
-            evaluate,
-        })
+        let (pack, unpack) = (export(c"feed_pack")?, export(c"feed_unpack")?);
+        // SAFETY: under these names the library has functions of these forms; all are pointers.
+        unsafe {
+            Ok(Loaded {
+                file: path.display().to_string(),
+                check: transmute::<*mut c_void, Check>(check),
+                evaluate: transmute::<*mut c_void, Evaluate>(evaluate),
+                pack: transmute::<*mut c_void, Packing>(pack),
+                unpack: transmute::<*mut c_void, Packing>(unpack),
+            })
+        }
     }
+}
+
+/// Packs or unpacks by a call of a library.
+fn packed(call: Packing, kind: u8, input: &[u8], out: &mut [u8]) -> Fields {
+    let mut answer = [0; 5];
+    // SAFETY: as in the wrapper `feed`: the input is a live slice with its own length, only read; `out`
+    // is lent for writing, and overlaps nothing; `answer` is five numbers of this frame.
+    unsafe {
+        call(
+            kind,
+            input.as_ptr(),
+            input.len(),
+            out.as_mut_ptr(),
+            out.len(),
+            answer.as_mut_ptr(),
+        );
+    }
+    answer
 }
 
 impl Calls for Loaded {
@@ -132,5 +153,13 @@ impl Calls for Loaded {
             );
         }
         answer
+    }
+
+    fn pack(&self, kind: u8, payload: &[u8], out: &mut [u8]) -> Fields {
+        packed(self.pack, kind, payload, out)
+    }
+
+    fn unpack(&self, kind: u8, stream: &[u8], out: &mut [u8]) -> Fields {
+        packed(self.unpack, kind, stream, out)
     }
 }

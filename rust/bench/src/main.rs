@@ -5,7 +5,9 @@
 //! it is measured against another build of it, a shared object with the same exports, which an
 //! archive becomes by `cc -shared -o OLD.so -Wl,--whole-archive libfeed.a`. With `--new` the new build
 //! is loaded as well: where code lies in memory counts for some percent, and two builds that are
-//! loaded alike lie alike. A copy of the old one as the new one says how much a ratio is worth.
+//! loaded alike lie alike. A copy of the old one as the new one says how much a ratio is worth. Each
+//! build packs the streams that it is measured on: builds from before and after request b write other
+//! checks, and refuse each other's.
 
 #[allow(unsafe_code)]
 mod loaded;
@@ -16,14 +18,14 @@ mod sets;
 use std::hint::black_box;
 use std::path::Path;
 
-use build::fnv1a;
+use build::{fnv1a, payload, BLOCK, GRAMMAR, PAYLOAD, TEMPLATES, VALUE};
 use loaded::Loaded;
 use measure::{measure, Times};
 use sets::{Family, FAMILIES};
 use trials::generate::Streams;
 use trials::{Fields, Machine, Reference};
 
-/// The two calls that are measured.
+/// The calls that are measured.
 trait Calls {
     fn name(&self) -> String;
     fn check(&self, grammar: &[u8], templates: &[u8]) -> Fields;
@@ -34,6 +36,8 @@ trait Calls {
         out: &mut [u8],
         scratch: &mut [u16],
     ) -> Fields;
+    fn pack(&self, kind: u8, payload: &[u8], out: &mut [u8]) -> Fields;
+    fn unpack(&self, kind: u8, stream: &[u8], out: &mut [u8]) -> Fields;
 }
 
 impl<M: Machine> Calls for M {
@@ -54,6 +58,14 @@ impl<M: Machine> Calls for M {
     ) -> Fields {
         Machine::evaluate(self, streams, fuel, out, scratch)
     }
+
+    fn pack(&self, kind: u8, payload: &[u8], out: &mut [u8]) -> Fields {
+        Machine::pack(self, kind, payload, out)
+    }
+
+    fn unpack(&self, kind: u8, stream: &[u8], out: &mut [u8]) -> Fields {
+        Machine::unpack(self, kind, stream, out)
+    }
 }
 
 fn main() -> Result<(), String> {
@@ -66,6 +78,7 @@ fn main() -> Result<(), String> {
         Some(old) => against_table(new.as_ref(), &old, rounds),
         None => {
             speed_table(rounds);
+            packing_table(rounds);
             growth_table(rounds);
         }
     }
@@ -114,12 +127,60 @@ fn checking<'a>(machine: &'a dyn Calls, streams: &'a Streams) -> Thing<'a> {
 }
 
 /// The pass that no evaluate call can do without: FNV-1a over the same bytes.
-fn hashing(streams: &Streams) -> Thing<'_> {
+fn hashing<'a>(parts: impl IntoIterator<Item = &'a [u8]>) -> Thing<'a> {
+    let parts: Vec<&[u8]> = parts.into_iter().collect();
     Box::new(move || {
-        for stream in black_box(streams.parts()) {
+        for stream in black_box(&parts) {
             black_box(fnv1a(stream));
         }
     })
+}
+
+/// The longest payload that can be packed: 128 blocks of it.
+fn longest_payload() -> Vec<u8> {
+    (0..128 * PAYLOAD)
+        .map(|at| (at * 7 + at / 251) as u8)
+        .collect()
+}
+
+fn packing<'a>(machine: &'a dyn Calls, payload: &'a [u8]) -> Thing<'a> {
+    let mut out = vec![0; 65_536];
+    Box::new(move || {
+        black_box(machine.pack(VALUE, black_box(payload), &mut out));
+    })
+}
+
+fn unpacking<'a>(machine: &'a dyn Calls, stream: &'a [u8]) -> Thing<'a> {
+    let mut out = vec![0; 65_536];
+    Box::new(move || {
+        black_box(machine.unpack(VALUE, black_box(stream), &mut out));
+    })
+}
+
+/// A payload as a stream that the machine itself has packed, and takes.
+fn packed_by(machine: &dyn Calls, kind: u8, payload: &[u8]) -> Vec<u8> {
+    let mut out = vec![0; payload.len().div_ceil(PAYLOAD) * BLOCK];
+    let mut back = vec![0; out.len()];
+    assert_eq!(machine.pack(kind, payload, &mut out)[0], 0);
+    let [number, .., bytes] = machine.unpack(kind, &out, &mut back);
+    let same = back[..bytes as usize].starts_with(payload);
+    assert!(number == 0 && same, "{}: unpacking", machine.name());
+    out
+}
+
+/// The streams of a set as the machine itself packs them.
+fn set_packed_by(machine: &dyn Calls, streams: &Streams) -> Streams {
+    let [grammar, templates, value] = [
+        (GRAMMAR, &streams.grammar),
+        (TEMPLATES, &streams.templates),
+        (VALUE, &streams.value),
+    ]
+    .map(|(kind, stream)| packed_by(machine, kind, &payload(stream)));
+    Streams {
+        grammar,
+        templates,
+        value,
+    }
 }
 
 /// What a machine answers and writes on a set, which must finish.
@@ -174,7 +235,7 @@ fn speed_table(rounds: usize) {
 fn speed_row(family: &Family, machines: &[Box<dyn Calls>], rounds: usize) -> Vec<String> {
     let streams = (family.set)(4);
     let ([.., steps, bytes], _) = finished(&Reference, family, &streams);
-    let mut things = vec![hashing(&streams)];
+    let mut things = vec![hashing(streams.parts())];
     for machine in machines {
         things.push(evaluation(&**machine, &streams));
         things.push(checking(&**machine, &streams));
@@ -194,6 +255,42 @@ fn speed_row(family: &Family, machines: &[Box<dyn Calls>], rounds: usize) -> Vec
         cells.extend([0, 1].map(|which| with_quartiles(call[which].ratio(&calls[0][which]))));
     }
     cells
+}
+
+/// What packing and unpacking take: the one chains its checks block after block, the other knows where
+/// each starts from beforehand.
+fn packing_table(rounds: usize) {
+    let (machines, payload) = (machines(), longest_payload());
+    let stream = packed_by(&Reference, VALUE, &payload);
+    println!("Packing and unpacking of 128 blocks.\n");
+    let mut cells = vec!["call".to_string(), "FNV-1a pass, µs".into()];
+    for machine in &machines {
+        cells.push(format!("call / FNV, {}", machine.name()));
+    }
+    for machine in &machines[1..] {
+        cells.push(format!("{} / reference", machine.name()));
+    }
+    header(&cells);
+    let mut things = vec![hashing([&stream[..]])];
+    for machine in &machines {
+        things.push(packing(&**machine, &payload));
+        things.push(unpacking(&**machine, &stream));
+    }
+    let times = measure(&mut things, rounds);
+    let (hash, calls) = times.split_first().expect("a hash pass");
+    let calls: Vec<&[Times]> = calls.chunks(2).collect();
+    for (which, name) in ["pack", "unpack"].into_iter().enumerate() {
+        let mut cells = vec![name.to_string(), format!("{:.1}", hash.median() * 1e6)];
+        cells.extend(
+            calls
+                .iter()
+                .map(|call| with_quartiles(call[which].ratio(hash))),
+        );
+        let others = calls[1..].iter();
+        cells.extend(others.map(|call| with_quartiles(call[which].ratio(&calls[0][which]))));
+        row(&cells);
+    }
+    println!();
 }
 
 fn growth_table(rounds: usize) {
@@ -233,7 +330,8 @@ fn growth_row(family: &Family, machines: &[Box<dyn Calls>], rounds: usize) -> Ve
     cells
 }
 
-/// A new build, or the last of the machines, against an old one, which must answer the same.
+/// A new build, or the last of the machines, against an old one, which must answer the same, each on
+/// streams of its own packing.
 fn against_table(new: Option<&Loaded>, old: &dyn Calls, rounds: usize) {
     let machines = machines();
     let linked = &**machines.last().expect("a machine");
@@ -244,27 +342,53 @@ fn against_table(new: Option<&Loaded>, old: &dyn Calls, rounds: usize) {
         row(&against_row(family, new, old, rounds));
     }
     println!();
+    header(
+        &[
+            "bytes of 128 blocks",
+            "pack, new / old",
+            "unpack, new / old",
+        ]
+        .map(String::from),
+    );
+    row(&against_packing_row(new, old, rounds));
+    println!();
 }
 
 fn against_row(family: &Family, new: &dyn Calls, old: &dyn Calls, rounds: usize) -> Vec<String> {
     let streams = (family.set)(4);
     let mut cells = vec![family.name.to_string(), input(&streams).to_string()];
+    let [streams, olds] = [new, old].map(|machine| set_packed_by(machine, &streams));
     // The layout of a form that an older build doesn't know.
-    if old.check(&streams.grammar, &streams.templates)[0] == 3 {
+    if old.check(&olds.grammar, &olds.templates)[0] == 3 {
         cells.extend(["no such form in the old".into(), String::new()]);
         return cells;
     }
-    let [answers, others] = [new, old].map(|machine| finished(machine, family, &streams));
-    assert!(answers == others, "{}: other answers", family.name);
+    let answers = finished(new, family, &streams);
+    let same = answers == finished(old, family, &olds);
+    assert!(same, "{}: other answers", family.name);
     let mut things = vec![
         evaluation(new, &streams),
-        evaluation(old, &streams),
+        evaluation(old, &olds),
         checking(new, &streams),
-        checking(old, &streams),
+        checking(old, &olds),
     ];
     let times = measure(&mut things, rounds);
     cells.extend([0, 2].map(|new| with_quartiles(times[new].ratio(&times[new + 1]))));
     cells
+}
+
+fn against_packing_row(new: &dyn Calls, old: &dyn Calls, rounds: usize) -> Vec<String> {
+    let payload = longest_payload();
+    let [stream, olds] = [new, old].map(|machine| packed_by(machine, VALUE, &payload));
+    let mut things = vec![
+        packing(new, &payload),
+        packing(old, &payload),
+        unpacking(new, &stream),
+        unpacking(old, &olds),
+    ];
+    let times = measure(&mut things, rounds);
+    let ratios = [0, 2].map(|new| with_quartiles(times[new].ratio(&times[new + 1])));
+    [vec![stream.len().to_string()], ratios.to_vec()].concat()
 }
 
 /// The ratio of a thing to itself says how much a ratio is worth.
