@@ -187,6 +187,9 @@ pub fn try_streams(
         tally.evaluate[fields[0] as usize] += 1;
     }
     try_packing(one, two, random, streams, &mut tally)?;
+    let stream = *random.pick(&parts);
+    let given = try_single_block(one, two, random, stream)?;
+    tally.blocks[usize::from(given > 0)] += 1;
     Ok(tally)
 }
 
@@ -265,8 +268,6 @@ fn try_packing(
     if how == Packing::Unpack {
         tally.count_place(fields);
     }
-    let given = try_single_block(one, two, random, stream)?;
-    tally.blocks[usize::from(given > 0)] += 1;
     Ok(())
 }
 
