@@ -18,7 +18,7 @@ mod sets;
 use std::hint::black_box;
 use std::path::Path;
 
-use build::{fnv1a, payload, BLOCK, GRAMMAR, PAYLOAD, TEMPLATES, VALUE};
+use build::{fnv1a, payload, BLOCK, PAYLOAD, VALUE};
 use loaded::Loaded;
 use measure::{measure, Times};
 use sets::{Family, FAMILIES};
@@ -170,17 +170,11 @@ fn packed_by(machine: &dyn Calls, kind: u8, payload: &[u8]) -> Vec<u8> {
 
 /// The streams of a set as the machine itself packs them.
 fn set_packed_by(machine: &dyn Calls, streams: &Streams) -> Streams {
-    let [grammar, templates, value] = [
-        (GRAMMAR, &streams.grammar),
-        (TEMPLATES, &streams.templates),
-        (VALUE, &streams.value),
-    ]
-    .map(|(kind, stream)| packed_by(machine, kind, &payload(stream)));
-    Streams {
-        grammar,
-        templates,
-        value,
+    let mut packed = streams.clone();
+    for (index, stream) in streams.parts().into_iter().enumerate() {
+        *packed.part_mut(index) = packed_by(machine, index as u8 + 1, &payload(stream));
     }
+    packed
 }
 
 /// What a machine answers and writes on a set, which must finish.

@@ -69,6 +69,13 @@ pub fn due_check(block: &[u8], start: u32) -> u32 {
     fnv1a_from(start, &block[..CHECK_AT])
 }
 
+/// The number from which the check of one of a stream's blocks is to start.
+#[must_use]
+pub fn due_start(stream: &[u8], number: usize) -> u32 {
+    let before = number.checked_sub(1);
+    before.map_or(CHECK_START, |before| check_of(&stream[before * BLOCK..]))
+}
+
 /// The one number from which the check that a whole block holds is right.
 #[must_use]
 pub fn start_of(block: &[u8]) -> u32 {
@@ -187,8 +194,7 @@ mod tests {
         assert_eq!(taken_back(hash, b"any bytes"), 77);
         let stream = three_blocks();
         let starts: Vec<u32> = stream.chunks(BLOCK).map(start_of).collect();
-        let checks: Vec<u32> = stream.chunks(BLOCK).map(check_of).collect();
-        assert_eq!(starts, [CHECK_START, checks[0], checks[1]]);
+        assert_eq!(starts, [0, 1, 2].map(|number| due_start(&stream, number)));
     }
 
     #[test]

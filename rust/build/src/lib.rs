@@ -41,8 +41,8 @@ mod templates;
 mod value;
 
 pub use blocks::{
-    blocks, check_of, due_check, fnv1a, fnv1a_from, mend, mend_each, mend_from, payload, set_check,
-    start_of, with_check, BLOCK, CHECK_START, PAYLOAD,
+    blocks, check_of, due_check, due_start, fnv1a, fnv1a_from, mend, mend_each, mend_from, payload,
+    set_check, start_of, with_check, BLOCK, CHECK_START, PAYLOAD,
 };
 pub use grammar::{Class, Element, Grammar, Production};
 pub use records::{record, records_of, text_units, Record};

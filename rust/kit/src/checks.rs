@@ -61,7 +61,7 @@ fn fnv1a_from(start: u32, bytes: &[u8]) -> u32 {
 
 /// Gives each block of a stream a check of the old kind.
 #[cfg(test)]
-pub fn with_old_checks(stream: &mut [u8]) {
+pub(crate) fn with_old_checks(stream: &mut [u8]) {
     for block in stream.chunks_exact_mut(BLOCK) {
         let check = due(block, CHECK_START);
         block[BLOCK - 4..].copy_from_slice(&check.to_le_bytes());

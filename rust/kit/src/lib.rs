@@ -1,4 +1,4 @@
-//! The kit: assembles, prints and explains the page machine's streams.
+//! The kit: assembles, prints, packs anew and explains the page machine's streams.
 //!
 //! - [`mod@assemble`] makes the three streams from a description in the format of `FORMAT.md`;
 //! - [`mod@dump`] prints a stream record by record;

@@ -53,10 +53,8 @@ fn known_kind(kind: u8) -> bool {
 
 /// The check that a block of 512 bytes holds, right or wrong.
 fn stored_check(block: &[u8]) -> u32 {
-    block[CHECK_AT..]
-        .iter()
-        .rev()
-        .fold(0, |number, &byte| number << 8 | u32::from(byte))
+    let check = &block[CHECK_AT..];
+    u32::from_le_bytes([check[0], check[1], check[2], check[3]])
 }
 
 fn check_holds(block: &[u8], start: u32) -> bool {

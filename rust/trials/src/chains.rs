@@ -14,7 +14,7 @@ pub enum Chain {
     TwoBefore,
     /// The check of the block before, but every four blocks 2166136261.
     AnewEveryFour,
-    /// The check of the block before, but 2166136261 behind the last four whole blocks.
+    /// The check of the block before, but 2166136261 in the first block behind the last whole four.
     AnewBehindFours,
     /// The check of the block before, but 2166136261 in the last block.
     LastAlone,

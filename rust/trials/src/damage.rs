@@ -1,6 +1,6 @@
 //! Damage to streams: every field, flipped bytes, cut and joined streams, odd lengths.
 
-use build::{blocks, check_of, mend, mend_from, records_of, Record, BLOCK, CHECK_START};
+use build::{blocks, due_start, mend, mend_from, records_of, Record, BLOCK};
 
 use crate::generate::Streams;
 use crate::random::Random;
@@ -167,13 +167,11 @@ fn change_header(random: &mut Random, stream: &mut [u8]) {
     if count == 0 {
         return;
     }
-    let (before, behind) = stream.split_at_mut(random.below(count) * BLOCK);
+    let number = random.below(count);
+    let start = due_start(stream, number);
+    let behind = &mut stream[number * BLOCK..];
     let at = random.below(4);
     behind[at] = odd_byte(random, behind[at]);
-    let start = before
-        .rchunks_exact(BLOCK)
-        .next()
-        .map_or(CHECK_START, check_of);
     match random.once_in(2) {
         true => mend_from(behind, start),
         false => mend_from(&mut behind[..BLOCK], start),

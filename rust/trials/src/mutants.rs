@@ -77,9 +77,8 @@ impl Mutant {
     pub fn all() -> Vec<Mutant> {
         let separates = Fault::ALL.map(Mutant::Separates);
         let packs = Chain::OTHER.map(Mutant::Packs);
-        let judges = [&Chain::OTHER[..], &Chain::LENIENT].concat();
-        let judges = judges.into_iter();
-        let judges = judges.flat_map(|chain| [Mutant::Judges(chain), Mutant::Unpacks(chain)]);
+        let chains = Chain::OTHER.iter().chain(&Chain::LENIENT);
+        let judges = chains.flat_map(|&chain| [Mutant::Judges(chain), Mutant::Unpacks(chain)]);
         let mut all = [&Self::OTHERS[..], &separates, &packs].concat();
         all.extend(judges);
         all

@@ -2,7 +2,7 @@
 
 use std::fmt;
 
-use build::{check_of, mend_from, BLOCK, CHECK_START, PAYLOAD};
+use build::{due_start, mend_from, BLOCK, PAYLOAD};
 
 use crate::compare::{self, Call, Difference, Packing};
 use crate::damage::damage;
@@ -279,15 +279,15 @@ fn try_single_block(
     random: &mut Random,
     stream: &[u8],
 ) -> Result<usize, Difference> {
-    let at = random.below(stream.len() / BLOCK) * BLOCK;
+    let number = random.below(stream.len() / BLOCK);
     let length = match random.below(8) {
         0 => *random.pick(&[BLOCK - 1, BLOCK + 1, 0]),
         _ => BLOCK,
     };
-    let before = stream[..at].rchunks_exact(BLOCK).next();
-    let mut block = stream[at..(at + length).min(stream.len())].to_vec();
+    let from = &stream[number * BLOCK..];
+    let mut block = from[..length.min(from.len())].to_vec();
     let start = match random.once_in(2) {
-        true => before.map_or(CHECK_START, check_of),
+        true => due_start(stream, number),
         false => uploads::some_start(random, stream),
     };
     if random.once_in(4) {

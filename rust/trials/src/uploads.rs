@@ -3,8 +3,8 @@
 //!
 //! Numbers, kinds and bytes 3 are mostly right, so that it is a check that is refused, or nothing.
 
-use build::{blocks, check_of, due_check, mend, mend_each, mend_from, set_check, with_check};
-use build::{BLOCK, CHECK_START};
+use build::{blocks, check_of, due_check, due_start, set_check, with_check};
+use build::{mend, mend_each, mend_from, BLOCK, CHECK_START};
 
 use crate::random::Random;
 
@@ -114,12 +114,8 @@ fn wrong_check(random: &mut Random, stream: &mut [u8]) {
 /// Swaps, doubles or drops a block. All are numbered anew, and each check starts from the number
 /// that it started from before.
 fn move_own(random: &mut Random, stream: &mut Vec<u8>) {
-    let mut start = CHECK_START;
-    let mut rows = Vec::new();
-    for block in stream.chunks_exact(BLOCK) {
-        rows.push((start, block.to_vec()));
-        start = check_of(block);
-    }
+    let row = |(number, block): (usize, &[u8])| (due_start(stream, number), block.to_vec());
+    let mut rows: Vec<_> = stream.chunks_exact(BLOCK).enumerate().map(row).collect();
     let (one, two) = (random.below(rows.len()), random.below(rows.len()));
     match random.below(3) {
         0 => rows.swap(one, two),
@@ -139,7 +135,7 @@ fn move_own(random: &mut Random, stream: &mut Vec<u8>) {
 /// the new ones are the same. Behind them the checks are right, or at times old ones.
 pub(crate) fn chances(random: &mut Random, stream: &mut [u8]) {
     let most = count(stream).min(4);
-    let number = random.between(most.min(1), most);
+    let number = random.between(1, most);
     for block in stream.chunks_exact_mut(BLOCK).take(number) {
         with_check(block, CHECK_START, CHECK_START);
     }
