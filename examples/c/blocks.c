@@ -4,7 +4,7 @@
  *
  * Prints the payload on standard output, up to the first block that is wrong or doesn't
  * follow the one before it. What was printed until then is of one upload.
- * Exit status: 0 all blocks are right, 1 one isn't, 2 bad use.
+ * Exit status: 0 all blocks are right, 1 one isn't or there is none, 2 bad use.
  */
 #include "feed.h"
 
@@ -31,10 +31,15 @@ int main(int count, char **words)
     uint32_t start = FEED_CHECK_START;
     unsigned number;
     size_t length;
-    FILE *file = count == 2 ? fopen(words[1], "rb") : NULL;
+    FILE *file;
 
-    if (file == NULL) {
+    if (count != 2) {
         fprintf(stderr, "usage: blocks FILE\n");
+        return 2;
+    }
+    file = fopen(words[1], "rb");
+    if (file == NULL) {
+        perror(words[1]);
         return 2;
     }
     for (number = 0; (length = fread(block, 1, sizeof block, file)) > 0; number++) {
@@ -47,10 +52,12 @@ int main(int count, char **words)
         fwrite(block + FEED_PAYLOAD_START, 1, FEED_PAYLOAD, stdout);
         start = check_of(block);
     }
-    if (ferror(file) || fflush(stdout) != 0) {
+    if (ferror(file) || fflush(stdout) != 0 || ferror(stdout)) {
         perror("blocks");
         return 2;
     }
     fclose(file);
+    if (number == 0)
+        fprintf(stderr, "blocks: there is none\n");
     return number == 0;
 }

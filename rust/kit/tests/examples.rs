@@ -58,6 +58,17 @@ fn the_papers_description_gives_its_streams() {
     assert_eq!(assembled("harbour"), streams("harbour"));
 }
 
+/// The program `harbour` runs on the same streams. They have one block each, so that their checks are
+/// what they were before checks started from the block before.
+#[test]
+fn the_papers_program_has_its_streams() {
+    for name in ["grammar.blk", "template.blk", "value.blk"] {
+        let stream = read(&format!("examples/harbour/{name}"));
+        assert_eq!(stream, read(&format!("crates/harbour/data/{name}")));
+        assert_eq!(stream.len(), feed::BLOCK);
+    }
+}
+
 /// The grammar of the paper's example, record by record.
 const GRAMMAR: [[u8; 8]; 15] = [
     [1, 0, 1, 0, 4, 0, 2, 0],
