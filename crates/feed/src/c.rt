@@ -49,7 +49,7 @@ pub extern "C" fn feed_unpack(kind: u8, stream: &[u8], out: &mut [u8], answer: &
     put(crate::unpack(kind, stream, out), answer);
 }
 
-// The payload's length: 504 bytes that start at byte 4 of the block, or 0.
+// The payload's length: 504 bytes that begin at byte 4 of the block, or 0. The check starts from `start`.
 #[no_mangle]
 pub extern "C" fn feed_block_payload(block: &[u8], start: u32) -> usize
     ensures { λ n. ⌜ n ≡ length (blockPayload (now (block .entry)) start) ⌝ }

@@ -13,6 +13,7 @@ mod verdict;
 use rules::Answer;
 use set::judge;
 pub use stream::block::block_payload;
+pub use stream::fnv::START;
 pub use stream::pack::pack;
 pub use stream::pack::unpack;
 use streams::judge_all;

@@ -1,4 +1,4 @@
--- How long packed blocks and payloads are, and which check a packed block has.
+-- How long blocks and payloads are, and which check a packed block has.
 use Prim.Native.Nat.{ℕ, zero, suc, _+_, _-_, _*_, _/_, _%_, _≤_, _<_}
 use mathlib.Core.Path.{_≡_, refl, ap₂, _∙_}
 use mathlib.Core.List.{List, [], _∷_, _++_}
@@ -9,7 +9,7 @@ use lib.ListN.{length, take, drop, getD, replicate, length-append, length-take, 
 use lib.Pow.{shr-shr}
 use lib.Seq.{getD-append-add}
 use Rattle.rules.specs.Records.{word}
-use Rattle.rules.specs.Blocks.{multiplied, fnv1a, word32, checkOf, bytes32, checked, filled, packedBlock, packedBlocks, packed, payloads, unpacked}
+use Rattle.rules.specs.Blocks.{multiplied, fnv1a, word32, checkOf, block, bytes32, checked, filled, packedBlock, packedBlocks, packed, payloads, unpacked}
 
 -- FNV-1a gives numbers of 32 bits: of no bytes at all where it starts from one, of some bytes always
 pub fnv1a-small : (h : ℕ) (s : List ℕ) → h < 4294967296 → fnv1a h s < 4294967296
@@ -21,6 +21,10 @@ pub fnv1a-of-some : (h : ℕ) (s : List ℕ) → 1 ≤ length s → fnv1a h s < 
 unfolding fnv1a multiplied
 fnv1a-of-some h [] l = absurd (omega arith)
 fnv1a-of-some h (b ∷ bs) l = fnv1a-small (multiplied (bitXor b h)) bs (omega arith)
+
+pub block-whole : (s : List ℕ) (n : ℕ) → 512 * n + 512 ≤ length s → length (block s n) ≡ 512
+unfolding block
+block-whole s n l = simp (length-take, length-drop) (omega arith)
 
 pub filled-length : (p : List ℕ) → length p ≤ 504 → length (filled p) ≡ 504
 unfolding filled

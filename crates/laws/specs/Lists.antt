@@ -4,10 +4,10 @@ use mathlib.Core.Path.{_≡_, refl, sym, ap, _∙_}
 use mathlib.Core.List.{List, [], _∷_, _++_, map}
 use mathlib.Core.Option.{Option, none, some, Option·some-ne-none, Option·none-ne-some, Option·some-injective}
 use native.Mathlib.Omega.{arith}
-use native.Mathlib.Nat.{le-of-suc-le-suc, not-suc-le-zero}
+use native.Mathlib.Nat.{le-of-suc-le-suc, not-suc-le-zero, zero-add, suc-add}
 use native.Mathlib.Numerals.{add-one}
 use lib.ListN.{length, getD, take, drop, length-take, drop-of-length-le}
-use lib.Seq.{getD-take, drop-cons}
+use lib.Seq.{getD-take, take-nil, drop-cons}
 use Rattle.rules.specs.Records.{nth, numbered}
 
 pub nth-some : (xs : List ℕ) (i : ℕ) → i < length xs → nth xs i ≡ some (getD xs i 0)
@@ -62,3 +62,9 @@ module _ (xs : List ℕ) (i : ℕ) where
 pub length-map : {A B : Type 0} (f : A → B) (xs : List A) → length (map f xs) ≡ length xs
 length-map f [] = refl
 length-map f (x ∷ xs) = ap suc (length-map f xs)
+
+-- what is left of a first part
+pub drop-take : (m n : ℕ) (l : List ℕ) → drop m (take (m + n) l) ≡ take n (drop m l)
+drop-take zero n l = rw zero-add
+drop-take (suc m) n [] = rw suc-add (sym (take-nil n))
+drop-take (suc m) n (x ∷ l) = rw suc-add (drop-take m n l)

@@ -48,16 +48,17 @@ blockPayload b start = cond (eqb (length b) 512 && (isKind (getD b 2 0) && sound
 unfoldable pub streamLength : List ℕ → Option ℕ
 streamLength s = need (leb 1 (length s) && (leb (length s) 65536 && eqb (length s % 512) 0)) 0
 
--- refusal 2: "A block has a wrong number, kind, byte 3 or check (place: block)"
+-- block n of a stream
 unfoldable pub block : List ℕ → ℕ → List ℕ
 block s n = take 512 (drop (512 * n) s)
 
--- where block n of a stream starts: "The check of each block now starts from the check of the block before it; block 0 still starts from
--- 2166136261" (02 b)
+-- the number that the check of block n of a stream starts from: "The check of each block now starts from the check of the block before it; block 0
+-- still starts from 2166136261" (02 b)
 unfoldable pub startOf : List ℕ → ℕ → ℕ
 startOf s zero = fnvStart
 startOf s (suc n) = checkOf (block s n)
 
+-- refusal 2: "A block has a wrong number, kind, byte 3 or check (place: block)"
 unfoldable pub blockRight : ℕ → List ℕ → ℕ → Bool
 blockRight kind s n = eqb (word (block s n) 0) n && sound kind (startOf s n) (block s n)
 
@@ -78,7 +79,8 @@ filled payload = payload ++ replicate (504 - length payload) 0
 unfoldable pub packedBlock : ℕ → ℕ → ℕ → List ℕ → List ℕ
 packedBlock kind start n payload = checked start ((n % 256 ∷ n / 256 % 256 ∷ kind ∷ 0 ∷ []) ++ filled payload)
 
--- k blocks, numbered from n on: the first starts from a start, each other "from the check of the block before it"; "packing writes the new ones" (02 b)
+-- k blocks, numbered from n on: the check of the first starts from the number given, of each other "from the check of the block before it";
+-- "packing writes the new ones" (02 b)
 unfoldable pub packedBlocks : ℕ → ℕ → ℕ → ℕ → List ℕ → List ℕ
 packedBlocks kind zero start n payload = []
 packedBlocks kind (suc k) start n payload =

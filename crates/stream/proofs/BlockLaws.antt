@@ -66,9 +66,6 @@ pub block-part : (s : List ℕ) (n : ℕ) → take (512 * n + 512 - 512 * n) (dr
 unfolding block
 block-part s n = let z : 512 * n + 512 - 512 * n ≡ 512 = omega arith in rw z
 
-pub block-whole : (s : List ℕ) (n : ℕ) → 512 * n + 512 ≤ length s → length (take (512 * n + 512 - 512 * n) (drop (512 * n) s)) ≡ 512
-block-whole s n l = simp (length-take, length-drop) (omega arith)
-
 -- where the check of a block starts: of the first, and of each after it
 pub start-first : (s : List ℕ) (n : ℕ) → n ≡ 0 → 2166136261 ≡ startOf s n
 unfolding startOf fnvStart

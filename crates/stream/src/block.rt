@@ -85,7 +85,8 @@ fn is_single(b: &[u8], start: u32) -> bool
 }
 
 // The payload of a single block, as a part of the caller's slice: the 504 bytes that begin at byte 4 of the lent memory, or none of it,
-// at its beginning, where the block is not right. Its check starts from the check of the block before it, or from START.
+// at its beginning, where the block is not right. Its check starts from `start`, any number: from START for block 0 of a stream, for each other
+// from the check of the block before it.
 pub fn block_payload(block: &[u8], start: u32) -> &[u8]
     ensures { λ r. ⌜ (now r ≡ blockPayload (now (block .entry)) start) × (r .ptr ≡ (block .entry .ptr .0, min 4 (length (now r)) + block .entry .ptr .1)) ⌝ }
 {

@@ -14,31 +14,27 @@ use lib.Seq.{length-take-le, take-append-le, drop-append-le, drop-append-add, dr
 use borrow.Author.Tests.{leb-true, leb-false}
 use Rattle.rules.specs.Records.{word}
 use Rattle.rules.specs.Blocks.{fnvStart, blockPayload, checkOf, block, startOf, streamBlocks}
-use Rattle.laws.specs.Blocks.{fnv1a-of-some}
+use Rattle.laws.specs.Blocks.{fnv1a-of-some, block-whole}
+use Rattle.laws.specs.Lists.{drop-take}
 use Rattle.theorems.specs.Streams.{WellSized, RightFrom, RightBlock, blocks-exactly}
 use Rattle.theorems.specs.Accepted.{RightBlocks}
 use Rattle.theorems.specs.Offences.{WrongBlock}
 use Rattle.theorems.specs.FirstOffending.{first-block}
-use Rattle.theorems.specs.Unpacked.{drop-take}
 use Rattle.theorems.specs.Starts.{same-start}
 use Rattle.theorems.specs.PackCalls.{StreamKind, RightAlone, Payload, bytes-4-to-507, empty-part, payload-answers}
 
-block-whole : (s : List ℕ) (n : ℕ) → n < length s / 512 → length (block s n) ≡ 512
-unfolding block
-block-whole s n l = simp (length-take, length-drop) (omega arith)
-
 -- The check of a right block is a number of 32 bits, whatever it starts from.
 some-bytes : (s : List ℕ) (n : ℕ) → n < length s / 512 → 1 ≤ length (take 508 (block s n))
-some-bytes s n l = let w = block-whole s n l in simp length-take (omega arith)
+some-bytes s n l = let w = block-whole s n (omega arith) in simp length-take (omega arith)
 
 check-small : (start kind : ℕ) (s : List ℕ) (n : ℕ) → n < length s / 512 → RightFrom start kind s n → checkOf (block s n) < 4294967296
 check-small start kind s n l r = rw (r .check-right) (fnv1a-of-some start (take 508 (block s n)) (some-bytes s n l))
 
--- A block that is right from two starts has one
+-- Two starts that one block is right from are the same
 one-start : (h k kind : ℕ) (s : List ℕ) (n : ℕ) → h < 4294967296 → k < 4294967296 → RightFrom h kind s n → RightFrom k kind s n → h ≡ k
 one-start h k kind s n l m r q = same-start (take 508 (block s n)) h k l m (sym (r .check-right) ∙ q .check-right)
 
--- A block is right wherever it stands under its number, as long as it starts from the same
+-- A right block is right in another stream too, under the same number and from the same start
 right-alike : (h k kind : ℕ) (s t : List ℕ) (n : ℕ) → k ≡ h → block t n ≡ block s n → RightFrom h kind s n → RightFrom k kind t n
 right-alike h k kind s t n d e r = record {
   number-right = rw e (r .number-right);
@@ -61,11 +57,11 @@ first-wrong kind s n l before wrong = go (streamBlocks kind s) refl
     go (some m) e = let f = first-block kind s .first-offends m e in ap some (same m (f .0) (f .1) (leb n m) (leb m n) refl refl)
 
 -- The old rule: the check of every block starts from 2166136261.
-abbrev pub RightBefore : ℕ → List ℕ → Type 0
-RightBefore kind s = (n : ℕ) → n < length s / 512 → RightFrom 2166136261 kind s n
+abbrev pub RightByOldRule : ℕ → List ℕ → Type 0
+RightByOldRule kind s = (n : ℕ) → n < length s / 512 → RightFrom 2166136261 kind s n
 
 -- "Streams of one block keep their bytes."
-pub one-block-keeps : (kind : ℕ) (s : List ℕ) → length s ≡ 512 → RightBlocks kind s ↔ RightBefore kind s
+pub one-block-keeps : (kind : ℕ) (s : List ℕ) → length s ≡ 512 → RightBlocks kind s ↔ RightByOldRule kind s
 unfolding startOf fnvStart
 one-block-keeps kind s e = (λ r n l. go r n l, λ r n l. back r n l)
   where
@@ -73,7 +69,7 @@ one-block-keeps kind s e = (λ r n l. go r n l, λ r n l. back r n l)
     go r zero l = r zero l
     go r (suc n) l = absurd (omega arith)
 
-    back : RightBefore kind s → (n : ℕ) → n < length s / 512 → RightBlock kind s n
+    back : RightByOldRule kind s → (n : ℕ) → n < length s / 512 → RightBlock kind s n
     back r zero l = r zero l
     back r (suc n) l = absurd (omega arith)
 
@@ -92,36 +88,36 @@ pub record OldChecks (kind : ℕ) (s : List ℕ) : Type 0 where
   pub by-chance : ByChance s → RightBlocks kind s
   pub only-by-chance : RightBlocks kind s → ByChance s
 
-module _ (kind : ℕ) (s : List ℕ) (old : RightBefore kind s) where
-  -- a block that starts from 2166136261 is right
-  right-so : (n : ℕ) → n < length s / 512 → ((m : ℕ) → m + 1 ≡ n → checkOf (block s m) ≡ 2166136261) → RightBlock kind s n
+module _ (kind : ℕ) (s : List ℕ) (old : RightByOldRule kind s) where
+  -- a block whose check starts from 2166136261 is right
+  right-from-first : (n : ℕ) → n < length s / 512 → ((m : ℕ) → m + 1 ≡ n → checkOf (block s m) ≡ 2166136261) → RightBlock kind s n
   unfolding startOf fnvStart
-  right-so zero l so = old zero l
-  right-so (suc n) l so = right-alike _ _ kind s s (suc n) (so n (omega arith)) refl (old (suc n) l)
+  right-from-first zero l so = old zero l
+  right-from-first (suc n) l so = right-alike _ _ kind s s (suc n) (so n (omega arith)) refl (old (suc n) l)
 
   -- and no other
-  so-right : (n : ℕ) → suc n < length s / 512 → RightBlock kind s (suc n) → checkOf (block s n) ≡ 2166136261
+  first-from-right : (n : ℕ) → suc n < length s / 512 → RightBlock kind s (suc n) → checkOf (block s n) ≡ 2166136261
   unfolding startOf
-  so-right n l r =
+  first-from-right n l r =
       one-start (checkOf (block s n)) 2166136261 kind s (suc n) (check-small 2166136261 kind s n (omega arith) (old n (omega arith))) (omega arith) r (old (suc n) l)
 
   by-chance-right : ByChance s → RightBlocks kind s
-  by-chance-right c n l = right-so n l λ m e. c m (omega arith)
+  by-chance-right c n l = right-from-first n l λ m e. c m (omega arith)
 
   right-by-chance : RightBlocks kind s → ByChance s
-  right-by-chance r n l = so-right n (omega arith) (r (suc n) (omega arith))
+  right-by-chance r n l = first-from-right n (omega arith) (r (suc n) (omega arith))
 
   refused-after : (n : ℕ) → n + 1 < length s / 512 → ((m : ℕ) → m < n → checkOf (block s m) ≡ 2166136261) → (checkOf (block s n) ≡ 2166136261 → ⊥)
       → streamBlocks kind s ≡ some (n + 1)
   refused-after n l before other =
       rw (add-one n)
-      (first-wrong kind s (suc n) (omega arith) (λ m a. right-so m (omega arith) λ q e. before q (omega arith)) (λ r. other (so-right n (omega arith) r)))
+      (first-wrong kind s (suc n) (omega arith) (λ m a. right-from-first m (omega arith) λ q e. before q (omega arith)) (λ r. other (first-from-right n (omega arith) r)))
 
   some-refused : (ByChance s → ⊥) → (o : Option ℕ) → streamBlocks kind s ≡ o → (n : ℕ) × (o ≡ some n)
   some-refused other none e = absurd (other (right-by-chance (blocks-exactly kind s .0 e)))
   some-refused other (some n) e = (n, refl)
 
-pub old-checks : (kind : ℕ) (s : List ℕ) → RightBefore kind s → OldChecks kind s
+pub old-checks : (kind : ℕ) (s : List ℕ) → RightByOldRule kind s → OldChecks kind s
 old-checks kind s old = record {
   meets-2 = λ other. some-refused kind s old other (streamBlocks kind s) refl;
   at-the-block-after = refused-after kind s old;
@@ -136,9 +132,9 @@ joined k s t = take (512 * k) s ++ drop (512 * k) t
 -- two streams that are right, joined after k blocks
 pub record Joined (kind k : ℕ) (s t : List ℕ) : Type 0 where
   pub right-length : WellSized (joined k s t)
-  -- they are right exactly when the two have the same check in block k - 1
+  -- the joined blocks are right exactly when the two have the same check in block k - 1
   pub right-exactly : RightBlocks kind (joined k s t) ↔ (checkOf (block s (k - 1)) ≡ checkOf (block t (k - 1)))
-  -- else they meet refusal 2 where the other stream begins
+  -- else refusal 2 is met at block k, the first of the other stream
   pub refused-at : (checkOf (block s (k - 1)) ≡ checkOf (block t (k - 1)) → ⊥) → streamBlocks kind (joined k s t) ≡ some k
 
 module _ (k : ℕ) (s t : List ℕ) (a : k ≤ length s / 512) (b : k < length t / 512) where
@@ -174,7 +170,7 @@ module _ (k : ℕ) (s t : List ℕ) (a : k ≤ length s / 512) (b : k < length t
       ∙ ap (take 512) (drop-append-add x y (512 * n - 512 * k) ∙ drop-drop (512 * n - 512 * k) (512 * k) t)
       ∙ ap (λ (i : ℕ). take 512 (drop i t)) f
 
-  -- where its blocks start: as far as the joint as those of the one, and after it as those of the other
+  -- what the checks of its blocks start from: up to the joint as in the one stream, after it as in the other
   start-before : (n : ℕ) → n ≤ k → startOf (joined k s t) n ≡ startOf s n
   unfolding startOf
   start-before zero l = refl
@@ -223,7 +219,7 @@ unfolding startOf
 start-is s zero l = absurd (omega arith)
 start-is s (suc j) l = let e : suc j - 1 ≡ j = omega arith in rw e
 
--- That is the mishap that the request is about. (Of the length of the one stream nothing is asked but that it has k blocks.)
+-- What the server did. (Of the one stream's length nothing is asked but that it has k blocks.)
 pub joined-refused : (kind k : ℕ) (s t : List ℕ) → RightBlocks kind s → WellSized t → RightBlocks kind t → 1 ≤ k → k ≤ length s / 512 → k < length t / 512 → Joined kind k s t
 joined-refused kind k s t rs w rt o a b =
     let e : length (joined k s t) ≡ length t = joined-length k s t a b in
@@ -254,11 +250,11 @@ handed-right b start w e = go (payload-answers b start) e
         omega arith
         )
 
--- "The single-block call is now given the starting number." A stream block by block: block n is right exactly when its number and kind are, which the
--- call does not judge, and the call hands back its payload from where block n starts.
+-- "The single-block call is now given the starting number." A stream block by block: block n is right exactly when its number is right, which the
+-- call does not judge, its kind is the stream's, where the call takes any of the three, and the call, given startOf s n, hands back its payload.
 pub block-by-block : (kind : ℕ) (s : List ℕ) (n : ℕ) → StreamKind kind → n < length s / 512
     → RightBlock kind s n ↔ ((word (block s n) 0 ≡ n) × (getD (block s n) 2 0 ≡ kind) × (blockPayload (block s n) (startOf s n) ≡ take 504 (drop 4 (block s n))))
-block-by-block kind s n k l = let w = block-whole s n l in (
+block-by-block kind s n k l = let w = block-whole s n (omega arith) in (
   λ r. (
     r .number-right,
     r .kind-right,

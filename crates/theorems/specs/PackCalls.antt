@@ -70,8 +70,8 @@ pub data Unpacks (kind : ℕ) (s out : List ℕ) (w : Written) : Type 0 where
   no-room : WellSized s → StreamKind kind → RightBlocks kind s → length out < length (unpacked s) → Refused 12 0 out w → Unpacks kind s out w
   unpacks : WellSized s → StreamKind kind → RightBlocks kind s → length (unpacked s) ≤ length out → Wrote (unpacked s) out w → Unpacks kind s out w
 
--- the single-block call: "its number isn't judged, and a length other than 512, a kind outside 1 to 3, a byte 3 that isn't zero or a wrong check gives back an empty part";
--- it "is now given the starting number" (02 b), any of 32 bits
+-- the single-block call: "its number isn't judged, and a length other than 512, a kind outside 1 to 3, a byte 3 that isn't zero or a wrong check
+-- gives back an empty part"; it "is now given the starting number" (02 b)
 pub record RightAlone (b : List ℕ) (start : ℕ) : Type 0 where
   pub whole : length b ≡ 512
   pub kind-right : StreamKind (getD b 2 0)

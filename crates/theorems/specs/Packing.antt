@@ -34,7 +34,7 @@ block-later : (b r : List ℕ) (i : ℕ) → length b ≡ 512 → block (b ++ r)
 unfolding block
 block-later b r i l = let c : 512 * suc i ≡ 512 + 512 * i = omega arith in rw (c, ← drop-drop (512 * i) 512 (b ++ r), drop-at b r 512 l)
 
--- where block i of a row of blocks starts, the first from a start
+-- the number that the check of block i of a row of blocks starts from; that of the first is given
 startAfter : ℕ → List ℕ → ℕ → ℕ
 startAfter start s zero = start
 startAfter start s (suc i) = checkOf (block s i)

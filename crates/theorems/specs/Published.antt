@@ -1,20 +1,19 @@
--- The check is 32-bit FNV-1a as it is published: "for each byte, xor, then multiply by 16777619 modulo 2^32". And checks that were computed.
+-- The check is 32-bit FNV-1a as it is published: "for each byte, xor, then multiply by 16777619 modulo 2^32".
 use mathlib.Core.Path.{_≡_, refl, ap, ap₂, sym, _∙_}
-use Prim.Native.Nat.{ℕ, zero, suc, _+_, _*_, _/_, _%_, _<_}
+use Prim.Native.Nat.{ℕ, _+_, _*_, _/_, _%_, _<_}
 use mathlib.Core.List.{List, [], _∷_, _++_}
-use mathlib.Core.Option.{none, some}
 use native.Mathlib.Nat.{mod-lt, zero-add}
 use lib.Bits.{bitXor, xor-comm, xor-block, xor-zero-l}
-use lib.ListN.{length, take, drop, replicate}
+use lib.ListN.{replicate}
 use lib.Pow.{split, pow-pos}
-use Rattle.rules.specs.Faults.{need, both, every}
-use Rattle.rules.specs.Records.{word, heads, row}
-use Rattle.rules.specs.Blocks.{fnvStart, multiplied, fnv1a, word32, checkOf, sound, isKind, blockPayload, block, startOf, blockRight, streamBlocks, bytes32, checked, filled, packedBlock, packedBlocks, packed}
+use Rattle.rules.specs.Records.{word}
+use Rattle.rules.specs.Blocks.{fnvStart, multiplied, fnv1a, word32, checkOf, bytes32, checked, filled, packedBlock}
 
--- the definition has the byte first in the xor; the published step has the number so far first
-pub published : (h b : ℕ) (bs : List ℕ) → fnv1a h (b ∷ bs) ≡ fnv1a (bitXor h b * 16777619 % 4294967296) bs
+-- From any start: no byte leaves it as it is, and each is one step. The definition has the byte first in the xor; the published step has the number
+-- so far first.
+pub published : (h : ℕ) → (fnv1a h [] ≡ h) × ((b : ℕ) (bs : List ℕ) → fnv1a h (b ∷ bs) ≡ fnv1a (bitXor h b * 16777619 % 4294967296) bs)
 unfolding fnv1a multiplied
-published h b bs = ap (λ (x : ℕ). fnv1a (x * 16777619 % 4294967296) bs) (xor-comm b h)
+published h = (refl, λ b bs. ap (λ (x : ℕ). fnv1a (x * 16777619 % 4294967296) bs) (xor-comm b h))
 
 -- the xor with a byte changes the low byte only
 pub xor-byte : (h b : ℕ) → b < 256 → bitXor b h ≡ h / 256 * 256 + bitXor b (h % 256)
@@ -29,23 +28,7 @@ pub published-values : (fnv1a fnvStart [] ≡ 0x811c9dc5) × (fnv1a fnvStart (97
 unfolding fnvStart multiplied fnv1a
 published-values = (refl, refl, refl)
 
--- Streams of two blocks, computed. A payload of n bytes, each 7 more than the one before it, modulo 256
-unfoldable pub payload : ℕ → ℕ → List ℕ
-payload zero first = []
-payload (suc n) first = first % 256 ∷ payload n (first + 7)
-
--- 512 such bytes from 3 on, packed as a grammar: FNV-1a of the stream is as another implementation of the papers has it. With the second block of
--- another stream it meets refusal 2 there; and the second block by itself hands its payload back from the first block's check alone.
-pub chained-values : (fnv1a fnvStart (packed 1 (payload 512 3)) ≡ 0xc4a61e86)
-    × (streamBlocks 1 (packed 1 (payload 512 3)) ≡ none)
-    × (streamBlocks 1 (take 512 (packed 1 (payload 512 3)) ++ drop 512 (packed 1 (payload 512 4))) ≡ some 1)
-    × (length (blockPayload (block (packed 1 (payload 512 3)) 1) (checkOf (block (packed 1 (payload 512 3)) 0))) ≡ 504)
-    × (blockPayload (block (packed 1 (payload 512 3)) 1) fnvStart ≡ [])
-unfolding payload fnvStart multiplied fnv1a word32 checkOf sound isKind blockPayload block startOf blockRight streamBlocks bytes32 checked filled packedBlock packedBlocks
-    packed word row heads need both every
-chained-values = (refl, refl, refl, refl, refl)
-
--- "unless every block before its last has by chance the check 2166136261": there are such streams
+-- "unless every block before its last has by chance the check 2166136261": there are such blocks
 pub chance-value : checkOf (packedBlock 1 fnvStart 0 (replicate 499 0 ++ 6 ∷ 134 ∷ 226 ∷ 251 ∷ 0 ∷ [])) ≡ 2166136261
 unfolding fnvStart multiplied fnv1a word word32 checkOf bytes32 checked filled packedBlock
 chance-value = refl

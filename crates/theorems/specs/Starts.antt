@@ -8,23 +8,23 @@ use lib.Arith.{bin-ind}
 use lib.Bits.{bitXor, differ, xor-step, xor-mod}
 use Rattle.rules.specs.Blocks.{multiplied, fnv1a}
 
--- The xor with a digit has an inverse, and so has that with all digits of a number
-digit-one : (x y : ℕ) → x < 2 → y < 2 → differ 1 x ≡ differ 1 y → x ≡ y
-digit-one zero zero a b e = refl
-digit-one zero (suc y) a b e = absurd (let f : 1 ≡ y = e in omega arith)
-digit-one (suc x) zero a b e = absurd (let f : x ≡ 1 = e in omega arith)
-digit-one (suc x) (suc y) a b e = ap suc e
+-- The xor with a bit has an inverse, and so has that with all bits of a number
+bit-one : (x y : ℕ) → x < 2 → y < 2 → differ 1 x ≡ differ 1 y → x ≡ y
+bit-one zero zero a b e = refl
+bit-one zero (suc y) a b e = absurd (let f : 1 ≡ y = e in omega arith)
+bit-one (suc x) zero a b e = absurd (let f : x ≡ 1 = e in omega arith)
+bit-one (suc x) (suc y) a b e = ap suc e
 
-digit-same : (d x y : ℕ) → d < 2 → x < 2 → y < 2 → differ d x ≡ differ d y → x ≡ y
-digit-same zero x y l a b e = e
-digit-same (suc zero) x y l a b e = digit-one x y a b e
-digit-same (suc (suc d)) x y l a b e = absurd (omega arith)
+bit-same : (d x y : ℕ) → d < 2 → x < 2 → y < 2 → differ d x ≡ differ d y → x ≡ y
+bit-same zero x y l a b e = e
+bit-same (suc zero) x y l a b e = bit-one x y a b e
+bit-same (suc (suc d)) x y l a b e = absurd (omega arith)
 
-digit-small : (d x : ℕ) → d < 2 → x < 2 → differ d x < 2
-digit-small zero x l a = a
-digit-small (suc zero) zero l a = l
-digit-small (suc zero) (suc x) l a = let m : x < 2 = omega arith in m
-digit-small (suc (suc d)) x l a = absurd (omega arith)
+bit-small : (d x : ℕ) → d < 2 → x < 2 → differ d x < 2
+bit-small zero x l a = a
+bit-small (suc zero) zero l a = l
+bit-small (suc zero) (suc x) l a = let m : x < 2 = omega arith in m
+bit-small (suc (suc d)) x l a = absurd (omega arith)
 
 xor-same : (b h k : ℕ) → bitXor b h ≡ bitXor b k → h ≡ k
 xor-same = bin-ind (λ (b : ℕ). (h k : ℕ) → bitXor b h ≡ bitXor b k → h ≡ k) (λ h k e. e) λ b same h k e.
@@ -33,10 +33,10 @@ xor-same = bin-ind (λ (b : ℕ). (h k : ℕ) → bitXor b h ≡ bitXor b k → 
     let x : ℕ = differ (b % 2) (h % 2) in
     let y : ℕ = differ (b % 2) (k % 2) in
     let f : p * 2 + x ≡ q * 2 + y = sym (xor-step b h) ∙ e ∙ xor-step b k in
-    let l : x < 2 = digit-small (b % 2) (h % 2) (omega arith) (omega arith) in
-    let m : y < 2 = digit-small (b % 2) (k % 2) (omega arith) (omega arith) in
+    let l : x < 2 = bit-small (b % 2) (h % 2) (omega arith) (omega arith) in
+    let m : y < 2 = bit-small (b % 2) (k % 2) (omega arith) (omega arith) in
     let high : h / 2 ≡ k / 2 = same (h / 2) (k / 2) (let g : p ≡ q = omega arith in g) in
-    let low : h % 2 ≡ k % 2 = digit-same (b % 2) (h % 2) (k % 2) (omega arith) (omega arith) (omega arith) (let g : x ≡ y = omega arith in g) in
+    let low : h % 2 ≡ k % 2 = bit-same (b % 2) (h % 2) (k % 2) (omega arith) (omega arith) (omega arith) (let g : x ≡ y = omega arith in g) in
     omega arith
 
 -- and the multiply has one, as 16777619 is odd: 16777619 times 899433627 is 1 modulo 2^32
@@ -79,6 +79,6 @@ same-start [] h k l m e = e
 same-start (b ∷ bs) h k l m e =
     step-same b h k l m (same-start bs (multiplied (bitXor b h)) (multiplied (bitXor b k)) (multiplied-small (bitXor b h)) (multiplied-small (bitXor b k)) e)
 
--- "The check of each block now starts from the check of the block before it" (02 b): so it matters which block that was
+-- "The check of each block now starts from the check of the block before it" (02 b): so bytes that are right after one check are right after no other
 pub start-matters : (bytes : List ℕ) (h k : ℕ) → h < 4294967296 → k < 4294967296 → (h ≡ k → ⊥) → fnv1a h bytes ≡ fnv1a k bytes → ⊥
 start-matters bytes h k l m other e = other (same-start bytes h k l m e)

@@ -28,14 +28,14 @@ length-exactly s = (
   λ w. need-iff {A = ℕ} _ 0 .1 (and-iff _ _ .1 (leb-iff _ _ .1 (w .some-bytes), and-iff _ _ .1 (leb-iff _ _ .1 (w .at-most), eqb-iff _ _ .1 (w .whole-blocks)))),
 )
 
--- 2: "A block has a wrong number, kind, byte 3 or check". Block n of a stream of a kind has none of these wrong, where its check starts from a number:
+-- 2: "A block has a wrong number, kind, byte 3 or check". None of these, of block n of a stream of a kind whose check starts from a given number:
 pub record RightFrom (start kind : ℕ) (s : List ℕ) (n : ℕ) : Type 0 where
   pub number-right : word (block s n) 0 ≡ n
   pub kind-right : getD (block s n) 2 0 ≡ kind
   pub byte3-right : getD (block s n) 3 0 ≡ 0
   pub check-right : checkOf (block s n) ≡ fnv1a start (take 508 (block s n))
 
--- and it starts where block n of the stream starts (`start-bytes`)
+-- and from the number that the check of block n of the stream starts from (`start-bytes`)
 abbrev pub RightBlock : ℕ → List ℕ → ℕ → Type 0
 RightBlock kind s n = RightFrom (startOf s n) kind s n
 

@@ -5,14 +5,15 @@ use mathlib.Core.Path.{_≡_, refl, sym, ap, ap₂, _∙_}
 use Prim.Native.Nat.{ℕ, zero, suc, _+_, _*_, _/_, _%_, _≤_, _<_}
 use mathlib.Core.List.{List, [], _∷_, _++_}
 use native.Mathlib.Omega.{arith}
-use native.Mathlib.Nat.{add-assoc, add-zero, zero-add, suc-add}
+use native.Mathlib.Nat.{add-assoc, add-zero, zero-add}
 use lib.ListN.{length, getD, take, drop, length-take, length-drop, take-append-drop, List·getD-append}
-use lib.Seq.{length-take-le, take-all, take-nil, take-add, take-take, drop-drop, getD-take, getD-drop, getD-append-add, ext-getD}
+use lib.Seq.{length-take-le, take-all, take-add, take-take, drop-drop, getD-take, getD-drop, getD-append-add, ext-getD}
 use Rattle.rules.specs.Records.{base, byteOf, word, kindOf, fieldA, fieldB, fieldC, fieldD, recordCount, recordsFrom, units, textOf, paddingOf}
 use Rattle.rules.specs.Blocks.{payloads, unpacked}
 use Rattle.rules.specs.Lexeme.{lowest, highest}
 use Rattle.rules.specs.Templates.{variable, fieldNumbers}
 use Rattle.laws.specs.Blocks.{unpacked-length}
+use Rattle.laws.specs.Lists.{drop-take}
 use Rattle.theorems.specs.Streams.{WellSized}
 
 -- record i of the stream s is the 8 bytes of u from `at` on, by whichever reader; a byte past the end is 0
@@ -65,12 +66,6 @@ payload-byte (suc k) (suc b) x s l m =
     ∙ payload-byte k b x (drop 512 s) (rw length-drop (omega arith)) m
     ∙ getD-drop 512 s (512 * b + 4 + x) 0
     ∙ ap (λ (n : ℕ). getD s n 0) f
-
--- what is left of a first part
-pub drop-take : (m n : ℕ) (l : List ℕ) → drop m (take (m + n) l) ≡ take n (drop m l)
-drop-take zero n l = rw zero-add
-drop-take (suc m) n [] = rw suc-add (sym (take-nil n))
-drop-take (suc m) n (x ∷ l) = rw suc-add (drop-take m n l)
 
 module _ (s : List ℕ) (w : length s % 512 ≡ 0) where
   eight-bytes-each : length (unpacked s) ≡ 8 * recordCount s

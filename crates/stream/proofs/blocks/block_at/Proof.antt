@@ -1,4 +1,7 @@
-use Rattle.stream.proofs.BlockLaws.{block-part, block-whole}
+use mathlib.Core.Path.{ap, _∙_}
+use lib.ListN.{length}
+use Rattle.laws.specs.Blocks.{block-whole}
+use Rattle.stream.proofs.BlockLaws.{block-part}
 use borrow.Author.Needs.{needs}
 use Rattle.stream.proofs.blocks.block_at.Statement.{statement}
 use Rattle.stream.proofs.blocks.block_at.Tie as tie
@@ -19,7 +22,10 @@ part-result-end : tie.Need-part-result-end
 part-result-end c = search needs
 
 returns : tie.Need-returns
-returns c = (block-part (c .before .args .s .now) (c .before .args .n), block-whole _ _ (c .before .pre))
+returns c =
+    let entry = c .before in
+    let e = block-part (entry .args .s .now) (entry .args .n) in
+    (e, ap length e ∙ block-whole _ _ (entry .pre))
 
 pub block-at-spec : {M : Type 1} → statement M
 block-at-spec =
