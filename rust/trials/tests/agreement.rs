@@ -119,8 +119,8 @@ fn every_joint_of_two_uploads() {
     }
 }
 
-/// A31: old checks are refused at the block after the first whose check isn't 2166136261, unless
-/// that is the last.
+/// Old checks are refused at the block after the first whose check isn't 2166136261, unless that is
+/// the last.
 #[test]
 fn old_checks_are_refused_after_the_first_that_is_no_chance() {
     for count in 1..=6 {
