@@ -1,15 +1,16 @@
--- How long blocks and payloads are, and which check a packed block has.
+-- How long blocks and payloads are, blocks behind others, and which check a packed block has.
 use Prim.Native.Nat.{ℕ, zero, suc, _+_, _-_, _*_, _/_, _%_, _≤_, _<_}
 use mathlib.Core.Path.{_≡_, refl, ap₂, _∙_}
 use mathlib.Core.List.{List, [], _∷_, _++_}
 use native.Mathlib.Omega.{arith}
 use native.Mathlib.Nat.{mod-eq-of-lt}
+use native.Mathlib.Numerals.{add-one}
 use lib.Bits.{bitXor}
 use lib.ListN.{length, take, drop, getD, replicate, length-append, length-take, length-drop, length-replicate}
 use lib.Pow.{shr-shr}
-use lib.Seq.{getD-append-add}
+use lib.Seq.{getD-append-add, drop-append-add}
 use Rattle.rules.specs.Records.{word}
-use Rattle.rules.specs.Blocks.{multiplied, fnv1a, word32, checkOf, block, bytes32, checked, filled, packedBlock, packedBlocks, packed, payloads, unpacked}
+use Rattle.rules.specs.Blocks.{multiplied, fnv1a, word32, checkOf, block, startOf, bytes32, checked, filled, packedBlock, packedBlocks, packed, payloads, unpacked}
 
 -- FNV-1a gives numbers of 32 bits: of no bytes at all where it starts from one, of some bytes always
 pub fnv1a-small : (h : ℕ) (s : List ℕ) → h < 4294967296 → fnv1a h s < 4294967296
@@ -25,6 +26,18 @@ fnv1a-of-some h (b ∷ bs) l = fnv1a-small (multiplied (bitXor b h)) bs (omega a
 pub block-whole : (s : List ℕ) (n : ℕ) → 512 * n + 512 ≤ length s → length (block s n) ≡ 512
 unfolding block
 block-whole s n l = simp (length-take, length-drop) (omega arith)
+
+-- blocks behind others
+pub block-behind : (x y : List ℕ) (k m n : ℕ) → length x ≡ 512 * k → m ≡ k + n → block (x ++ y) m ≡ block y n
+unfolding block
+block-behind x y k m n l e =
+    let f : 512 * m ≡ length x + 512 * n = omega arith in
+    rw (f, drop-append-add x y (512 * n))
+
+-- the check of a block that has one before it starts from that one's
+pub start-later : (s : List ℕ) (n m : ℕ) → n ≡ m + 1 → checkOf (block s m) ≡ startOf s n
+unfolding startOf
+start-later s n m e = rw (e, add-one m)
 
 pub filled-length : (p : List ℕ) → length p ≤ 504 → length (filled p) ≡ 504
 unfolding filled

@@ -1,17 +1,17 @@
 -- Laws of a single block and of the search for a block that is not right.
 use Prim.Native.Nat.{ℕ, suc, _+_, _-_, _*_, min, _<_, _≤_}
 use mathlib.Core.List.{List, [], _∷_}
-use mathlib.Core.Bool.{Bool, true, false, cond, not, _&&_}
+use mathlib.Core.Bool.{Bool, true, false, not, _&&_}
 use mathlib.Core.Option.{Option, none, some}
 use mathlib.Core.Path.{_≡_, refl, ap, sym, _∙_}
-use native.Mathlib.Numerals.{add-one}
 use native.Mathlib.Omega.{arith}
 use borrow.Author.Tests.{eqb-true, not-true, not-false}
 use lib.Dec.{eqb}
 use lib.ListN.{length, take, drop, getD, length-take, length-drop}
 use Rattle.rules.specs.Faults.{need, both, every}
 use Rattle.rules.specs.Records.{heads, row}
-use Rattle.rules.specs.Blocks.{fnvStart, fnv1a, checkOf, isKind, sound, blockPayload, block, startOf, blockRight}
+use Rattle.rules.specs.Blocks.{fnvStart, fnv1a, isKind, sound, blockPayload, block, startOf, blockRight}
+use Rattle.laws.specs.Faults.{and-true}
 use Rattle.stream.specs.Block.{soundBy}
 use Rattle.stream.specs.Fault.{faultOf, faultFrom}
 use Rattle.stream.specs.declared.Fault.{Fault}
@@ -24,25 +24,15 @@ found f x place e g = sym e ∙ ap faultOf g
 pub unfound : (f : Fault) (x : Option ℕ) → faultOf f ≡ x → f ≡ Nowhere → x ≡ none
 unfound f x e g = sym e ∙ ap faultOf g
 
-and-left : (a b : Bool) → a && b ≡ true → a ≡ true
-and-left true b e = refl
-and-left false b e = e
-
-anything : (t : Bool) → false ≡ true → t ≡ true
-anything t e = ap (λ (u : Bool). cond u true t) e
-
 all-four : (a b c d : Bool) → a && (b && (c && d)) ≡ true → (a ≡ true) × (b ≡ true) × (c ≡ true) × (d ≡ true)
-all-four true true true d e = (refl, refl, refl, e)
-all-four true true false d e = (refl, refl, e, anything d e)
-all-four true false c d e = (refl, e, anything c e, anything d e)
-all-four false b c d e = (e, anything b e, anything c e, anything d e)
+all-four a b c d e = let f = and-true a _ e in let g = and-true b _ (f .1) in let h = and-true c d (g .1) in (f .0, g .0, h .0, h .1)
 
 -- a block by itself is right, but for its number
 abbrev pub isSingle : List ℕ → ℕ → Bool
 isSingle b start = eqb (length b) 512 && (isKind (getD b 2 0) && sound (getD b 2 0) start b)
 
 pub single-length : (b : List ℕ) (start : ℕ) → isSingle b start ≡ true → length b ≡ 512
-single-length b start e = eqb-true _ _ (and-left _ _ e)
+single-length b start e = eqb-true _ _ (and-true _ _ e .0)
 
 -- where the payload begins
 pub single-begins : (b : List ℕ) (start : ℕ) → isSingle b start ≡ true → 4 ≡ min 4 (length (take 504 (drop 4 b)))
@@ -66,14 +56,10 @@ pub block-part : (s : List ℕ) (n : ℕ) → take (512 * n + 512 - 512 * n) (dr
 unfolding block
 block-part s n = let z : 512 * n + 512 - 512 * n ≡ 512 = omega arith in rw z
 
--- where the check of a block starts: of the first, and of each after it
+-- where the check of the first block starts
 pub start-first : (s : List ℕ) (n : ℕ) → n ≡ 0 → 2166136261 ≡ startOf s n
 unfolding startOf fnvStart
 start-first s n e = rw e
-
-pub start-later : (s : List ℕ) (n m : ℕ) → n ≡ m + 1 → checkOf (block s m) ≡ startOf s n
-unfolding startOf
-start-later s n m e = rw (e, add-one m)
 
 -- what a test in hand says of the definition that it is equal to
 pub told-wrong : (a b : Bool) → a ≡ b → not a ≡ true → b ≡ false

@@ -4,21 +4,19 @@ use mathlib.Core.Path.{_≡_, refl, sym, ap, subst, _∙_}
 use mathlib.Core.Logic.{_↔_}
 use Prim.Native.Nat.{ℕ, zero, suc, _+_, _-_, _*_, _/_, _≤_, _<_}
 use mathlib.Core.List.{List, _++_}
-use mathlib.Core.Bool.{Bool, true, false}
 use mathlib.Core.Option.{Option, none, some}
 use native.Mathlib.Omega.{arith}
 use native.Mathlib.Numerals.{add-one}
-use lib.Dec.{leb}
 use lib.ListN.{length, getD, take, drop, length-append, length-take, length-drop}
-use lib.Seq.{length-take-le, take-append-le, drop-append-le, drop-append-add, drop-drop, take-take}
-use borrow.Author.Tests.{leb-true, leb-false}
+use lib.Seq.{length-take-le, take-append-le, drop-append-le, drop-drop, take-take}
 use Rattle.rules.specs.Records.{word}
 use Rattle.rules.specs.Blocks.{fnvStart, blockPayload, checkOf, block, startOf, streamBlocks}
-use Rattle.laws.specs.Blocks.{fnv1a-of-some, block-whole}
+use Rattle.laws.specs.Blocks.{fnv1a-of-some, block-whole, block-behind, start-later}
 use Rattle.laws.specs.Lists.{drop-take}
+use Rattle.laws.specs.Orders.{Order, less, same, more, order}
 use Rattle.theorems.specs.Streams.{WellSized, RightFrom, RightBlock, blocks-exactly}
 use Rattle.theorems.specs.Accepted.{RightBlocks}
-use Rattle.theorems.specs.Offences.{WrongBlock}
+use Rattle.theorems.specs.Least.{first-is}
 use Rattle.theorems.specs.FirstOffending.{first-block}
 use Rattle.theorems.specs.Starts.{same-start}
 use Rattle.theorems.specs.PackCalls.{StreamKind, RightAlone, Payload, bytes-4-to-507, empty-part, payload-answers}
@@ -45,16 +43,7 @@ right-alike h k kind s t n d e r = record {
 
 -- The first wrong block is the one that is refused
 first-wrong : (kind : ℕ) (s : List ℕ) (n : ℕ) → n < length s / 512 → ((m : ℕ) → m < n → RightBlock kind s m) → (RightBlock kind s n → ⊥) → streamBlocks kind s ≡ some n
-first-wrong kind s n l before wrong = go (streamBlocks kind s) refl
-  where
-    same : (m : ℕ) → WrongBlock kind s m → ((q : ℕ) → q < m → WrongBlock kind s q → ⊥) → (a b : Bool) → leb n m ≡ a → leb m n ≡ b → m ≡ n
-    same m w first true true c d = let x : n ≤ m = leb-true n m c in let y : m ≤ n = leb-true m n d in omega arith
-    same m w first false b c d = absurd (w .wrong (before m (leb-false n m c)))
-    same m w first true false c d = absurd (first n (leb-false m n d) (record { a-block = l; wrong = wrong }))
-
-    go : (o : Option ℕ) → streamBlocks kind s ≡ o → o ≡ some n
-    go none e = absurd (first-block kind s .none-offends e n (record { a-block = l; wrong = wrong }))
-    go (some m) e = let f = first-block kind s .first-offends m e in ap some (same m (f .0) (f .1) (leb n m) (leb m n) refl refl)
+first-wrong kind s n l before wrong = first-is _ (first-block kind s) n (record { a-block = l; wrong = wrong }) λ m b w. w .wrong (before m b)
 
 -- The old rule: the check of every block starts from 2166136261.
 abbrev pub RightByOldRule : ℕ → List ℕ → Type 0
@@ -161,14 +150,8 @@ module _ (k : ℕ) (s t : List ℕ) (a : k ≤ length s / 512) (b : k < length t
   joined-after : (n : ℕ) → k ≤ n → block (joined k s t) n ≡ block t n
   unfolding block
   joined-after n l =
-      let x : List ℕ = take (512 * k) s in
-      let y : List ℕ = drop (512 * k) t in
-      let w : length x ≡ 512 * k = first-part in
-      let e : 512 * n ≡ length x + (512 * n - 512 * k) = omega arith in
-      let f : 512 * k + (512 * n - 512 * k) ≡ 512 * n = omega arith in
-      ap (λ (i : ℕ). take 512 (drop i (x ++ y))) e
-      ∙ ap (take 512) (drop-append-add x y (512 * n - 512 * k) ∙ drop-drop (512 * n - 512 * k) (512 * k) t)
-      ∙ ap (λ (i : ℕ). take 512 (drop i t)) f
+      let e : 512 * k + 512 * (n - k) ≡ 512 * n = omega arith in
+      block-behind (take (512 * k) s) (drop (512 * k) t) k n (n - k) first-part (omega arith) ∙ rw (drop-drop (512 * (n - k)) (512 * k) t, e)
 
   -- what the checks of its blocks start from: up to the joint as in the one stream, after it as in the other
   start-before : (n : ℕ) → n ≤ k → startOf (joined k s t) n ≡ startOf s n
@@ -205,29 +188,23 @@ module _ (kind k : ℕ) (s t : List ℕ) (rs : RightBlocks kind s) (rt : RightBl
       (rt k b)
 
   right-all : startOf s k ≡ startOf t k → RightBlocks kind (joined k s t)
-  right-all e n l = go (leb k n) (leb n k) refl refl
+  right-all e n l = go (order n k)
     where
-      go : (x y : Bool) → leb k n ≡ x → leb n k ≡ y → RightBlock kind (joined k s t) n
-      go false y c d = right-before n (leb-false k n c)
-      go true false c d = right-after n (leb-false n k d) (rw (joined-length k s t a b) at l)
-      go true true c d =
-          let o : k ≡ n = (let x : k ≤ n = leb-true k n c in let y : n ≤ k = leb-true n k d in omega arith) in
-          subst (λ (m : ℕ). RightBlock kind (joined k s t) m) o (right-at e)
-
-start-is : (s : List ℕ) (k : ℕ) → 1 ≤ k → checkOf (block s (k - 1)) ≡ startOf s k
-unfolding startOf
-start-is s zero l = absurd (omega arith)
-start-is s (suc j) l = let e : suc j - 1 ≡ j = omega arith in rw e
+      go : Order n k → RightBlock kind (joined k s t) n
+      go (less m) = right-before n m
+      go (same o) = subst (λ (m : ℕ). RightBlock kind (joined k s t) m) (sym o) (right-at e)
+      go (more m) = right-after n m (rw (joined-length k s t a b) at l)
 
 -- What the server did. (Of the one stream's length nothing is asked but that it has k blocks.)
 pub joined-refused : (kind k : ℕ) (s t : List ℕ) → RightBlocks kind s → WellSized t → RightBlocks kind t → 1 ≤ k → k ≤ length s / 512 → k < length t / 512 → Joined kind k s t
 joined-refused kind k s t rs w rt o a b =
     let e : length (joined k s t) ≡ length t = joined-length k s t a b in
     let l : k < length (joined k s t) / 512 = rw e b in
+    let d : (x : List ℕ) → checkOf (block x (k - 1)) ≡ startOf x k = λ x. start-later x k (k - 1) (omega arith) in
     record {
       right-length = record { some-bytes = rw e (w .some-bytes); at-most = rw e (w .at-most); whole-blocks = rw e (w .whole-blocks) };
-      right-exactly = rw (start-is s k o, start-is t k o) (λ r. same-at kind k s t rs rt a b (r k l), right-all kind k s t rs rt a b);
-      refused-at = rw (start-is s k o, start-is t k o) λ other.
+      right-exactly = rw (d s, d t) (λ r. same-at kind k s t rs rt a b (r k l), right-all kind k s t rs rt a b);
+      refused-at = rw (d s, d t) λ other.
           first-wrong kind (joined k s t) k l (right-before kind k s t rs rt a b) (λ r. other (same-at kind k s t rs rt a b r));
     }
 

@@ -4,16 +4,14 @@ use mathlib.Core.Path.{_≡_, refl, sym, _∙_, ap}
 use mathlib.Core.Logic.{_↔_, _⊎_, inl, inr}
 use Prim.Native.Nat.{ℕ, _≤_, _<_}
 use mathlib.Core.List.{List, [], _∷_}
-use mathlib.Core.Bool.{Bool, true, false}
 use mathlib.Core.Option.{Option, none, some, Option·none-ne-some, Option·some-ne-none, Option·some-injective}
 use native.Mathlib.Omega.{arith}
-use lib.Dec.{ltb}
-use borrow.Author.Tests.{ltb-true, ltb-false}
 use Rattle.rules.specs.Faults.{onFound}
 use Rattle.rules.specs.Answers
 use Rattle.rules.specs.Answers.{answer, checkRefusal, evaluateRefusal, kept, unlessRefused, check, evaluate}
 use Rattle.rules.specs.declared.Answer.{Answer}
 use Rattle.laws.specs.Faults.{on-none, on-some}
+use Rattle.laws.specs.Orders.{Order, less, same, more, order}
 use Rattle.theorems.specs.Accepted.{zeros-none}
 use Rattle.theorems.specs.Least.{FirstBy}
 use Rattle.theorems.specs.Offences.{Offence}
@@ -30,20 +28,6 @@ Sooner x y = (x .0 < y .0) ⊎ ((x .0 ≡ y .0) × ((x .1 < y .1) ⊎ ((x .1 ≡
 pub record FirstOffence (Off : ℕ → ℕ → ℕ → Type 0) (n k p : ℕ) : Type 0 where
   pub offends : Off n k p
   pub none-sooner : (m j q : ℕ) → Sooner (m, j, q) (n, k, p) → Off m j q → ⊥
-
--- of two numbers
-data Order (a b : ℕ) : Type 0 where
-  less : a < b → Order a b
-  same : a ≡ b → Order a b
-  more : b < a → Order a b
-
-order : (a b : ℕ) → Order a b
-order a b = go (ltb a b) (ltb b a) refl refl
-  where
-    go : (x y : Bool) → ltb a b ≡ x → ltb b a ≡ y → Order a b
-    go true y e f = less (ltb-true a b e)
-    go false true e f = more (ltb-true b a f)
-    go false false e f = same (let l : b ≤ a = ltb-false a b e in let m : a ≤ b = ltb-false b a f in omega arith)
 
 same-unless : (m j q n k p : ℕ) → (Sooner (m, j, q) (n, k, p) → ⊥) → (Sooner (n, k, p) (m, j, q) → ⊥) → (m ≡ n) × (j ≡ k) × (q ≡ p)
 same-unless m j q n k p h h′ = number (order m n)

@@ -9,6 +9,7 @@ use native.Mathlib.Omega.{arith}
 use Rattle.rules.specs.Faults.{need, both, every, tree, at}
 use Rattle.rules.specs.Records.{heads}
 use Rattle.laws.specs.Faults.{In, here, later, at-both, Below, itself, under}
+use Rattle.laws.specs.Orders.{Order, less, same, more, order}
 use Rattle.theorems.specs.LaidOut.{InRow, no-thing, one-thing}
 
 -- f answers the first of all that offends, in an order, and none where nothing offends
@@ -26,6 +27,16 @@ pub record Least (Off : ℕ → Type 0) (lo hi : ℕ) (f : Option ℕ) : Type 0 
   pub inside : (q : ℕ) → Off q → (lo ≤ q) × (q < hi)
   pub first : First Off f
 
+-- what offends, with nothing before it that does, is what f answers
+pub first-is : {Off : ℕ → Type 0} (f : Option ℕ) → First Off f → (n : ℕ) → Off n → ((m : ℕ) → m < n → Off m → ⊥) → f ≡ some n
+first-is none h n o before = absurd (h .none-offends refl n o)
+first-is (some m) h n o before = go (order m n)
+  where
+    go : Order m n → some m ≡ some n
+    go (less l) = absurd (before m l (h .first-offends m refl .0))
+    go (same e) = ap some e
+    go (more l) = absurd (h .first-offends m refl .1 n l o)
+
 -- the same offends, said in another way
 pub first-same : {P : Type 0} {Before : P → P → Type 0} {Off Off′ : P → Type 0} {f : Option P} → ((q : P) → Off q ↔ Off′ q)
     → FirstBy Before Off f → FirstBy Before Off′ f
@@ -38,11 +49,7 @@ pub least-same : {Off Off′ : ℕ → Type 0} {lo hi : ℕ} {f : Option ℕ} �
 least-same s h = record { ordered = h .ordered; inside = λ q o. h .inside q (s q .1 o); first = first-same s (h .first) }
 
 pub least-wide : {Off : ℕ → Type 0} {lo hi lo′ hi′ : ℕ} {f : Option ℕ} → lo′ ≤ lo → hi ≤ hi′ → Least Off lo hi f → Least Off lo′ hi′ f
-least-wide a b h = record {
-  ordered = let c = h .ordered in omega arith;
-  inside = λ q o. let r = h .inside q o in (omega arith, omega arith);
-  first = h .first;
-}
+least-wide a b h = let c = h .ordered in record { ordered = omega arith; inside = λ q o. let r = h .inside q o in (omega arith, omega arith); first = h .first }
 
 -- a test that must hold
 pub first-need : (b : Bool) (p : ℕ) → First (λ q. (q ≡ p) × (b ≡ false)) (need b p)

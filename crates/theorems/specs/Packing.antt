@@ -15,7 +15,7 @@ use Rattle.rules.specs.Records.{word}
 use Rattle.rules.specs.Blocks.{fnvStart, fnv1a, checkOf, isKind, streamLength, block, startOf, streamBlocks, checked, filled, packedBlock, packedBlocks, packed, payloadLength, payloads, unpacked}
 use Rattle.rules.specs.Answers.{answer, try, accept, packRefusal, unpackRefusal, Written, written, pack, unpack}
 use Rattle.rules.specs.declared.Answer.{Answer}
-use Rattle.laws.specs.Blocks.{filled-length, unchecked, unchecked-length, block-length, packed-length, check-of-packed}
+use Rattle.laws.specs.Blocks.{block-behind, filled-length, unchecked, unchecked-length, block-length, packed-length, check-of-packed}
 use Rattle.laws.specs.Faults.{need-iff, both-iff, and-iff, leb-iff, placed-iff, try-iff}
 use Rattle.theorems.specs.Streams.{length-exactly, RightBlock, blocks-exactly}
 
@@ -25,14 +25,13 @@ unfolding packedBlock checked
 check-at kind start n p l =
     check-of-packed kind start n p l ∙ ap (fnv1a start) (sym (take-at (unchecked kind n p) _ 508 (unchecked-length kind n p l)))
 
--- the first block of blocks that are joined, and those after it
+-- the first block of a row of blocks, and those after it
 block-first : (b r : List ℕ) → length b ≡ 512 → block (b ++ r) 0 ≡ b
 unfolding block
 block-first b r l = take-at b r 512 l
 
 block-later : (b r : List ℕ) (i : ℕ) → length b ≡ 512 → block (b ++ r) (suc i) ≡ block r i
-unfolding block
-block-later b r i l = let c : 512 * suc i ≡ 512 + 512 * i = omega arith in rw (c, ← drop-drop (512 * i) 512 (b ++ r), drop-at b r 512 l)
+block-later b r i l = block-behind b r 1 (suc i) i l (omega arith)
 
 -- the number that the check of block i of a row of blocks starts from; that of the first is given
 startAfter : ℕ → List ℕ → ℕ → ℕ

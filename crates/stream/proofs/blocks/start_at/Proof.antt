@@ -1,6 +1,7 @@
 use mathlib.Core.Path.{_∙_}
 use native.Mathlib.Omega.{arith}
-use Rattle.stream.proofs.BlockLaws.{start-first, start-later}
+use Rattle.laws.specs.Blocks.{start-later}
+use Rattle.stream.proofs.BlockLaws.{start-first}
 use borrow.Author.Needs.{needs}
 use Rattle.stream.proofs.blocks.start_at.Statement.{statement}
 use Rattle.stream.proofs.blocks.start_at.Tie as tie

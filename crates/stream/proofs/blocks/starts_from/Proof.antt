@@ -1,7 +1,7 @@
 -- The first starts where its block does; each other has the check of the block before it.
 use mathlib.Core.Path.{_∙_}
 use native.Mathlib.Omega.{arith}
-use Rattle.stream.proofs.BlockLaws.{start-later}
+use Rattle.laws.specs.Blocks.{start-later}
 use borrow.Author.Needs.{needs}
 use Rattle.stream.proofs.blocks.starts_from.Statement.{statement}
 use Rattle.stream.proofs.blocks.starts_from.Tie as tie
