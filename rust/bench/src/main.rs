@@ -360,29 +360,34 @@ fn against_row(family: &Family, new: &dyn Calls, old: &dyn Calls, rounds: usize)
     let answers = finished(new, family, &streams);
     let same = answers == finished(old, family, &olds);
     assert!(same, "{}: other answers", family.name);
-    let mut things = vec![
+    let things = [
         evaluation(new, &streams),
         evaluation(old, &olds),
         checking(new, &streams),
         checking(old, &olds),
     ];
-    let times = measure(&mut things, rounds);
-    cells.extend([0, 2].map(|new| with_quartiles(times[new].ratio(&times[new + 1]))));
+    cells.extend(new_over_old(things, rounds));
     cells
 }
 
 fn against_packing_row(new: &dyn Calls, old: &dyn Calls, rounds: usize) -> Vec<String> {
     let payload = longest_payload();
     let [stream, olds] = [new, old].map(|machine| packed_by(machine, VALUE, &payload));
-    let mut things = vec![
+    let things = [
         packing(new, &payload),
         packing(old, &payload),
         unpacking(new, &stream),
         unpacking(old, &olds),
     ];
+    let mut cells = vec![stream.len().to_string()];
+    cells.extend(new_over_old(things, rounds));
+    cells
+}
+
+/// The ratios of two calls, each a new one followed by an old one.
+fn new_over_old(mut things: [Thing<'_>; 4], rounds: usize) -> [String; 2] {
     let times = measure(&mut things, rounds);
-    let ratios = [0, 2].map(|new| with_quartiles(times[new].ratio(&times[new + 1])));
-    [vec![stream.len().to_string()], ratios.to_vec()].concat()
+    [0, 2].map(|new| with_quartiles(times[new].ratio(&times[new + 1])))
 }
 
 /// The ratio of a thing to itself says how much a ratio is worth.
