@@ -3,7 +3,8 @@
  * library.
  *
  * Prints the payload on standard output, up to the first block that is wrong or doesn't
- * follow the one before it. What was printed until then is of one upload.
+ * follow the one before it. What was printed until then is of one upload, unless two have
+ * the same check where they were joined.
  * Exit status: 0 all blocks are right, 1 one isn't or there is none, 2 bad use.
  */
 #include "feed.h"
