@@ -1,3 +1,4 @@
 pub mod OrderLaws
 pub mod EndLaws
 pub mod SetLaws
+pub mod MarkLaws

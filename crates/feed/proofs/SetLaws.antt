@@ -21,6 +21,7 @@ use Rattle.lexeme.specs.Sets.{SetsLent, Compiled, LexemesReady}
 use Rattle.layout.specs.Heads.{mostClasses, mostProductions, LaidGrammar, LaidTemplates, Tables}
 use Rattle.layout.specs.declared.heads.Counts.{Counts}
 use Rattle.typing.specs.Asks.{TemplatesAsk, ValueAsks}
+use Rattle.walk.specs.Marks.{ProductionHeads}
 use Rattle.walk.specs.Asks.{sources, Walkable}
 use Rattle.feed.specs.declared.verdict.Verdict.{Verdict}
 use Rattle.feed.specs.declared.verdict.Verdict.the-variants.{Refused, Passed}
@@ -61,12 +62,12 @@ module _ (g t v firsts places heads : List ℕ) (passed : streamsRefusal (Answer
   large-evaluate e = let h = few-records t (three-laid g t v passed .1 .length-right) in record { passed = passed; room = omega arith; children = table }
 
 -- what judging asks, in a check and in an evaluate call
-pub check-judges : (g t of-g heads : List ℕ) → CheckAsks g t heads → length of-g ≡ 512 → HeadsAsk g t g of-g heads
+pub check-judges : (g t of-g heads : List ℕ) → CheckAsks g t heads → length of-g ≡ 513 → HeadsAsk g t g of-g heads
 check-judges g t of-g heads a e =
     let l = two-laid g t (a .passed) in
     record { grammar-laid = l .0; templates-laid = l .1; value-sized = l .0 .length-right; grammar-room = omega arith; templates-room = a .room }
 
-pub evaluate-judges : (g t v firsts places of-g heads : List ℕ) → EvaluateAsks g t v firsts places heads → length of-g ≡ 512 → HeadsAsk g t v of-g heads
+pub evaluate-judges : (g t v firsts places of-g heads : List ℕ) → EvaluateAsks g t v firsts places heads → length of-g ≡ 513 → HeadsAsk g t v of-g heads
 evaluate-judges g t v firsts places of-g heads a e =
     let l = three-laid g t v (a .passed) in
     record { grammar-laid = l .0; templates-laid = l .1; value-sized = l .2; grammar-room = omega arith; templates-room = a .room }
@@ -92,7 +93,7 @@ module _ (g t of-g of-t of-g₀ of-t₀ : List ℕ) (m n : Counts) (lg : LaidGra
     tabled = tabled;
     productions-behind = omega arith;
     templates-behind = omega arith;
-    in-grammar = a .fit;
+    in-grammar = omega (arith, a .few, a .few');
     in-templates = b .fit;
   }
 
@@ -122,7 +123,7 @@ sets-lent g t cs ps us ts sets a = record { grammar-sized = a .tabled .grammar-s
 -- what 7, 8 and the walk ask
 pub typing-asks : (g t cs ps us ts sets : List ℕ) → Tabled g t cs ps us ts → Compiled g sets → templatesLimits t ≡ none → TemplatesAsk g t cs sets ps us ts
 typing-asks g t cs ps us ts sets a c e = record {
-  lexemes = record { heads = a .classes-are; sets = c };
+  lexemes = record { grammar-sized = a .grammar-sized; heads = a .classes-are; sets = c };
   productions-are = a .productions-are;
   types-are = a .types-are;
   templates-are = a .templates-are;
@@ -155,12 +156,12 @@ module _ (g t v : List ℕ) (valued : Bool) (deep : Option ℕ) where
       let k : setJudgement g t (valueLimits v) accept ≡ none = ap (λ (x : Option ℕ). setJudgement g t x accept) (sym (e ∙ rw b)) ∙ h in
       (λ place z. rw b (value-refused g t v place k z), λ z. rw b (value-passed g t v k z))
 
-pub walk-asks : (g t v cs ps us ts firsts places scratch : List ℕ) → Tabled g t cs ps us ts → templatesLimits t ≡ none → templatesTyping g t ≡ none
-    → streamLength v ≡ none → Children v firsts places → 4800 ≤ length scratch → Walkable (sources g t v ps ts firsts places) scratch
+pub walk-asks : (g t v cs ps us ts heads firsts places scratch : List ℕ) → Tabled g t cs ps us ts → ProductionHeads g heads → templatesLimits t ≡ none → templatesTyping g t ≡ none
+    → streamLength v ≡ none → Children v firsts places → 4800 ≤ length scratch → Walkable (sources g t v heads ts firsts places) scratch
 unfolding scratchNeeded deepest
-walk-asks g t v cs ps us ts firsts places scratch a e h l m f = record {
+walk-asks g t v cs ps us ts heads firsts places scratch a q e h l m f = record {
   lent = record {
-    productions-are = a .productions-are;
+    productions-are = q;
     templates-are = a .templates-are;
     grammar-sized = a .grammar-sized;
     templates-sized = a .templates-sized;

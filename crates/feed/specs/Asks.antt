@@ -1,5 +1,5 @@
 -- What the parts of a call are lent, and what they promise.
-use Prim.Native.Nat.{ℕ, _+_, _*_, _≤_}
+use Prim.Native.Nat.{ℕ, _+_, _*_, _≤_, _<_}
 use mathlib.Core.Path.{_≡_}
 use mathlib.Core.Bool.{Bool}
 use mathlib.Core.List.{List, [], _∷_}
@@ -14,6 +14,7 @@ use Rattle.rules.specs.Answers.{grammar, value, accept}
 use Rattle.records.specs.Children.{Children}
 use Rattle.lexeme.specs.Sets.{LexemesReady}
 use Rattle.layout.specs.Heads.{part, mostClasses, mostProductions, LaidGrammar, LaidTemplates}
+use Rattle.walk.specs.Marks.{ProductionHeads}
 use Rattle.feed.specs.declared.set.Judged.{Judged}
 use Rattle.feed.specs.declared.verdict.Verdict.{Verdict}
 use Rattle.feed.specs.declared.verdict.Verdict.the-variants.{Passed}
@@ -72,7 +73,7 @@ pub record HeadsJudged (g t v : List ℕ) (valued : Bool) (of-g of-t : List ℕ)
   pub tabled : Tabled g t (part 0 (r .classes) of-g) (part (r .classes) (r .productions) of-g) (part 0 (r .types) of-t) (part (r .types) (r .templates) of-t)
   pub productions-behind : r .classes ≤ r .productions
   pub templates-behind : r .types ≤ r .templates
-  pub in-grammar : r .productions ≤ length of-g
+  pub in-grammar : r .productions ≤ mostClasses + mostProductions
   pub in-templates : r .templates ≤ length of-t
 
 -- 1 to 3 let the streams through, and there is room for the heads of the templates' stream
@@ -85,3 +86,16 @@ pub record EvaluateAsks (g t v firsts places heads : List ℕ) : Type 0 where
   pub passed : streamsRefusal (grammar g ∷ Answers.templates t ∷ value v ∷ []) accept ≡ none
   pub room : recordCount t ≤ length heads
   pub children : Children v firsts places
+
+-- the table of a grammar's heads, with an entry to spare; what it becomes for the walk, from r on
+pub record MarkAsks (g heads : List ℕ) (cs ps : ℕ) : Type 0 where
+  pub grammar-sized : streamLength g ≡ none
+  pub few : cs ≤ 256
+  pub behind : cs ≤ ps
+  pub inside : ps < length heads
+  pub classes-are : part 0 cs heads ≡ classes g
+  pub productions-are : part cs ps heads ≡ productions g
+
+pub record HeadsMarked (g : List ℕ) (ps : ℕ) (heads : List ℕ) (r : ℕ) : Type 0 where
+  pub begins : r ≤ ps
+  pub table : ProductionHeads g (part r (ps + 1) heads)

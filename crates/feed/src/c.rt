@@ -2,7 +2,7 @@
 ghost use mathlib.Core.Path.{_≡_};
 ghost use lib.ListN.{length};
 ghost use Rattle.rules.specs.Blocks.{blockPayload};
-ghost use Rattle.rules.specs.Answers.{check, evaluate, pack, unpack};
+ghost use Rattle.rules.specs.Answers.{check, evaluate, pack, unpack, unescape};
 ghost use Rattle.feed.specs.Verdict.{fiveOf, Left, Filled};
 use rules::Answer;
 
@@ -47,6 +47,13 @@ pub extern "C" fn feed_unpack(kind: u8, stream: &[u8], out: &mut [u8], answer: &
     ensures { λ _. ⌜ Filled (now (answer .exit)) (now (out .exit)) (unpack kind (now (stream .entry)) (now (out .entry))) ⌝ }
 {
     put(crate::unpack(kind, stream, out), answer);
+}
+
+#[no_mangle]
+pub extern "C" fn feed_unescape(text: &[u8], out: &mut [u8], answer: &mut [u64; 5])
+    ensures { λ _. ⌜ Filled (now (answer .exit)) (now (out .exit)) (unescape (now (text .entry)) (now (out .entry))) ⌝ }
+{
+    put(crate::unescape(text, out), answer);
 }
 
 // The payload's length: 504 bytes that begin at byte 4 of the block, or 0. The check starts from `start`.

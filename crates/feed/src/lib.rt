@@ -2,7 +2,7 @@
 // stated order of the checks; the exports for other languages are in `c`.
 ghost use mathlib.Core.Path.{_≡_};
 ghost use Rattle.rules.specs.Answers.{check, evaluate};
-ghost use Rattle.feed.specs.Asks.{ChildRoom, CheckAsks, EvaluateAsks};
+ghost use Rattle.feed.specs.Asks.{ChildRoom, CheckAsks, EvaluateAsks, MarkAsks, HeadsMarked};
 ghost use Rattle.feed.specs.Verdict.{outcome};
 
 pub mod c;
@@ -10,6 +10,7 @@ mod set;
 mod streams;
 mod verdict;
 
+pub use entities::unescape::unescape;
 use rules::Answer;
 use set::judge;
 pub use stream::block::block_payload;
@@ -22,10 +23,11 @@ use verdict::Verdict;
 use verdict::accepted;
 use verdict::ended;
 use verdict::refused;
+use walk::mark;
 use walk::run;
 
-// The classes and the productions of a grammar, at most 256 each, have their heads in one table.
-const GRAMMAR_HEADS: usize = 512;
+// The classes and the productions of a grammar, at most 256 each, have their heads in one table, with a number behind them for the walk.
+const GRAMMAR_HEADS: usize = 513;
 
 // The records of a whole stream, and of one of at most 8 blocks: a table of either length has room for the heads of such a template set, or for
 // the children of such a value.
@@ -68,6 +70,17 @@ pub fn check(g: &[u8], t: &[u8]) -> Answer
     check_set(g, t, &mut heads)
 }
 
+// Makes the table of the grammar's heads that of the walk: marks in the place of the classes' heads, for which it has no use, then the productions,
+// then how many marks there are. The answer is where it begins: where no class is escaped, behind the classes.
+fn mark_heads(g: &[u8], heads: &mut [u16], classes: usize, productions: usize) -> usize
+    requires { ⌜ MarkAsks (now g) (now heads) classes productions ⌝ }
+    ensures { λ r. ⌜ HeadsMarked (now (g .entry)) productions (now (heads .exit)) r ⌝ }
+{
+    let marks = mark(g, &mut heads[0..classes]);
+    heads[productions] = marks as u16;
+    classes - marks
+}
+
 // 4 to 9 of a set and a value that 1 to 3 let through, and the walk.
 fn evaluate_set(
     g: &[u8],
@@ -96,9 +109,10 @@ fn evaluate_set(
     let productions = judged.productions;
     let types = judged.types;
     let templates = judged.templates;
-    let all = &of_g[..];
-    let ps = &all[classes..productions];
     let ts = &heads[types..templates];
+    let from = mark_heads(g, &mut of_g, classes, productions);
+    let all = &of_g[..];
+    let ps = &all[from..productions + 1];
     ended(run(g, t, v, ps, ts, firsts, places, fuel, out, scratch))
 }
 

@@ -1,6 +1,10 @@
 pub mod Blocks
+pub mod Escapes
 pub mod Faults
 pub mod Lists
 pub mod Orders
 pub mod Rows
+pub mod Sorts
 pub mod Reads
+pub mod FirstBytes
+pub mod Writes

@@ -2,58 +2,59 @@
 use Prim.Native.Nat.{ℕ, suc, _+_, _-_, _<_, _≤_}
 use mathlib.Core.Path.{_≡_, refl, sym, _∙_, ap, subst}
 use mathlib.Core.List.{List, _∷_, append-nil}
+use mathlib.Core.Bool.{Bool, true, false, false≢true}
 use mathlib.Core.Option.{none}
 use native.Mathlib.Omega.{arith}
-use borrow.Author.Tests.{eq-eqb, ne-eqb}
 use lib.ListN.{length, getD, take, drop, length-drop, drop-of-length-le}
 use lib.Seq.{take-all, drop-at, drop-drop, length-take-le}
 use borrow.Rule.Slice.PartMut.{putMid, same-len-mid, take-put}
 use Rattle.rules.specs.Blocks.{streamLength}
-use Rattle.rules.specs.Records.{base, byteOf, kindOf, fieldA, recordCount, fieldC, heads}
-use Rattle.rules.specs.Grammar.{productionSize, grammarSize, classes, productions}
+use Rattle.rules.specs.Records.{base, byteOf, fieldA, recordCount, fieldC, heads, ofKind}
+use Rattle.rules.specs.Grammar.{isClass, productionSize, grammarSize, classes, productions}
 use Rattle.rules.specs.Templates.{templatesSize, types, templates}
 use Rattle.theorems.specs.Streams.{length-exactly}
 use Rattle.theorems.specs.LaidOut.{InRow, no-thing, one-thing, Numbered, no-more, one-more, Tail}
-use Rattle.theorems.specs.Heads.{Spans, each-in-row, each-numbered, row-grows, kind-after, class-spans, production-spans, type-spans, template-spans, classes-are, productions-are, types-are, templates-are}
+use Rattle.theorems.specs.Heads.{Spans, Sorts, kind-after, not-first, grammar-sorts, templates-sorts, class-spans, production-spans, type-spans, template-spans, classes-are, productions-are, types-are, templates-are}
+use Rattle.theorems.specs.Sizes.{each-in-row, each-numbered, row-grows, class-number}
 use Rattle.theorems.specs.LayoutExactly.{grammar-laid-exactly, templates-laid-exactly}
 use Rattle.layout.specs.Common.{mostRecords}
-use Rattle.layout.specs.Heads.{LaidGrammar, LaidTemplates, mostClasses, mostProductions, part, Tables, withRecords, KindRow, RowAhead, RowFilled}
+use Rattle.layout.specs.Heads.{LaidGrammar, LaidTemplates, mostClasses, mostProductions, part, Tables, withRecords, SortRow, RowAhead, RowFilled}
 use Rattle.layout.specs.declared.heads.RowEnd.{RowEnd}
 use Rattle.laws.specs.Reads.{few-records}
 
-module _ {s : List ℕ} {size : ℕ → ℕ} {kind : ℕ} where
+module _ {is : ℕ → Bool} {size : ℕ → ℕ} where
   -- there is only one row from a place on
-  same-things : {p n q m r : ℕ} → InRow (Spans s size kind) n p q → (kindOf s q ≡ kind → ⊥)
-      → InRow (Spans s size kind) m p r → (kindOf s r ≡ kind → ⊥) → (n ≡ m) × (q ≡ r)
+  same-things : {p n q m r : ℕ} → InRow (Spans is size) n p q → is q ≡ false
+      → InRow (Spans is size) m p r → is r ≡ false → (n ≡ m) × (q ≡ r)
   same-things (no-thing p) a (no-thing _) b = (refl, refl)
-  same-things (no-thing p) a (one-thing m _ q r y ys) b = absurd (a (y .kind-is))
-  same-things (one-thing n p q r x xs) a (no-thing _) b = absurd (b (x .kind-is))
+  same-things (no-thing p) a (one-thing m _ q r y ys) b = absurd (false≢true (sym a ∙ y .is-one))
+  same-things (one-thing n p q r x xs) a (no-thing _) b = absurd (false≢true (sym b ∙ x .is-one))
   same-things (one-thing n p q r x xs) a (one-thing m _ q' r' y ys) b =
-      let z = same-things xs a (subst (λ z. InRow (Spans s size kind) m z r') (y .end ∙ sym (x .end)) ys) b in (ap suc (z .0), z .1)
+      let z = same-things xs a (subst (λ z. InRow (Spans is size) m z r') (y .end ∙ sym (x .end)) ys) b in (ap suc (z .0), z .1)
 
-  same-row : {p n q m r : ℕ} → KindRow s size kind p n q → KindRow s size kind p m r → (n ≡ m) × (q ≡ r)
+  same-row : {p n q m r : ℕ} → SortRow is size p n q → SortRow is size p m r → (n ≡ m) × (q ≡ r)
   same-row a b = same-things (a .things) (a .stops) (b .things) (b .stops)
 
-  -- two sizes that agree on the kind have the same rows and the same heads
-  module _ (other : ℕ → ℕ) (f : (p : ℕ) → kindOf s p ≡ kind → size p ≡ other p) where
-    resized : {n p q : ℕ} → InRow (Spans s size kind) n p q → InRow (Spans s other kind) n p q
-    resized = each-in-row λ p q x. record { kind-is = x .kind-is; end = x .end ∙ ap (λ z. p + z) (f p (x .kind-is)); grows = x .grows }
+  -- two sizes that agree on the sort have the same rows and the same heads
+  module _ (other : ℕ → ℕ) (f : (p : ℕ) → is p ≡ true → size p ≡ other p) where
+    resized : {n p q : ℕ} → InRow (Spans is size) n p q → InRow (Spans is other) n p q
+    resized = each-in-row λ p q x. record { is-one = x .is-one; end = x .end ∙ ap (λ z. p + z) (f p (x .is-one)); grows = x .grows }
 
-    resized-heads : {n p q : ℕ} → InRow (Spans s size kind) n p q → heads size n p ≡ heads other n p
+    resized-heads : {n p q : ℕ} → InRow (Spans is size) n p q → heads size n p ≡ heads other n p
     unfolding heads
     resized-heads (no-thing p) = refl
     resized-heads (one-thing n p q r x xs) =
-        rw (← f p (x .kind-is), ← x .end) (ap (λ ys. p ∷ ys) (resized-heads xs))
+        rw (← f p (x .is-one), ← x .end) (ap (λ ys. p ∷ ys) (resized-heads xs))
 
--- a row of kind 1, whose heads are `first`, and then one of kind 3, whose heads are `second`; of each there are at most so many, and there is room for both
-pub record TwoRows (s : List ℕ) (size other : ℕ → ℕ) (most most' room : ℕ) (first second : List ℕ) : Type 0 where
+-- a row of one sort, whose heads are `first`, and then one of another, whose heads are `second`; of each there are at most so many, and there is room for both
+pub record TwoRows (s : List ℕ) (is is' : ℕ → Bool) (size other : ℕ → ℕ) (most most' room : ℕ) (first second : List ℕ) : Type 0 where
   pub sized : streamLength s ≡ none
   pub count : ℕ
   pub middle : ℕ
   pub count' : ℕ
   pub end : ℕ
-  pub row : KindRow s size 1 0 count middle
-  pub row' : KindRow s other 3 middle count' end
+  pub row : SortRow is size 0 count middle
+  pub row' : SortRow is' other middle count' end
   pub first-are : first ≡ heads size count 0
   pub second-are : second ≡ heads other count' middle
   pub few : count ≤ most
@@ -71,14 +72,14 @@ module _ (a : ℕ) (xs : List ℕ) (l : a ≤ length xs) where
       drop-at (take a xs) _ a (length-take-le a xs l)
       ∙ rw (drop-of-length-le (drop a xs) {i = length xs - a} (simp length-drop (omega arith)), append-nil)
 
-module _ {s : List ℕ} {size other : ℕ → ℕ} {most most' room : ℕ} {first second : List ℕ} (h : TwoRows s size other most most' room first second) where
-  pub first-ahead : {n : ℕ} → room ≤ n → RowAhead s size 1 0 n
+module _ {s : List ℕ} {is is' : ℕ → Bool} {size other : ℕ → ℕ} {most most' room : ℕ} {first second : List ℕ} (h : TwoRows s is is' size other most most' room first second) where
+  pub first-ahead : {n : ℕ} → room ≤ n → RowAhead s is size 0 n
   first-ahead l =
       let z = row-grows (λ p q x. x .grows) (h .row' .things) in let y = h .inside in let x = h .fit in
       record { sized = h .sized; count = h .count; end = h .middle; row = h .row; fits = omega arith; inside = omega arith }
 
   -- the first row is in the table, which has room for the second behind it
-  module _ {before xs : List ℕ} {one : RowEnd} (a : RowFilled s size 1 0 before xs one) (same : length xs ≡ length before) (l : room ≤ length before) where
+  module _ {before xs : List ℕ} {one : RowEnd} (a : RowFilled is size 0 before xs one) (same : length xs ≡ length before) (l : room ≤ length before) where
     counted : one .count ≡ h .count
     counted = same-row (a .row) (h .row) .0
 
@@ -88,7 +89,7 @@ module _ {s : List ℕ} {size other : ℕ → ℕ} {most most' room : ℕ} {firs
     pub in-table : one .count ≤ length xs
     in-table = let x = h .fit in let y = counted in omega arith
 
-    pub second-ahead : RowAhead s other 3 (one .next) (length (take (length xs - one .count) (drop (one .count) xs)))
+    pub second-ahead : RowAhead s is' other (one .next) (length (take (length xs - one .count) (drop (one .count) xs)))
     second-ahead =
         let x = h .fit in
         let y = counted in
@@ -96,10 +97,10 @@ module _ {s : List ℕ} {size other : ℕ → ℕ} {most most' room : ℕ} {firs
         (record { sized = h .sized; count = h .count'; end = h .end; row = h .row'; fits = omega arith; inside = h .inside })
 
     -- and so is the second
-    module _ {ys : List ℕ} {two : RowEnd} (b : RowFilled s other 3 (one .next) (take (length xs - one .count) (drop (one .count) xs)) ys two)
+    module _ {ys : List ℕ} {two : RowEnd} (b : RowFilled is' other (one .next) (take (length xs - one .count) (drop (one .count) xs)) ys two)
         (same' : length ys ≡ length (take (length xs - one .count) (drop (one .count) xs))) where
       counted' : two .count ≡ h .count'
-      counted' = same-row (subst (λ p. KindRow s other 3 p (two .count) (two .next)) after-first (b .row)) (h .row') .0
+      counted' = same-row (subst (λ p. SortRow is' other p (two .count) (two .next)) after-first (b .row)) (h .row') .0
 
       table : List ℕ
       table = putMid (one .count) (length xs - one .count) xs ys
@@ -141,11 +142,6 @@ module _ {s : List ℕ} {size other : ℕ → ℕ} {most most' room : ℕ} {firs
           let m = long in
           record { few = omega arith; few' = omega arith; fit = omega arith; first-are = first-part; second-are = second-part; rest = rest-part }
 
--- after the first row comes a thing of kind 3 or a zero record
-no-first : {s : List ℕ} {size : ℕ → ℕ} {n p q : ℕ} → InRow (Spans s size 3) n p q → kindOf s q ≡ 0 → kindOf s p ≡ 1 → ⊥
-no-first (no-thing p) z k = omega arith
-no-first (one-thing n p q r x xs) z k = let y = x .kind-is in omega arith
-
 -- numbers of 8 bits
 few-numbered : {Thing : ℕ → ℕ → ℕ → Type 0} {n m p q : ℕ} → ((n p q : ℕ) → Thing n p q → n < 256) → Numbered Thing n m p q → n ≤ 256 → n + m ≤ 256
 few-numbered f (no-more n p) l = omega arith
@@ -155,28 +151,28 @@ number-small : (g : List ℕ) → ((i : ℕ) → getD g i 0 < 256) → (p : ℕ)
 unfolding fieldA byteOf
 number-small g h p = h (base p + 1)
 
--- the sizes by kind
-class-size : (g : List ℕ) (p : ℕ) → kindOf g p ≡ 1 → grammarSize g p ≡ withRecords g p
+-- the sizes by sort
+class-size : (g : List ℕ) (p : ℕ) → isClass g p ≡ true → grammarSize g p ≡ withRecords g p
 unfolding grammarSize withRecords
-class-size g p e = rw (eq-eqb _ _ e)
+class-size g p e = rw e
 
-production-size : (g : List ℕ) (p : ℕ) → kindOf g p ≡ 3 → grammarSize g p ≡ productionSize g p
+production-size : (g : List ℕ) (p : ℕ) → ofKind g 3 p ≡ true → grammarSize g p ≡ productionSize g p
 unfolding grammarSize
-production-size g p e = rw (ne-eqb (kindOf g p) 1 (λ z. omega arith))
+production-size g p e = rw (grammar-sorts g .apart p e)
 
-type-size : (t : List ℕ) (p : ℕ) → kindOf t p ≡ 1 → templatesSize t p ≡ withRecords t p
+type-size : (t : List ℕ) (p : ℕ) → ofKind t 1 p ≡ true → templatesSize t p ≡ withRecords t p
 unfolding templatesSize withRecords
-type-size t p e = rw (eq-eqb _ _ e)
+type-size t p e = rw e
 
-template-size : (t : List ℕ) (p : ℕ) → kindOf t p ≡ 3 → templatesSize t p ≡ fieldC t p
+template-size : (t : List ℕ) (p : ℕ) → ofKind t 3 p ≡ true → templatesSize t p ≡ fieldC t p
 unfolding templatesSize
-template-size t p e = rw (ne-eqb (kindOf t p) 1 (λ z. omega arith))
+template-size t p e = rw (templates-sorts t .apart p e)
 
--- a row of kind 1 and a row of kind 3 fill a stream; `whole` is the size of both
-module _ {s : List ℕ} {whole : ℕ → ℕ} {m n q e : ℕ} (w : streamLength s ≡ none) (t : Tail s e)
-    (a : InRow (Spans s whole 1) m 0 q) (b : InRow (Spans s whole 3) n q e) (size other : ℕ → ℕ)
-    (f : (p : ℕ) → kindOf s p ≡ 1 → whole p ≡ size p) (g : (p : ℕ) → kindOf s p ≡ 3 → whole p ≡ other p) where
-  two-rows : (most most' room : ℕ) → m ≤ most → n ≤ most' → m + n ≤ room → TwoRows s size other most most' room (heads whole m 0) (heads whole n q)
+-- a row of one sort and a row of the other fill a stream; `whole` is the size of both
+module _ {s : List ℕ} {is is' : ℕ → Bool} {whole : ℕ → ℕ} {m n q e : ℕ} (o : Sorts s is is') (w : streamLength s ≡ none) (t : Tail s e)
+    (a : InRow (Spans is whole) m 0 q) (b : InRow (Spans is' whole) n q e) (size other : ℕ → ℕ)
+    (f : (p : ℕ) → is p ≡ true → whole p ≡ size p) (g : (p : ℕ) → is' p ≡ true → whole p ≡ other p) where
+  two-rows : (most most' room : ℕ) → m ≤ most → n ≤ most' → m + n ≤ room → TwoRows s is is' size other most most' room (heads whole m 0) (heads whole n q)
   two-rows most most' room i j k =
       let z = kind-after (length-exactly s .0 w) t in
       record {
@@ -185,8 +181,8 @@ module _ {s : List ℕ} {whole : ℕ → ℕ} {m n q e : ℕ} (w : streamLength 
         middle = q;
         count' = n;
         end = e;
-        row = record { things = resized size f a; stops = no-first b z };
-        row' = record { things = resized other g b; stops = λ k. omega arith };
+        row = record { things = resized size f a; stops = not-first o b z };
+        row' = record { things = resized other g b; stops = o .zero-second e z };
         first-are = resized-heads size f a;
         second-are = resized-heads other g b;
         few = i;
@@ -195,32 +191,27 @@ module _ {s : List ℕ} {whole : ℕ → ℕ} {m n q e : ℕ} (w : streamLength 
         inside = let l = few-records s w in let k = t .inside in omega arith;
       }
 
-pub grammar-rows : {g : List ℕ} → LaidGrammar g → ((i : ℕ) → getD g i 0 < 256) → TwoRows g (withRecords g) (productionSize g) mostClasses mostProductions (mostClasses + mostProductions) (classes g) (productions g)
+pub grammar-rows : {g : List ℕ} → LaidGrammar g → ((i : ℕ) → getD g i 0 < 256) → TwoRows g (isClass g) (ofKind g 3) (withRecords g) (productionSize g) mostClasses mostProductions (mostClasses + mostProductions) (classes g) (productions g)
 grammar-rows {g} l small =
     let w = length-exactly g .0 (l .length-right) in
     let h = grammar-laid-exactly g w .0 (l .laid-out) in
     let a : 0 + h .class-count ≤ 256 =
-    few-numbered (λ n p q x. let z = x .number in let y = number-small g small p in omega arith) (h .classes) (omega arith) in
+    few-numbered (λ n p q x. let z = class-number x in let y = number-small g small p in omega arith) (h .classes) (omega arith) in
     let b : 0 + h .production-count ≤ 256 =
     few-numbered (λ n p q x. let z = x .number in let y = number-small g small p in omega arith) (h .productions) (omega arith) in
     rw (classes-are g w h, productions-are g w h)
-    (two-rows (l .length-right) (h .tail) (each-numbered (λ n p q. class-spans) (h .classes)) (each-numbered (λ n p q. production-spans) (h .productions))
+    (two-rows (grammar-sorts g) (l .length-right) (h .tail) (each-numbered (λ n p q. class-spans) (h .classes)) (each-numbered (λ n p q. production-spans) (h .productions))
     (withRecords g) (productionSize g) (class-size g) (production-size g) mostClasses mostProductions (mostClasses + mostProductions) (omega arith) (omega arith) (omega arith))
 
--- the things of a row are no more than its records
-few-things : {Thing : ℕ → ℕ → Type 0} {n p q : ℕ} → ((p q : ℕ) → Thing p q → p < q) → InRow Thing n p q → p + n ≤ q
-few-things f (no-thing p) = omega arith
-few-things f (one-thing n p q r x xs) = let a = f p q x in let b = few-things f xs in omega arith
-
-pub templates-rows : {t : List ℕ} → LaidTemplates t → TwoRows t (withRecords t) (fieldC t) (recordCount t) (recordCount t) (recordCount t) (types t) (templates t)
+pub templates-rows : {t : List ℕ} → LaidTemplates t → TwoRows t (ofKind t 1) (ofKind t 3) (withRecords t) (fieldC t) (recordCount t) (recordCount t) (recordCount t) (types t) (templates t)
 templates-rows {t} l =
     let w = length-exactly t .0 (l .length-right) in
     let h = templates-laid-exactly t w .0 (l .laid-out) in
     let a = each-in-row (λ p q. type-spans) (h .types) in
     let b = each-in-row (λ p q. template-spans) (h .templates) in
-    let x = few-things (λ p q y. y .grows) a in
-    let y = few-things (λ p q y. y .grows) b in
+    let x = row-grows (λ p q y. y .grows) a in
+    let y = row-grows (λ p q y. y .grows) b in
     let z = h .tail .inside in
     rw (types-are t w h, templates-are t w h)
-    (two-rows (l .length-right) (h .tail) a b (withRecords t) (fieldC t) (type-size t) (template-size t)
+    (two-rows (templates-sorts t) (l .length-right) (h .tail) a b (withRecords t) (fieldC t) (type-size t) (template-size t)
     (recordCount t) (recordCount t) (recordCount t) (omega arith) (omega arith) (omega arith))

@@ -9,14 +9,14 @@ use borrow.Author.Tests.{eqb-true, eqb-false, eq-eqb, ne-eqb, le-leb, lt-leb, le
 use lib.Dec.{eqb, leb}
 use Rattle.rules.specs.Faults.{need, onFound, onlyIf}
 use Rattle.rules.specs.Blocks.{streamLength}
-use Rattle.rules.specs.Records.{recordCount, fieldA, fieldC, fieldD}
-use Rattle.rules.specs.Layout.{thenRead, inRow, whileKind, namingEnd, typeEnd, sized, nodeEnd, templateEnd, templatesEnd, tailRight, layoutFault, templatesLayout}
+use Rattle.rules.specs.Records.{recordCount, kindOf, fieldA, fieldC, fieldD, ofKind}
+use Rattle.rules.specs.Layout.{thenRead, inRow, whileIs, namingEnd, typeEnd, sized, nodeEnd, templateEnd, templatesEnd, tailRight, layoutFault, templatesLayout}
 use Rattle.stream.specs.declared.record.Record.{Record}
 use Rattle.stream.specs.Record.{Fetched}
 use Rattle.layout.specs.Tree.{Node, thingEnd, fills}
 use Rattle.layout.specs.Template.{typesEnd, restRight, within, recordEnd}
 use Rattle.layout.proofs.CommonLaws.{tail-past}
-use Rattle.layout.proofs.GrammarLaws.{inside, ThingsLeft, left-start, left-stop, left-go, left-broken, kind-here, kind-other}
+use Rattle.layout.proofs.GrammarLaws.{inside, ThingsLeft, left-start, left-stop, left-go, left-broken, of-another, kind-stands}
 use Rattle.laws.specs.Reads.{only-some, then-some}
 use Rattle.layout.proofs.TreeThings.{row-ends, thing-sized}
 
@@ -27,7 +27,7 @@ naming-ends t kind p q e = only-some _ (p + 1) q e .1
 -- Types, from p on: what is left to read is the whole
 
 abbrev pub TypesLeft : List ℕ → ℕ → Type 0
-TypesLeft t p = (n : ℕ) × ThingsLeft t 1 (λ n. typeEnd t) (typesEnd t) n p
+TypesLeft t p = (n : ℕ) × ThingsLeft t (ofKind t 1) (λ n. typeEnd t) (typesEnd t) n p
 
 pub types-start : (t : List ℕ) → TypesLeft t 0
 unfolding typesEnd
@@ -35,18 +35,18 @@ types-start t = (0, left-start 0)
 
 module _ {t : List ℕ} (w : streamLength t ≡ none) {p : ℕ} {r : Record} (f : Fetched t p r) (h : TypesLeft t p) where
   pub types-stop : (r .kind ≡ 1 → ⊥) → some p ≡ typesEnd t
-  types-stop k = left-stop (kind-other f 1 k) (h .1)
+  types-stop k = left-stop (of-another f 1 k) (h .1)
 
   module _ (k : r .kind ≡ 1) (z : Bool) (e : onlyIf z (p + 1 + fieldD t p) ≡ typeEnd t p) where
     pub types-broken : z ≡ false → none ≡ typesEnd t
     unfolding onlyIf
-    types-broken i = left-broken w (kind-here f 1 k) (h .1) (sym e ∙ rw i)
+    types-broken i = left-broken (kind-stands f w 0 k) (h .1) (sym e ∙ rw i)
 
     pub types-go : z ≡ true → TypesLeft t (p + (1 + r .d))
     unfolding onlyIf
     types-go i =
         let q : p + 1 + fieldD t p ≡ p + (1 + r .d) = omega (arith, f .d) in
-        (h .0 + 1, left-go w (kind-here f 1 k) (h .1) (p + (1 + r .d)) (sym e ∙ rw (i, q)) (omega arith))
+        (h .0 + 1, left-go (kind-stands f w 0 k) (h .1) (p + (1 + r .d)) (sym e ∙ rw (i, q)) (omega arith))
 
 -- One template
 
@@ -112,18 +112,18 @@ module _ (t : List ℕ) (p : ℕ) (r : Record) (f : Fetched t p r) where
 -- Templates, from p on, and what comes after them: of what is left from q on
 
 abbrev pub TemplatesLeft : List ℕ → ℕ → ℕ → Type 0
-TemplatesLeft t p q = (n : ℕ) × ThingsLeft t 3 (λ n. templateEnd t) (whileKind t 3 (λ n. templateEnd t) (recordCount t) 0 p) n q
+TemplatesLeft t p q = (n : ℕ) × ThingsLeft t (ofKind t 3) (λ n. templateEnd t) (whileIs (ofKind t 3) (λ n. templateEnd t) (recordCount t) 0 p) n q
 
 pub templates-start : (t : List ℕ) (p : ℕ) → TemplatesLeft t p p
 templates-start t p = (0, left-start p)
 
-ends-at : (t : List ℕ) (p e : ℕ) → some e ≡ whileKind t 3 (λ n. templateEnd t) (recordCount t) 0 p → tailRight t e ≡ restRight t p
+ends-at : (t : List ℕ) (p e : ℕ) → some e ≡ whileIs (ofKind t 3) (λ n. templateEnd t) (recordCount t) 0 p → tailRight t e ≡ restRight t p
 unfolding restRight onFound
 ends-at t p e h = rw (← h)
 
 module _ {t : List ℕ} (w : streamLength t ≡ none) (p : ℕ) {q : ℕ} {r : Record} (f : Fetched t q r) (h : TemplatesLeft t p q) where
   pub templates-stop : (r .kind ≡ 3 → ⊥) → tailRight t q ≡ restRight t p
-  templates-stop k = ends-at t p q (left-stop (kind-other f 3 k) (h .1))
+  templates-stop k = ends-at t p q (left-stop (of-another f 3 k) (h .1))
 
   module _ (k : r .kind ≡ 3) where
     pub templates-wrong : false ≡ within t (templateEnd t q) → false ≡ restRight t p
@@ -131,11 +131,11 @@ module _ {t : List ℕ} (w : streamLength t ≡ none) (p : ℕ) {q : ℕ} {r : R
     templates-wrong z = go (templateEnd t q) refl
       where
         go : (o : Option ℕ) → templateEnd t q ≡ o → false ≡ restRight t p
-        go none i = rw (← left-broken w (kind-here f 3 k) (h .1) i)
+        go none i = rw (← left-broken (kind-stands f w 2 k) (h .1) i)
         go (some e) i =
             let m : recordCount t < e = leb-false e (recordCount t) (sym (rw i at z)) in
-            let g = left-go w (kind-here f 3 k) (h .1) e i (template-parts t q e i .0) in
-            tail-past t e (omega arith) (recordCount t) refl m ∙ ends-at t p e (left-stop (λ j. absurd (let n = inside t w e 2 j in omega arith)) g)
+            let g = left-go (kind-stands f w 2 k) (h .1) e i (template-parts t q e i .0) in
+            tail-past t e (omega arith) (recordCount t) refl m ∙ ends-at t p e (left-stop (ne-eqb (kindOf t e) 3 (λ j. absurd (let n = inside t w e 2 j in omega arith))) g)
 
     pub templates-go : true ≡ within t (templateEnd t q) → (q < q + r .c) × TemplatesLeft t p (q + r .c)
     unfolding within onFound
@@ -146,7 +146,7 @@ module _ {t : List ℕ} (w : streamLength t ≡ none) (p : ℕ) {q : ℕ} {r : R
         go (some e) i =
             let j = template-parts t q e i in
             let y : e ≡ q + r .c = omega (arith, j .1, f .c) in
-            (omega (arith, j .0), (h .0 + 1, left-go w (kind-here f 3 k) (h .1) (q + r .c) (i ∙ ap some y) (omega (arith, j .0))))
+            (omega (arith, j .0), (h .0 + 1, left-go (kind-stands f w 2 k) (h .1) (q + r .c) (i ∙ ap some y) (omega (arith, j .0))))
 
 -- The whole
 

@@ -2,10 +2,11 @@
 use Prim.Native.Nat.{ℕ, _+_, _-_, _≤_}
 use mathlib.Core.Path.{_≡_}
 use mathlib.Core.List.{List}
+use mathlib.Core.Bool.{Bool, false}
 use mathlib.Core.Option.{none}
 use lib.ListN.{length, take, drop}
 use Rattle.rules.specs.Blocks.{streamLength}
-use Rattle.rules.specs.Records.{kindOf, fieldD, heads}
+use Rattle.rules.specs.Records.{fieldD, heads}
 use Rattle.rules.specs.Layout.{grammarLayout, templatesLayout}
 use Rattle.theorems.specs.LaidOut.{InRow}
 use Rattle.theorems.specs.Heads.{Spans}
@@ -46,22 +47,22 @@ pub record Tables (most most' : ℕ) (xs ys before table : List ℕ) (r : Counts
 unfoldable pub withRecords : List ℕ → ℕ → ℕ
 withRecords s p = 1 + fieldD s p
 
--- n things of a kind in a row from p on, up to q, and no more
-pub record KindRow (s : List ℕ) (size : ℕ → ℕ) (kind p n q : ℕ) : Type 0 where
-  pub things : InRow (Spans s size kind) n p q
-  pub stops : kindOf s q ≡ kind → ⊥
+-- n things of a sort in a row from p on, up to q, and no more
+pub record SortRow (is : ℕ → Bool) (size : ℕ → ℕ) (p n q : ℕ) : Type 0 where
+  pub things : InRow (Spans is size) n p q
+  pub stops : is q ≡ false
 
 -- there is such a row from p on, inside a whole stream, and a table has room for its heads
-pub record RowAhead (s : List ℕ) (size : ℕ → ℕ) (kind p room : ℕ) : Type 0 where
+pub record RowAhead (s : List ℕ) (is : ℕ → Bool) (size : ℕ → ℕ) (p room : ℕ) : Type 0 where
   pub sized : streamLength s ≡ none
   pub count : ℕ
   pub end : ℕ
-  pub row : KindRow s size kind p count end
+  pub row : SortRow is size p count end
   pub fits : count ≤ room
   pub inside : end ≤ mostRecords
 
 -- the row was gone over, and the table begins with its heads
-pub record RowFilled (s : List ℕ) (size : ℕ → ℕ) (kind p : ℕ) (before table : List ℕ) (r : RowEnd) : Type 0 where
-  pub row : KindRow s size kind p (r .count) (r .next)
+pub record RowFilled (is : ℕ → Bool) (size : ℕ → ℕ) (p : ℕ) (before table : List ℕ) (r : RowEnd) : Type 0 where
+  pub row : SortRow is size p (r .count) (r .next)
   pub begins : take (r .count) table ≡ heads size (r .count) p
   pub rest : drop (r .count) table ≡ drop (r .count) before

@@ -8,8 +8,8 @@ use lib.ListN.{drop}
 use lib.Dec.{eqb, leb}
 use Rattle.rules.specs.Blocks.{streamLength}
 use Rattle.rules.specs.Faults.{onFound}
-use Rattle.rules.specs.Records.{recordCount, zeros}
-use Rattle.rules.specs.Layout.{whileKind, namingEnd, pathEnd, typeEnd, templateEnd, tailRight}
+use Rattle.rules.specs.Records.{recordCount, zeros, ofKind}
+use Rattle.rules.specs.Layout.{whileIs, namingEnd, pathEnd, typeEnd, templateEnd, tailRight}
 use Rattle.stream.specs.declared.record.Record.{Record}
 use Rattle.stream.specs.Record.{Fetched}
 use Rattle.layout.specs.Common.{bytesOf}
@@ -27,11 +27,11 @@ recordEnd t kind p = cond (eqb kind 6) (pathEnd t p) (namingEnd t kind p)
 
 -- where the types end
 unfoldable pub typesEnd : List ℕ → Option ℕ
-typesEnd t = whileKind t 1 (λ n. typeEnd t) (recordCount t) 0 0
+typesEnd t = whileIs (ofKind t 1) (λ n. typeEnd t) (recordCount t) 0 0
 
 -- the templates from p on, and the zero records after them
 unfoldable pub restRight : List ℕ → ℕ → Bool
-restRight t p = onFound (whileKind t 3 (λ n. templateEnd t) (recordCount t) 0 p) false (tailRight t)
+restRight t p = onFound (whileIs (ofKind t 3) (λ n. templateEnd t) (recordCount t) 0 p) false (tailRight t)
 
 -- a thing ends within the stream
 unfoldable pub within : List ℕ → Option ℕ → Bool

@@ -4,11 +4,14 @@ ghost use mathlib.Core.Option.{none};
 ghost use Prim.Native.Nat.{_+_, _<_, _^_};
 ghost use Rattle.rules.specs.Faults.{need, onlyIf};
 ghost use Rattle.rules.specs.Blocks.{streamLength};
-ghost use Rattle.rules.specs.Records.{recordCount};
-ghost use Rattle.rules.specs.Layout.{inRow, whileKind, rangeEnd, classEnd, elementEnd, productionEnd, grammarLayout};
-ghost use Rattle.layout.specs.Grammar.{endOf, elementHead};
+ghost use Rattle.rules.specs.Records.{recordCount, ofKind};
+ghost use Rattle.rules.specs.Grammar.{isClass};
+ghost use Rattle.rules.specs.Layout.{inRow, whileIs, rangeEnd, classEnd, elementEnd, productionEnd, grammarLayout};
+ghost use Rattle.layout.specs.Grammar.{endOf, classHead, elementHead};
 use crate::common::padded;
 use crate::common::tail_right;
+use records::class::is_class;
+use records::class::is_escaped;
 use records::element::text_length;
 use records::element::units;
 use stream::record::Record;
@@ -40,19 +43,35 @@ fn are_ranges(g: &[u8], p: usize, n: usize) -> bool
     true
 }
 
-// The classes, numbered from 0.
+// What an escaped class says of itself: c and d are unused. A plain one uses both.
+fn is_laid(class: Record) -> bool
+    ensures { λ r. ⌜ r ≡ classHead class ⌝ }
+{
+    if is_escaped(class) {
+        if class.c != 0 {
+            return false;
+        }
+        return class.d == 0;
+    }
+    true
+}
+
+// The classes, plain and escaped, numbered from 0.
 fn class_row(g: &[u8]) -> End
     requires { ⌜ streamLength (now g) ≡ none ⌝ }
-    ensures { λ r. ⌜ endOf r ≡ whileKind (now (g .entry)) 1 (classEnd (now (g .entry))) (recordCount (now (g .entry))) 0 0 ⌝ }
+    ensures { λ r. ⌜ endOf r ≡ whileIs (isClass (now (g .entry))) (classEnd (now (g .entry))) (recordCount (now (g .entry))) 0 0 ⌝ }
 {
     let mut p: usize = 0;
     let mut n: usize = 0;
     loop {
         let class = fetch(g, p);
-        if class.kind != 1 {
+        if !is_class(class) {
             return End::At(p);
         }
         if class.a as usize != n {
+            return End::Broken;
+        }
+        if !is_laid(class) {
             return End::Broken;
         }
         let d = class.d as usize;
@@ -119,7 +138,7 @@ fn elements_end(g: &[u8], p: usize, n: usize) -> End
 // The productions from record start on, numbered from 0.
 fn production_row(g: &[u8], start: usize) -> End
     requires { ⌜ streamLength (now g) ≡ none ⌝ }
-    ensures { λ r. ⌜ endOf r ≡ whileKind (now (g .entry)) 3 (productionEnd (now (g .entry))) (recordCount (now (g .entry))) 0 start ⌝ }
+    ensures { λ r. ⌜ endOf r ≡ whileIs (ofKind (now (g .entry)) 3) (productionEnd (now (g .entry))) (recordCount (now (g .entry))) 0 start ⌝ }
 {
     let mut p = start;
     let mut n: usize = 0;

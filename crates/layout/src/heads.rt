@@ -5,11 +5,12 @@ ghost use mathlib.Core.Option.{none};
 ghost use Prim.Native.Nat.{_+_, _≤_};
 ghost use lib.ListN.{length};
 ghost use Rattle.rules.specs.Blocks.{streamLength};
-ghost use Rattle.rules.specs.Records.{recordCount, fieldC, after};
-ghost use Rattle.rules.specs.Grammar.{elementSize, productionSize, classes, productions};
+ghost use Rattle.rules.specs.Records.{recordCount, fieldC, after, ofKind};
+ghost use Rattle.rules.specs.Grammar.{isClass, elementSize, productionSize, classes, productions};
 ghost use Rattle.rules.specs.Templates.{types, templates};
 ghost use Rattle.layout.specs.Common.{mostRecords};
 ghost use Rattle.layout.specs.Heads.{LaidGrammar, LaidTemplates, mostClasses, mostProductions, Tables, withRecords, RowAhead, RowFilled};
+use records::class::is_class;
 use records::element::size_of;
 use stream::record::fetch;
 use stream::record::fetch_at;
@@ -28,15 +29,33 @@ pub struct Counts {
     pub second: usize,
 }
 
-// The classes of a grammar or the types of a template set: each head has d records after it.
-fn first_row(s: &[u8], table: &mut [u16]) -> RowEnd
-    requires { ⌜ RowAhead (now s) (withRecords (now s)) 1 0 (length (now table)) ⌝ }
-    ensures { λ r. ⌜ RowFilled (now (s .entry)) (withRecords (now (s .entry))) 1 0 (now (table .entry)) (now (table .exit)) r ⌝ }
+// The classes of a grammar, plain and escaped: each head has d records after it.
+fn class_row(g: &[u8], table: &mut [u16]) -> RowEnd
+    requires { ⌜ RowAhead (now g) (isClass (now g)) (withRecords (now g)) 0 (length (now table)) ⌝ }
+    ensures { λ r. ⌜ RowFilled (isClass (now (g .entry))) (withRecords (now (g .entry))) 0 (now (table .entry)) (now (table .exit)) r ⌝ }
 {
     let mut p: usize = 0;
     let mut n: usize = 0;
     loop {
-        let head = fetch(s, p);
+        let head = fetch(g, p);
+        if !is_class(head) {
+            return RowEnd { count: n, next: p };
+        }
+        table[n] = p as u16;
+        n += 1;
+        p += 1 + head.d as usize;
+    }
+}
+
+// The types of a template set: each head has d records after it.
+fn type_row(t: &[u8], table: &mut [u16]) -> RowEnd
+    requires { ⌜ RowAhead (now t) (ofKind (now t) 1) (withRecords (now t)) 0 (length (now table)) ⌝ }
+    ensures { λ r. ⌜ RowFilled (ofKind (now (t .entry)) 1) (withRecords (now (t .entry))) 0 (now (table .entry)) (now (table .exit)) r ⌝ }
+{
+    let mut p: usize = 0;
+    let mut n: usize = 0;
+    loop {
+        let head = fetch(t, p);
         if head.kind != 1 {
             return RowEnd { count: n, next: p };
         }
@@ -66,8 +85,8 @@ fn after_elements(g: &[u8], n: usize, p: usize) -> usize
 
 // The productions of a grammar, from record start on: each head has d elements after it.
 fn production_row(g: &[u8], start: usize, table: &mut [u16]) -> RowEnd
-    requires { ⌜ RowAhead (now g) (productionSize (now g)) 3 start (length (now table)) ⌝ }
-    ensures { λ r. ⌜ RowFilled (now (g .entry)) (productionSize (now (g .entry))) 3 start (now (table .entry)) (now (table .exit)) r ⌝ }
+    requires { ⌜ RowAhead (now g) (ofKind (now g) 3) (productionSize (now g)) start (length (now table)) ⌝ }
+    ensures { λ r. ⌜ RowFilled (ofKind (now (g .entry)) 3) (productionSize (now (g .entry))) start (now (table .entry)) (now (table .exit)) r ⌝ }
 {
     let mut p = start;
     let mut n: usize = 0;
@@ -84,8 +103,8 @@ fn production_row(g: &[u8], start: usize, table: &mut [u16]) -> RowEnd
 
 // The templates of a template set, from record start on: a head's c is the size of all.
 fn template_row(t: &[u8], start: usize, table: &mut [u16]) -> RowEnd
-    requires { ⌜ RowAhead (now t) (fieldC (now t)) 3 start (length (now table)) ⌝ }
-    ensures { λ r. ⌜ RowFilled (now (t .entry)) (fieldC (now (t .entry))) 3 start (now (table .entry)) (now (table .exit)) r ⌝ }
+    requires { ⌜ RowAhead (now t) (ofKind (now t) 3) (fieldC (now t)) start (length (now table)) ⌝ }
+    ensures { λ r. ⌜ RowFilled (ofKind (now (t .entry)) 3) (fieldC (now (t .entry))) start (now (table .entry)) (now (table .exit)) r ⌝ }
 {
     let mut p = start;
     let mut n: usize = 0;
@@ -106,7 +125,7 @@ pub fn grammar_heads(g: &[u8], heads: &mut [u16]) -> Counts
     requires { ⌜ mostClasses + mostProductions ≤ length (now heads) ⌝ }
     ensures { λ r. ⌜ Tables mostClasses mostProductions (classes (now (g .entry))) (productions (now (g .entry))) (now (heads .entry)) (now (heads .exit)) r ⌝ }
 {
-    let one = first_row(g, heads);
+    let one = class_row(g, heads);
     let count = one.count;
     let two = production_row(g, one.next, &mut heads[count..]);
     Counts {
@@ -121,7 +140,7 @@ pub fn templates_heads(t: &[u8], heads: &mut [u16]) -> Counts
     requires { ⌜ recordCount (now t) ≤ length (now heads) ⌝ }
     ensures { λ r. ⌜ Tables (recordCount (now (t .entry))) (recordCount (now (t .entry))) (types (now (t .entry))) (templates (now (t .entry))) (now (heads .entry)) (now (heads .exit)) r ⌝ }
 {
-    let one = first_row(t, heads);
+    let one = type_row(t, heads);
     let count = one.count;
     let two = template_row(t, one.next, &mut heads[count..]);
     Counts {

@@ -10,24 +10,24 @@ use lib.ListN.{length, getD, take, drop, length-take, length-drop, List·getD-eq
 use lib.Seq.{getD-take, getD-drop, drop-length}
 use lib.Dec.{leb, ltb}
 use borrow.Author.Tests.{le-leb, ne-eqb, ltb-true, ltb-false}
-use Rattle.rules.specs.Records.{fieldB, fieldC}
+use Rattle.rules.specs.Records.{kindOf, fieldB, fieldC}
 use Rattle.rules.specs.Grammar.{classes, class}
-use Rattle.rules.specs.Lexeme.{ranges, isLexeme}
-use Rattle.laws.specs.Lists.{nth-some, nth-none}
+use Rattle.rules.specs.Lexeme.{ranges, isPlainLexeme}
+use Rattle.laws.specs.Lists.{nth-some}
 use Rattle.stream.specs.declared.text.Text.{Text}
 use Rattle.stream.specs.Text.{textIn, payloadFrom, room, partOf, Rest}
 use Rattle.lexeme.specs.declared.scan.Scan.{Scan}
 use Rattle.lexeme.specs.Sets.{ClassSet, setOf, LexemesReady}
 use Rattle.lexeme.specs.Runs.{RunsTo}
 use Rattle.lexeme.specs.Scan.{midway, clean, scanned, Tidy}
-use Rattle.lexeme.proofs.ScanLaws.{passes, scanned-append, lexeme-scan, lexeme-none}
+use Rattle.lexeme.proofs.ScanLaws.{passes, scanned-append, plain-scan, plain-other}
 use Rattle.lexeme.proofs.PartLaws.{tidy-scanned, passes-bad, passes-past}
 
-tidy-clean : (n : ℕ) → Tidy (clean n)
+pub tidy-clean : (n : ℕ) → Tidy (clean n)
 unfolding clean midway
 tidy-clean n = record { good = refl; fresh = λ e. refl; from = λ l. absurd (omega arith); to = λ l. absurd (omega arith); short = omega arith; few = omega arith }
 
-found : (g list : List ℕ) (n : ℕ) → list ≡ classes g → n < length list → class g n ≡ some (getD list n 0)
+pub found : (g list : List ℕ) (n : ℕ) → list ≡ classes g → n < length list → class g n ≡ some (getD list n 0)
 unfolding class
 found g list n e l = rw (← e) (nth-some list n l)
 
@@ -45,9 +45,22 @@ bytes-part xs m a l k = go (ltb k m) refl
 abbrev verdict : List ℕ → ℕ → List ℕ → Text → Bool
 verdict g p s t = passes g p (scanned g (ranges g p) (clean 0) (textIn s t))
 
-pub by-scan : (g : List ℕ) (p : ℕ) (s : List ℕ) (t : Text) (r : Bool) → r ≡ passes g p (scanned g (ranges g p) (clean 0) (textIn s t))
-    → (c : ℕ) → class g c ≡ some p → r ≡ isLexeme g c (textIn s t)
-by-scan g p s t r e c f = e ∙ sym (lexeme-scan g c p (textIn s t) f)
+pub by-scan : (g : List ℕ) (p : ℕ) (s : List ℕ) (t : Text) (r : Bool) → kindOf g p ≡ 1 → r ≡ passes g p (scanned g (ranges g p) (clean 0) (textIn s t))
+    → (c : ℕ) → class g c ≡ some p → r ≡ isPlainLexeme g c (textIn s t)
+by-scan g p s t r k e c f = e ∙ sym (plain-scan g c p (textIn s t) f k)
+
+-- a class that is not plain
+pub by-kind : (g : List ℕ) (p : ℕ) (text : List ℕ) → (kindOf g p ≡ 1 → ⊥) → (c : ℕ) → class g c ≡ some p → false ≡ isPlainLexeme g c text
+by-kind g p text k c f = sym (plain-other g c p text f k)
+
+-- the verdict on the last state
+pub ends-short : (g : List ℕ) (p : ℕ) (state : Scan) → Tidy state → (state .due ≡ 0 → ⊥) → passes g p state ≡ false
+unfolding passes
+ends-short g p state t d = rw (t .good, ne-eqb (state .due) 0 d)
+
+pub ends-whole : (g : List ℕ) (p : ℕ) (state : Scan) → Tidy state → state .count ≤ fieldC g p → state .due ≡ 0 → passes g p state ≡ leb (fieldB g p) (state .count)
+unfolding passes
+ends-whole g p state t m d = rw (t .good, d, le-leb (state .count) (fieldC g p) m) (and-true (leb (fieldB g p) (state .count)))
 
 -- what is left of a text, and the state after what went before
 pub record Reading (g : List ℕ) (p : ℕ) (s : List ℕ) (t : Text) (state : Scan) (rest : Text) : Type 0 where
@@ -91,12 +104,10 @@ module _ (g : List ℕ) (p : ℕ) (s : List ℕ) (t : Text) (state : Scan) (rest
   whole = let e : rest .left ≡ 0 = omega arith in h .same ∙ rw e
 
   pub read-short : (state .due ≡ 0 → ⊥) → false ≡ verdict g p s t
-  unfolding passes
-  read-short d = sym (ap (passes g p) whole ∙ rw (h .tidy .good, ne-eqb (state .due) 0 d))
+  read-short d = sym (ap (passes g p) whole ∙ ends-short g p state (h .tidy) d)
 
   pub read-whole : state .due ≡ 0 → leb (fieldB g p) (state .count) ≡ verdict g p s t
-  unfolding passes
-  read-whole d = sym (ap (passes g p) whole ∙ rw (h .tidy .good, d, le-leb (state .count) (fieldC g p) (h .most)) (and-true (leb (fieldB g p) (state .count))))
+  read-whole d = sym (ap (passes g p) whole ∙ ends-whole g p state (h .tidy) (h .most) d)
 
 -- one run, from the beginning of a text to its end
 module _ (g : List ℕ) (p : ℕ) (set₁ s part : List ℕ) (t rest : Text) (r : ClassSet g p set₁) (to n : ℕ) (h : RunsTo set₁ part 0 to n) (l : length part ≤ to)
@@ -128,11 +139,3 @@ unfolding setOf
 set-there g list table n r l =
     let e : 128 * n + 128 - 128 * n ≡ 128 = omega arith in
     rw e (r .sets .each n (getD list n 0) (found g list n (r .heads) l))
-
-pub lexeme-of : (g list table : List ℕ) (n : ℕ) (r : Bool) (read text : List ℕ) → LexemesReady g list table → n < length list → read ≡ text
-    → ((c : ℕ) → class g c ≡ some (getD list n 0) → r ≡ isLexeme g c read) → r ≡ isLexeme g n text
-lexeme-of g list table n r read text q l e f = f n (found g list n (q .heads) l) ∙ ap (isLexeme g n) e
-
-pub no-class : (g list table : List ℕ) (n : ℕ) (text : List ℕ) → LexemesReady g list table → length list ≤ n → false ≡ isLexeme g n text
-unfolding class
-no-class g list table n text r l = sym (lexeme-none g n text (rw (← r .heads) (nth-none list n l)))

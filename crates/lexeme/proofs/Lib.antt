@@ -7,3 +7,5 @@ pub mod MixedLaws
 pub mod ClassLaws
 pub mod PartLaws
 pub mod LexemeLaws
+pub mod SourceLaws
+pub mod EscapedLaws

@@ -17,7 +17,8 @@ use Rattle.lexeme.specs.Sets.{bitAt, isIn, WordOf, ClassSet}
 use Rattle.lexeme.specs.Scan.{midway, clean, judged, seen, scanned}
 use Rattle.lexeme.specs.Runs.{admitted, Plain, RunsTo}
 use Rattle.lexeme.proofs.BitLaws.{word-says}
-use Rattle.lexeme.proofs.StepLaws.{seen-first, seen-later, first-plain, first-two, later-last, judge-char, judge-midway}
+use Rattle.laws.specs.FirstBytes.{first-plain, first-two}
+use Rattle.lexeme.proofs.StepLaws.{seen-first, seen-later, later-last, judge-char, judge-midway}
 
 -- no bit of 0 is set, and of 0xfffffffc only those from 2 to 31
 pub no-bit : {A : Type 0} (word j : ℕ) → word ≡ 0 → bitAt word j ≡ true → A

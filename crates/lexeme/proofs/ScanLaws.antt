@@ -7,10 +7,13 @@ use mathlib.Core.Option.{none, some}
 use native.Mathlib.Nat.{add-zero, zero-add, add-assoc}
 use lib.ListN.{length, length-append}
 use lib.Dec.{eqb, leb}
+use borrow.Author.Tests.{ne-eqb}
 use Rattle.rules.specs.Faults.{onFound}
-use Rattle.rules.specs.Records.{fieldB, fieldC}
-use Rattle.rules.specs.Grammar.{class}
-use Rattle.rules.specs.Lexeme.{Decoding, between, inside, broken, firstByte, laterByte, nextByte, decode, decoded, charactersOf, inSome, allInSome, admits, ranges, within, isLexeme}
+use Rattle.rules.specs.Records.{kindOf, fieldB, fieldC}
+use Rattle.rules.specs.Grammar.{class, plainClass}
+use Rattle.rules.specs.Lexeme.{Decoding, between, inside, broken, firstByte, laterByte, nextByte, decode, decoded, charactersOf, inSome, allInSome, admits, ranges, within, isPlainLexeme}
+use Rattle.laws.specs.Faults.{on-some, on-none, only-no}
+use Rattle.laws.specs.Sorts.{plain-class-iff}
 use Rattle.lexeme.specs.declared.scan.Scan.{Scan}
 use Rattle.lexeme.specs.Scan.{midway, clean, stopped, judged, resumed, seen, scanned}
 
@@ -179,13 +182,18 @@ judges g p d = go (d .valid) refl (eqb (d .due) 0) refl (allInSome g (ranges g p
     go true ev false ee false ea = rw (ev, ee, ea)
     go false ev e ee a ea = rw ev
 
-pub lexeme-scan : (g : List ℕ) (c p : ℕ) (text : List ℕ) → class g c ≡ some p → isLexeme g c text ≡ passes g p (scanned g (ranges g p) (clean 0) text)
-unfolding isLexeme onFound charactersOf
-lexeme-scan g c p text e =
-    rw e
-    (judges g p (decode (between []) text)
-    ∙ ap (passes g p) (view-decode g (ranges g p) (between []) text ∙ ap (λ (s : Scan). scanned g (ranges g p) s text) (view-start g (ranges g p))))
+-- which text is a lexeme of a plain class, by the class's record; a class that there isn't, and one that is not plain, has none
+pub plain-scan : (g : List ℕ) (c p : ℕ) (text : List ℕ) → class g c ≡ some p → kindOf g p ≡ 1 → isPlainLexeme g c text ≡ passes g p (scanned g (ranges g p) (clean 0) text)
+unfolding isPlainLexeme charactersOf
+plain-scan g c p text e k =
+    on-some false _ (plain-class-iff g c p .1 (e, k))
+    ∙ judges g p (decode (between []) text)
+    ∙ ap (passes g p) (view-decode g (ranges g p) (between []) text ∙ ap (λ (s : Scan). scanned g (ranges g p) s text) (view-start g (ranges g p)))
 
-pub lexeme-none : (g : List ℕ) (c : ℕ) (text : List ℕ) → class g c ≡ none → isLexeme g c text ≡ false
-unfolding isLexeme onFound
-lexeme-none g c text e = rw e
+pub plain-other : (g : List ℕ) (c p : ℕ) (text : List ℕ) → class g c ≡ some p → (kindOf g p ≡ 1 → ⊥) → isPlainLexeme g c text ≡ false
+unfolding isPlainLexeme plainClass
+plain-other g c p text e k = on-none false _ (on-some none _ e ∙ only-no _ p (ne-eqb (kindOf g p) 1 k))
+
+pub plain-none : (g : List ℕ) (c : ℕ) (text : List ℕ) → class g c ≡ none → isPlainLexeme g c text ≡ false
+unfolding isPlainLexeme plainClass
+plain-none g c text e = on-none false _ (on-none none _ e)

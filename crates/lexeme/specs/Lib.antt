@@ -1,3 +1,4 @@
 pub mod Sets
+pub mod Sources
 pub mod Scan
 pub mod Runs

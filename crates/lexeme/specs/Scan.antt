@@ -42,13 +42,6 @@ unfoldable pub scanned : List ℕ → List ℕ → Scan → List ℕ → Scan
 scanned g rs s [] = s
 scanned g rs s (b ∷ bs) = scanned g rs (seen g rs s b) bs
 
--- RFC 3629, section 4: the byte after the first, from this least to this most
-unfoldable pub leastNext : ℕ → ℕ
-leastNext b = cond (eqb b 0xe0) 0xa0 (cond (eqb b 0xf0) 0x90 0x80)
-
-unfoldable pub mostNext : ℕ → ℕ
-mostNext b = cond (eqb b 0xed) 0x9f (cond (eqb b 0xf4) 0x8f 0xbf)
-
 -- a scan as the scans of bytes leave it: the bits fit, and between two characters nothing is due
 pub record Tidy (s : Scan) : Type 0 where
   pub good : s .good ≡ true

@@ -56,5 +56,6 @@ pub record SetsLent (g list table : List ℕ) : Type 0 where
 
 -- what a test of a lexeme is lent
 pub record LexemesReady (g list table : List ℕ) : Type 0 where
+  pub grammar-sized : streamLength g ≡ none
   pub heads : list ≡ classes g
   pub sets : Compiled g table

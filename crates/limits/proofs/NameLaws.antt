@@ -1,21 +1,24 @@
 -- Names by number: what exists is below the length of its table. What elements, types and nodes name.
 use Prim.Native.Nat.{ℕ, zero, suc, _-_, _≤_, _<_, zero-le}
-use mathlib.Core.Path.{_≡_, refl, sym, _∙_}
+use mathlib.Core.Path.{_≡_, refl, sym, ap, _∙_}
 use mathlib.Core.List.{List, [], _∷_}
-use mathlib.Core.Bool.{true, false}
+use mathlib.Core.Bool.{Bool, true, false}
+use mathlib.Core.Option.{none, some}
 use native.Mathlib.Omega.{arith}
-use lib.ListN.{length}
-use lib.Dec.{ltb, leb·suc-suc}
+use lib.ListN.{length, getD}
+use lib.Dec.{eqb, ltb, leb·suc-suc}
 use borrow.Author.Tests.{lt-ltb, le-ltb}
-use Rattle.rules.specs.Faults.{exists}
-use Rattle.rules.specs.Records.{fieldA, fieldB, nth}
-use Rattle.rules.specs.Grammar.{class, classes, production, productions, elementNumbered, elementAt, nonterminalExists}
+use Rattle.rules.specs.Faults.{onFound, exists}
+use Rattle.rules.specs.Records.{fieldA, fieldB, ofKind, nth}
+use Rattle.rules.specs.Grammar.{class, classes, plainClass, production, productions, elementNumbered, elementAt, nonterminalExists}
 use Rattle.rules.specs.Templates.{type, types, template, templates, typeNumbered, typeAt}
-use Rattle.rules.specs.Names.{elementNamed, typeNamed, formNamed}
+use Rattle.rules.specs.Names.{classNamed, elementNamed, typeNamed, formNamed}
 use Rattle.rules.specs.declared.Form.{Form}
 use Rattle.rules.specs.declared.Form.the-variants.{Build, Expand}
 use Rattle.stream.specs.declared.record.Record.{Record}
 use Rattle.stream.specs.Record.{Fetched}
+use Rattle.laws.specs.Lists.{nth-some, nth-none}
+use Rattle.laws.specs.Faults.{on-some, if-exists}
 
 -- entry n of a list exists exactly if n is below its length
 pub exists-nth : (xs : List ℕ) (n : ℕ) → exists (nth xs n) ≡ ltb n (length xs)
@@ -40,6 +43,32 @@ type-there t b count h = sym (exists-nth (types t) b ∙ rw h)
 template-there : (t : List ℕ) (b count : ℕ) → count ≡ length (templates t) → ltb b count ≡ exists (template t b)
 unfolding template
 template-there t b count h = sym (exists-nth (templates t) b ∙ rw h)
+
+-- class c is a plain one: by the table of classes, and by the record to which it points
+module _ (g cs : List ℕ) (c : ℕ) (h : cs ≡ classes g) where
+  pub plain-none : length cs ≤ c → false ≡ exists (plainClass g c)
+  unfolding exists plainClass class onFound
+  plain-none l = let e : nth (classes g) c ≡ none = rw (← h) (nth-none cs c l) in sym (rw e)
+
+  pub plain-there : c < length cs → (x : Record) → Fetched g (getD cs c 0) x → eqb (x .kind) 1 ≡ exists (plainClass g c)
+  unfolding plainClass class
+  plain-there l x f =
+      let e : nth (classes g) c ≡ some (getD cs c 0) = rw (← h) (nth-some cs c l) in
+      sym (ap exists (on-some none _ e) ∙ if-exists _ _ ∙ ap (λ (k : ℕ). eqb k 1) (sym (f .kind)))
+
+-- class n: a plain one names nothing, an escaped one the class b, which is earlier and plain, or isn't
+module _ (g : List ℕ) (n p : ℕ) (escaped : Bool) (h : escaped ≡ ofKind g 5 p) where
+  pub class-plain : escaped ≡ false → true ≡ classNamed g (n, p)
+  unfolding classNamed
+  class-plain e = sym (rw (sym h ∙ e))
+
+  pub class-later : escaped ≡ true → (b : ℕ) → b ≡ fieldB g p → n ≤ b → false ≡ classNamed g (n, p)
+  unfolding classNamed
+  class-later e b k l = sym (rw (sym h ∙ e, ← k, le-ltb b n l))
+
+  pub class-earlier : escaped ≡ true → (b : ℕ) → b ≡ fieldB g p → b < n → exists (plainClass g b) ≡ classNamed g (n, p)
+  unfolding classNamed
+  class-earlier e b k l = sym (rw (sym h ∙ e, ← k, lt-ltb b n l))
 
 -- a record of stream t names the type b: an earlier one, or none; one that there is, or none
 module _ (t : List ℕ) (q b n : ℕ) (hb : b ≡ fieldB t q) where
@@ -87,7 +116,7 @@ module _ (g : List ℕ) (e : ℕ) (x : Record) (h : Fetched g e x) where
   element-unknown l = rw (← h .a) (named-nothing g (x .a) (x .a - 5) e (omega arith))
 
 -- a type by its number a: of a text, of a list, or another
-pub type-text : (g t : List ℕ) (p b : ℕ) → fieldA t p ≡ 0 → b ≡ fieldB t p → exists (class g b) ≡ typeNamed g t (typeAt t p)
+pub type-text : (g t : List ℕ) (p b : ℕ) → fieldA t p ≡ 0 → b ≡ fieldB t p → exists (plainClass g b) ≡ typeNamed g t (typeAt t p)
 unfolding typeNamed typeAt typeNumbered
 type-text g t p b h k = sym (rw (h, k))
 

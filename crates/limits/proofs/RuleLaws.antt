@@ -6,17 +6,18 @@ use mathlib.Core.Bool.{Bool, true, false}
 use mathlib.Core.Option.{none, some}
 use lib.Dec.{leb}
 use borrow.Author.Tests.{le-leb, lt-leb}
-use Rattle.rules.specs.Records.{fieldA, fieldB, heads}
+use Rattle.rules.specs.Faults.{every}
+use Rattle.rules.specs.Records.{fieldA, fieldB, heads, ofKind}
 use Rattle.rules.specs.Lexeme.{ranges}
-use Rattle.rules.specs.Grammar.{nonterminalExists}
+use Rattle.rules.specs.Grammar.{classes, productions, nonterminalExists}
 use Rattle.rules.specs.Templates.{types, templates, typeAt, parameterHeads, body}
 use Rattle.rules.specs.Limits.{deepest, templateLimits, valueLimits}
-use Rattle.rules.specs.Names.{typeNamed, typeNames, templateNames, templatesNames}
-use Rattle.rules.specs.Classes.{rangeRight, classBounds}
+use Rattle.rules.specs.Names.{grammarNames, typeNamed, typeNames, templateNames, templatesNames}
+use Rattle.rules.specs.Classes.{rangeRight, classBounds, boundsRight}
 use Rattle.stream.specs.declared.record.Record.{Record}
 use Rattle.stream.specs.Record.{Fetched}
 use Rattle.limits.specs.Bits.{isMarked, Nonterminals}
-use Rattle.limits.specs.Rows.{valuesWithin, nodeWithin, nodesWithin, nodesNamed, fieldsEarlier, typesNamed, parametersNamed, templatesNamed, rangesRight}
+use Rattle.limits.specs.Rows.{valuesWithin, nodeWithin, nodesWithin, nodesNamed, classesNamed, elementsNamed, fieldsEarlier, typesNamed, parametersNamed, templatesNamed, rangesRight}
 use Rattle.records.specs.Ranges.{RangeAt}
 use Rattle.records.specs.declared.range.Range.{Range}
 use Rattle.laws.specs.Faults.{every-one, need-right, need-wrong, both-right, both-wrong}
@@ -31,15 +32,34 @@ module _ (g : List ℕ) (r : ℕ) (x : Range) (h : RangeAt g r x) where
   unfolding rangeRight
   range-rest l = sym (rw (← h .from, ← h .to, le-leb _ _ l))
 
--- a class: least and most, then the ranges
-module _ (g : List ℕ) (p : ℕ) (x : Record) (h : Fetched g p x) where
-  pub class-wrong : x .c < x .b → some p ≡ classBounds g p
-  unfolding classBounds
-  class-wrong l = sym (both-wrong _ (need-wrong p (rw (← h .b, ← h .c) (lt-leb _ _ l))))
+-- a class: an escaped one has no bounds; a plain one has least and most, then the ranges
+module _ (g : List ℕ) (p : ℕ) (escaped : Bool) (k : escaped ≡ ofKind g 5 p) where
+  pub class-escaped : escaped ≡ true → none ≡ boundsRight g p
+  unfolding boundsRight
+  class-escaped e = sym (rw (sym k ∙ e))
 
-  pub class-ranges : x .b ≤ x .c → rangesRight g (x .d) p ≡ classBounds g p
-  unfolding classBounds rangesRight ranges
-  class-ranges l = sym (both-right _ (need-right p (rw (← h .b, ← h .c) (le-leb _ _ l))) ∙ rw (h .d))
+  plain-bounds : escaped ≡ false → classBounds g p ≡ boundsRight g p
+  unfolding boundsRight
+  plain-bounds e = sym (rw (sym k ∙ e))
+
+  module _ (x : Record) (h : Fetched g p x) (e : escaped ≡ false) where
+    pub class-wrong : x .c < x .b → some p ≡ boundsRight g p
+    unfolding classBounds
+    class-wrong l = sym (both-wrong _ (need-wrong p (rw (← h .b, ← h .c) (lt-leb _ _ l)))) ∙ plain-bounds e
+
+    pub class-ranges : x .b ≤ x .c → rangesRight g (x .d) p ≡ boundsRight g p
+    unfolding classBounds rangesRight ranges
+    class-ranges l = sym (both-right _ (need-right p (rw (← h .b, ← h .c) (le-leb _ _ l))) ∙ rw (h .d)) ∙ plain-bounds e
+
+-- what a grammar names: classes, then elements
+module _ (g cs ps : List ℕ) (hc : cs ≡ classes g) (hp : ps ≡ productions g) where
+  pub grammar-classes : {q : ℕ} → classesNamed g cs ≡ some q → some q ≡ grammarNames g
+  unfolding grammarNames classesNamed
+  grammar-classes e = sym (both-wrong _ (rw (← hc) e))
+
+  pub grammar-elements : classesNamed g cs ≡ none → every (elementsNamed g) ps ≡ grammarNames g
+  unfolding grammarNames classesNamed elementsNamed
+  grammar-elements e = sym (both-right _ (rw (← hc) e) ∙ rw (← hp))
 
 -- a type: its head, then its fields
 module _ (g t : List ℕ) (n p : ℕ) (named : Bool) (h : named ≡ typeNamed g t (typeAt t p)) where

@@ -12,7 +12,7 @@ use Rattle.rules.specs.Grammar.{elementAt, elementHeads}
 use Rattle.rules.specs.Value.{valueSize, valuesBelow}
 use Rattle.rules.specs.Templates.{formOf, nodesBelow, fieldHeads, type}
 use Rattle.rules.specs.Limits.{looped, loopedBelow, fewLoops}
-use Rattle.rules.specs.Names.{elementNamed, typeNames, nodeNamed, templateNames}
+use Rattle.rules.specs.Names.{classNamed, elementNamed, typeNames, nodeNamed, templateNames}
 use Rattle.rules.specs.Classes.{rangeRight}
 use Rattle.rules.specs.declared.Form.{Form}
 use Rattle.stream.specs.declared.record.Record.{Record}
@@ -53,7 +53,11 @@ nodesWithin t left loops count first = every (nodeWithin t left loops) (heads (f
 unfoldable pub nodesNamed : List ℕ → List ℕ → ℕ → ℕ → ℕ → Option ℕ
 nodesNamed g t left count first = every (tree (nodeNamed g t) (nodesBelow t) left) (heads (fieldC t) count first)
 
--- refusal 5 in the elements of a production, in the fields of type n, in types by their numbers, in so many parameters of a template, in templates
+-- refusal 5 in classes by their numbers, in the elements of a production, in the fields of type n, in types by their numbers, in so many parameters
+-- of a template, in templates
+unfoldable pub classesNamed : List ℕ → List ℕ → Option ℕ
+classesNamed g cs = every (λ c. need (classNamed g c) (c .1)) (numbered 0 cs)
+
 unfoldable pub elementsNamed : List ℕ → ℕ → Option ℕ
 elementsNamed g p = every (λ e. need (elementNamed g (elementAt g e)) e) (elementHeads g p)
 

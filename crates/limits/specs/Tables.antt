@@ -1,5 +1,5 @@
--- What the rules are lent: a stream that refusal 1 let through, the heads of its classes, productions, types and templates, each at its number, and
--- the nonterminals that exist. (What a template set names is read in the template set alone, so that of the grammar nothing is asked there.)
+-- What the rules are lent: streams that refusal 1 let through, the heads of classes, productions, types and templates, each at its number, and the
+-- nonterminals that exist.
 use Prim.Native.Nat.{ℕ}
 use mathlib.Core.Path.{_≡_}
 use mathlib.Core.List.{List}
@@ -29,7 +29,9 @@ pub record GrammarTables (g cs ps bits : List ℕ) : Type 0 where
   pub productions-are : ps ≡ productions g
   pub nonterminals-are : Nonterminals g bits
 
+-- of the grammar the classes are read, for the plain ones among them
 pub record AllTables (g t cs ps us ts bits : List ℕ) : Type 0 where
+  pub grammar-sized : streamLength g ≡ none
   pub sized : streamLength t ≡ none
   pub classes-are : cs ≡ classes g
   pub productions-are : ps ≡ productions g
@@ -43,14 +45,15 @@ pub record Nameable (g : List ℕ) (count : ℕ) (bits : List ℕ) : Type 0 wher
   pub classes-are : count ≡ length (classes g)
   pub nonterminals-are : Nonterminals g bits
 
--- how many types there are; what a type may name: so many classes, so many types
+-- how many types there are; what a type may name: the plain ones among the classes, so many types
 pub record TypeCount (t : List ℕ) (count : ℕ) : Type 0 where
   pub sized : streamLength t ≡ none
   pub types-are : count ≡ length (types t)
 
-pub record TypeCounts (g t : List ℕ) (cs us : ℕ) : Type 0 where
+pub record TypeCounts (g t cs : List ℕ) (us : ℕ) : Type 0 where
+  pub grammar-sized : streamLength g ≡ none
   pub sized : streamLength t ≡ none
-  pub classes-are : cs ≡ length (classes g)
+  pub classes-are : cs ≡ classes g
   pub types-are : us ≡ length (types t)
 
 -- what a node may name: so many productions, so many templates
@@ -58,10 +61,9 @@ pub record NodeCounts (g t : List ℕ) (ps ts : ℕ) : Type 0 where
   pub productions-are : ps ≡ length (productions g)
   pub templates-are : ts ≡ length (templates t)
 
--- how many there are of what a template set may name
+-- how many there are of what a template may name
 pub record Counted (g t : List ℕ) (n : NameCounts) : Type 0 where
   pub sized : streamLength t ≡ none
-  pub classes-are : n .classes ≡ length (classes g)
   pub productions-are : n .productions ≡ length (productions g)
   pub types-are : n .types ≡ length (types t)
   pub templates-are : n .templates ≡ length (templates t)

@@ -2,10 +2,11 @@
 ghost use mathlib.Core.Path.{_≡_};
 ghost use mathlib.Core.Option.{none};
 ghost use Rattle.rules.specs.Blocks.{streamLength};
-ghost use Rattle.rules.specs.Classes.{rangeRight, classBounds, grammarClasses};
+ghost use Rattle.rules.specs.Classes.{rangeRight, boundsRight, grammarClasses};
 ghost use Rattle.stream.specs.Fault.{faultOf};
 ghost use Rattle.limits.specs.Tables.{ClassTable};
 ghost use Rattle.limits.specs.Rows.{rangesRight};
+use records::class::is_escaped;
 use records::range::range_at;
 use stream::Fault;
 use stream::record::fetch;
@@ -42,12 +43,15 @@ fn ranges_right(g: &[u8], p: u16, count: u16) -> Fault
     Fault::Nowhere
 }
 
-// The class at p: its least and most, then its ranges.
-fn class_bounds(g: &[u8], p: u16) -> Fault
+// The class at p: its least and most, then its ranges. An escaped one has none of them.
+fn bounds_right(g: &[u8], p: u16) -> Fault
     requires { ⌜ streamLength (now g) ≡ none ⌝ }
-    ensures { λ r. ⌜ faultOf r ≡ classBounds (now (g .entry)) p ⌝ }
+    ensures { λ r. ⌜ faultOf r ≡ boundsRight (now (g .entry)) p ⌝ }
 {
     let head = fetch(g, p as usize);
+    if is_escaped(head) {
+        return Fault::Nowhere;
+    }
     if head.c < head.b {
         return Fault::At(p as usize);
     }
@@ -61,7 +65,7 @@ pub fn grammar_classes(g: &[u8], classes: &[u16]) -> Fault
 {
     let mut i = 0;
     while i < classes.len() {
-        let fault = class_bounds(g, classes[i]);
+        let fault = bounds_right(g, classes[i]);
         if let Fault::At(p) = fault {
             return Fault::At(p);
         }

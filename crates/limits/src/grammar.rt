@@ -1,12 +1,14 @@
-// Refusal 5 of a grammar: the classes and nonterminals that its elements name.
+// Refusal 5 of a grammar: the plain classes that its escaped classes name, the classes and nonterminals that its elements name.
 ghost use mathlib.Core.Path.{_≡_};
 ghost use Rattle.rules.specs.Grammar.{elementAt};
-ghost use Rattle.rules.specs.Names.{elementNamed, grammarNames};
+ghost use Rattle.rules.specs.Names.{classNamed, elementNamed, grammarNames};
 ghost use Rattle.stream.specs.Fault.{faultOf};
-ghost use Rattle.limits.specs.Tables.{GrammarTables, Nameable};
-ghost use Rattle.limits.specs.Rows.{NamingElement, elementsNamed};
+ghost use Rattle.limits.specs.Tables.{ClassTable, GrammarTables, Nameable};
+ghost use Rattle.limits.specs.Rows.{NamingElement, classesNamed, elementsNamed};
 use crate::nonterminals::WORDS;
 use crate::nonterminals::is_marked;
+use crate::plain::is_plain_class;
+use records::class::is_escaped;
 use records::element::size_of;
 use stream::Fault;
 use stream::record::Record;
@@ -52,7 +54,38 @@ fn elements_named(g: &[u8], p: u16, classes: usize, nonterminals: &[u64; WORDS])
     Fault::Nowhere
 }
 
-// The place of the first element that names a class or a nonterminal that isn't there.
+// Whether class n, whose head is at p, names an earlier plain class, if it is an escaped one.
+fn class_named(g: &[u8], classes: &[u16], n: usize, p: u16) -> bool
+    requires { ⌜ ClassTable (now g) (now classes) ⌝ }
+    ensures { λ r. ⌜ r ≡ classNamed (now (g .entry)) (n, p) ⌝ }
+{
+    let head = fetch(g, p as usize);
+    if !is_escaped(head) {
+        return true;
+    }
+    if n <= head.b as usize {
+        return false;
+    }
+    is_plain_class(g, classes, head.b)
+}
+
+// The place of the first escaped class that names no earlier plain class.
+fn classes_named(g: &[u8], classes: &[u16]) -> Fault
+    requires { ⌜ ClassTable (now g) (now classes) ⌝ }
+    ensures { λ r. ⌜ faultOf r ≡ classesNamed (now (g .entry)) (now (classes .entry)) ⌝ }
+{
+    let mut n = 0;
+    while n < classes.len() {
+        let p = classes[n];
+        if !class_named(g, classes, n, p) {
+            return Fault::At(p as usize);
+        }
+        n += 1;
+    }
+    Fault::Nowhere
+}
+
+// The place of the first escaped class that names no earlier plain class, or element that names a class or a nonterminal that isn't there.
 pub fn grammar_names(
     g: &[u8],
     classes: &[u16],
@@ -62,6 +95,10 @@ pub fn grammar_names(
     requires { ⌜ GrammarTables (now g) (now classes) (now productions) (now nonterminals) ⌝ }
     ensures { λ r. ⌜ faultOf r ≡ grammarNames (now (g .entry)) ⌝ }
 {
+    let named = classes_named(g, classes);
+    if let Fault::At(p) = named {
+        return Fault::At(p);
+    }
     let mut i = 0;
     while i < productions.len() {
         let fault = elements_named(g, productions[i], classes.len(), nonterminals);

@@ -6,6 +6,7 @@ pub mod grammar;
 pub mod names;
 mod node;
 pub mod nonterminals;
+mod plain;
 pub mod templates;
 pub mod value;
 

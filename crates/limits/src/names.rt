@@ -3,38 +3,39 @@ ghost use Prim.Native.Nat.{ℕ};
 ghost use mathlib.Core.Path.{_≡_};
 ghost use mathlib.Core.List.{List};
 ghost use mathlib.Core.Option.{none};
+ghost use lib.ListN.{length};
 ghost use Rattle.rules.specs.Blocks.{streamLength};
 ghost use Rattle.rules.specs.Names.{typeNamed, typeNames, formNamed, templateNames, templatesNames};
 ghost use Rattle.rules.specs.Templates.{typeAt};
 ghost use Rattle.stream.specs.Fault.{faultOf};
-ghost use Rattle.limits.specs.Tables.{TypeCount, TypeCounts, NodeCounts, Counted, Naming, AllTables};
+ghost use Rattle.limits.specs.Tables.{TypeCount, TypeCounts, NodeCounts, Naming, AllTables};
 ghost use Rattle.limits.specs.Rows.{NodeRow, fieldsEarlier, typesNamed, nodesNamed, parametersNamed, templatesNamed};
 use crate::DEEPEST;
 use crate::node::Node;
 use crate::node::node_at;
 use crate::nonterminals::WORDS;
 use crate::nonterminals::is_marked;
+use crate::plain::is_plain_class;
 use rules::Form;
 use stream::Fault;
 use stream::record::fetch;
 
-// How many there are of what a template set names by number.
+// How many there are of what a template names by number.
 struct NameCounts {
-    classes: usize,
     productions: usize,
     types: usize,
     templates: usize,
 }
 
-// A text type names a class, a list type any type. (The grammar is lent on only for the contracts, which speak of it.)
-fn type_named(g: &[u8], t: &[u8], classes: usize, types: usize, p: u16) -> bool
-    requires { ⌜ TypeCounts (now g) (now t) classes types ⌝ }
+// A text type names a plain class, a list type any type.
+fn type_named(g: &[u8], t: &[u8], classes: &[u16], types: usize, p: u16) -> bool
+    requires { ⌜ TypeCounts (now g) (now t) (now classes) types ⌝ }
     ensures { λ r. ⌜ r ≡ typeNamed (now (g .entry)) (now (t .entry)) (typeAt (now (t .entry)) p) ⌝ }
 {
     let head = fetch(t, p as usize);
     let a = head.a;
     if a == 0 {
-        return (head.b as usize) < classes;
+        return is_plain_class(g, classes, head.b);
     }
     if a == 2 {
         return (head.b as usize) < types;
@@ -63,24 +64,24 @@ fn fields_earlier(t: &[u8], n: usize, p: u16) -> Fault
 }
 
 // What type n names, its head first.
-fn type_names(g: &[u8], t: &[u8], counts: NameCounts, n: usize, p: u16) -> Fault
-    requires { ⌜ Counted (now g) (now t) counts ⌝ }
+fn type_names(g: &[u8], t: &[u8], classes: &[u16], types: usize, n: usize, p: u16) -> Fault
+    requires { ⌜ TypeCounts (now g) (now t) (now classes) types ⌝ }
     ensures { λ r. ⌜ faultOf r ≡ typeNames (now (g .entry)) (now (t .entry)) (n, p) ⌝ }
 {
-    if !type_named(g, t, counts.classes, counts.types, p) {
+    if !type_named(g, t, classes, types, p) {
         return Fault::At(p as usize);
     }
     fields_earlier(t, n, p)
 }
 
 // What all types name.
-fn types_named(g: &[u8], t: &[u8], types: &[u16], counts: NameCounts) -> Fault
-    requires { ⌜ Counted (now g) (now t) counts ⌝ }
+fn types_named(g: &[u8], t: &[u8], classes: &[u16], types: &[u16]) -> Fault
+    requires { ⌜ TypeCounts (now g) (now t) (now classes) (length (now types)) ⌝ }
     ensures { λ r. ⌜ faultOf r ≡ typesNamed (now (g .entry)) (now (t .entry)) (now (types .entry)) ⌝ }
 {
     let mut n = 0;
     while n < types.len() {
-        let fault = type_names(g, t, counts, n, types[n]);
+        let fault = type_names(g, t, classes, types.len(), n, types[n]);
         if let Fault::At(p) = fault {
             return Fault::At(p);
         }
@@ -220,12 +221,11 @@ pub fn templates_names(
     ensures { λ r. ⌜ faultOf r ≡ templatesNames (now (g .entry)) (now (t .entry)) ⌝ }
 {
     let counts = NameCounts {
-        classes: classes.len(),
         productions: productions.len(),
         types: types.len(),
         templates: templates.len(),
     };
-    let fault = types_named(g, t, types, counts);
+    let fault = types_named(g, t, classes, types);
     if let Fault::At(p) = fault {
         return Fault::At(p);
     }

@@ -1,3 +1,4 @@
+pub mod ClassLaws
 pub mod NodeLaws
 pub mod SizeLaws
 pub mod PathLaws

@@ -4,12 +4,14 @@ use mathlib.Core.List.{List, [], _∷_, _++_}
 use mathlib.Core.Option.{Option, none, some}
 use lib.ListN.{length, drop, replicate}
 use lib.Dec.{leb}
-use Rattle.rules.specs.Faults.{need, both, every, onFound}
+use Rattle.rules.specs.Faults.{need, both, every, onFound, onlyIf, exists}
 use Rattle.rules.specs.Blocks.{isKind, streamLength, streamBlocks, payloadLength, packed, unpacked}
 use Rattle.rules.specs.Layout.{grammarLayout, templatesLayout, valueLayout}
 use Rattle.rules.specs.Limits.{deepest, templatesLimits, valueLimits}
 use Rattle.rules.specs.Names.{grammarNames, templatesNames}
 use Rattle.rules.specs.Classes.{grammarClasses}
+use Rattle.rules.specs.Escape.{unescaped}
+use Rattle.rules.specs.Lexeme.{charactersOf}
 use Rattle.rules.specs.Typing.{templatesTyping, valueTyping}
 use Rattle.rules.specs.Walk.{Input, Limit, fuel-spent, too-deep, output-full, End, done, ended, stuck, walk}
 use Rattle.rules.specs.declared.Answer.{Answer}
@@ -158,3 +160,16 @@ pack kind payload out = written (packRefusal kind payload out) (λ _. packed kin
 
 unfoldable pub unpack : ℕ → List ℕ → List ℕ → Written
 unpack kind s out = written (unpackRefusal kind s out) (λ _. unpacked s) out
+
+-- 02 c: "A call gives the editor the inverse: the plain text, or refusal 8 for any text that escaping makes of no well-formed UTF-8 .., then 12 if the
+-- plain text doesn't fit; kind, place and steps are 0, and refused, it writes nothing."
+unfoldable pub wellFormed : List ℕ → Option (List ℕ)
+wellFormed x = onlyIf (exists (charactersOf x)) x
+
+unfoldable pub plainText : List ℕ → Option (List ℕ)
+plainText text = onFound (unescaped text) none wellFormed
+
+unfoldable pub unescape : List ℕ → List ℕ → Written
+unescape text out =
+    onFound (plainText text) (record { result = answer 8 0 0 0 0; output = out }) λ x.
+    written (try 12 (placed 0 (need (leb (length x) (length out)) 0)) accept) (λ _. x) out

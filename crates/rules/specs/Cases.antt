@@ -10,6 +10,7 @@ use lib.Dec.{leb}
 use Rattle.rules.specs.Faults
 use Rattle.rules.specs.Records
 use Rattle.rules.specs.Blocks
+use Rattle.rules.specs.Escape
 use Rattle.rules.specs.Lexeme
 use Rattle.rules.specs.Grammar
 use Rattle.rules.specs.Templates
@@ -194,31 +195,32 @@ unfolding flatten head size utf8 inUnits class range production keyword lexeme r
     Faults.need Faults.both Faults.every Faults.tree Faults.onFound Faults.exists Faults.onlyIf Faults.at
     Records.base Records.byteOf Records.word Records.kindOf Records.fieldA Records.fieldB Records.fieldC Records.fieldD Records.recordCount
     Records.recordsFrom Records.units Records.textOf Records.paddingOf Records.zeros Records.heads Records.after Records.row Records.things
-    Records.ofKind Records.nth Records.numbered
+    Records.those Records.nth Records.numbered
     Blocks.fnvStart Blocks.multiplied Blocks.fnv1a Blocks.word32 Blocks.checkOf Blocks.sound Blocks.streamLength Blocks.block Blocks.startOf Blocks.blockRight Blocks.streamBlocks
     Blocks.bytes32 Blocks.checked Blocks.filled Blocks.packedBlock Blocks.packedBlocks packed
     Lexeme.between Lexeme.inside Lexeme.firstByte Lexeme.laterByte Lexeme.nextByte Lexeme.decode Lexeme.decoded Lexeme.charactersOf Lexeme.lowest
-    Lexeme.highest Lexeme.ranges Lexeme.inSome Lexeme.allInSome Lexeme.admits Lexeme.isLexeme
-    Grammar.textLength Grammar.elementSize Grammar.productionSize Grammar.grammarSize Grammar.grammarThings Grammar.classes Grammar.productions Grammar.class
+    Lexeme.highest Lexeme.ranges Lexeme.inSome Lexeme.allInSome Lexeme.admits Lexeme.isPlainLexeme Lexeme.isLexeme
+    Grammar.textLength Grammar.isClass Grammar.elementSize Grammar.productionSize Grammar.grammarSize Grammar.grammarThings Grammar.classes Grammar.productions Grammar.class Grammar.plainClass
+    Grammar.escapedClass Grammar.plainOf
     Grammar.production Grammar.elementNumbered Grammar.elementAt Grammar.elementHeads Grammar.elements Grammar.hasProduction Grammar.nonterminalExists
     Templates.templatesSize Templates.templatesThings Templates.types Templates.templates Templates.type Templates.template Templates.fieldHeads
     Templates.typeNumbered Templates.typeAt Templates.typeOf Templates.parameterHeads Templates.parameters Templates.body Templates.formNumbered
     Templates.formOf Templates.isFor Templates.nodes Templates.paths Templates.path Templates.first Templates.nodesOf Templates.nodesBelow Templates.variable
     Templates.fieldNumbers
     Value.valueSize Value.children Value.valuesBelow Value.asText Value.asList
-    Layout.thenRead Layout.inRow Layout.whileKind Layout.textEnd Layout.rangeEnd Layout.classEnd Layout.elementEnd Layout.productionEnd
+    Layout.thenRead Layout.inRow Layout.whileIs Layout.textEnd Layout.rangeEnd Layout.plainEnd Layout.escapedEnd Layout.classEnd Layout.elementEnd Layout.productionEnd
     Layout.grammarEnd Layout.namingEnd Layout.typeFormEnd Layout.typeEnd Layout.pathEnd Layout.formEnd Layout.sized Layout.nodeEnd Layout.templateEnd
     Layout.templatesEnd Layout.childrenEnd Layout.kindEnd Layout.valueEnd Layout.tailRight Layout.layoutFault Layout.grammarLayout
     Layout.templatesLayout Layout.valueLayout
     Limits.deepest Limits.looped Limits.loopsBelow Limits.loopedBelow Limits.fewLoops Limits.templateLimits Limits.templatesLimits Limits.valueLimits
-    Names.elementNamed Names.grammarNames Names.typeNamed Names.typeNames Names.formNamed Names.nodeNamed Names.templateNames Names.templatesNames
-    Classes.rangeRight Classes.classBounds Classes.grammarClasses
+    Names.elementNamed Names.classNamed Names.grammarNames Names.typeNamed Names.typeNames Names.formNamed Names.nodeNamed Names.templateNames Names.templatesNames
+    Classes.rangeRight Classes.classBounds Classes.boundsRight Classes.grammarClasses
     Typing.asksClass Typing.asksNonterminal Typing.asksRepetition Typing.asksItem Typing.positions Typing.textClass Typing.itemType Typing.typeAlong
     Typing.pathType Typing.argumentsFit Typing.site Typing.suitsForm Typing.suits Typing.sites Typing.sitesOf Typing.sitesBelow Typing.misfit
     Typing.bodySite Typing.only Typing.declaredType Typing.templatesTyping Typing.typed Typing.hasForm Typing.hasType Typing.typedOf Typing.typedBelow
     Typing.mistyped Typing.valueTyping
     Walk.start Walk.andThen Walk.valueAlong Walk.pathValue Walk.pathValues Walk.write Walk.withChild Walk.pieces Walk.filledBy Walk.separate
-    Walk.visitItem Walk.inOrder Walk.listed Walk.itemsOf Walk.visitIn Walk.visitForm Walk.counted Walk.reached Walk.visit Walk.walk
+    Walk.visitItem Walk.inOrder Walk.listed Walk.itemsOf Walk.visitIn Walk.writtenFor Walk.visitForm Walk.counted Walk.reached Walk.visit Walk.walk
     answer Answers.streamKind Answers.bytesOf Answers.layoutOf Answers.limitsOf Answers.placed Answers.over Answers.try Answers.accept
     Answers.setRefusal scratchNeeded Answers.evaluateRefusal Answers.limitNumber Answers.left Answers.kept Answers.walked
     Answers.unlessRefused Answers.input evaluate

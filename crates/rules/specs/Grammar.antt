@@ -2,9 +2,10 @@
 use Prim.Native.Nat.{ℕ, zero, suc, _+_, _-_}
 use mathlib.Core.List.{List, [], _∷_, map}
 use mathlib.Core.Bool.{Bool, false, cond, _||_}
-use mathlib.Core.Option.{Option}
+use mathlib.Core.Option.{Option, none}
 use lib.Dec.{eqb}
-use Rattle.rules.specs.Records.{recordCount, kindOf, fieldA, fieldB, fieldC, fieldD, units, textOf, heads, after, things, ofKind, nth}
+use Rattle.rules.specs.Faults.{onFound, onlyIf}
+use Rattle.rules.specs.Records.{recordCount, fieldA, fieldB, fieldC, fieldD, units, textOf, heads, after, things, those, ofKind, nth}
 
 -- "0 keyword (b bytes of text follow)"; 02 a: "4 is a repetition of nonterminal b with c bytes of separator text after the record": how many
 -- bytes of text follow an element
@@ -18,21 +19,37 @@ elementSize g e = 1 + units (textLength g e)
 unfoldable pub productionSize : List ℕ → ℕ → ℕ
 productionSize g p = after (elementSize g) (fieldD g p) (p + 1) - p
 
+-- 02 c: "Grammar record 5 declares an escaped class: a its number in the common row of classes, b an earlier plain class". A class is a record 1,
+-- which is a plain one, or a record 5; the latter's d is unused, so that no ranges follow it
+unfoldable pub isClass : List ℕ → ℕ → Bool
+isClass g p = ofKind g 1 p || ofKind g 5 p
+
 unfoldable pub grammarSize : List ℕ → ℕ → ℕ
-grammarSize g p = cond (eqb (kindOf g p) 1) (1 + fieldD g p) (productionSize g p)
+grammarSize g p = cond (isClass g p) (1 + fieldD g p) (productionSize g p)
 
 unfoldable pub grammarThings : List ℕ → List ℕ
 grammarThings g = things g (grammarSize g) (recordCount g) 0
 
 -- the heads of the classes and of the productions, by their numbers
 unfoldable pub classes : List ℕ → List ℕ
-classes g = ofKind g 1 (grammarThings g)
+classes g = those (isClass g) (grammarThings g)
 
 unfoldable pub productions : List ℕ → List ℕ
-productions g = ofKind g 3 (grammarThings g)
+productions g = those (ofKind g 3) (grammarThings g)
 
 unfoldable pub class : List ℕ → ℕ → Option ℕ
 class g n = nth (classes g) n
+
+-- class n, if it is a plain one; if it is an escaped one
+unfoldable pub plainClass : List ℕ → ℕ → Option ℕ
+plainClass g n = onFound (class g n) none λ p. onlyIf (ofKind g 1 p) p
+
+unfoldable pub escapedClass : List ℕ → ℕ → Option ℕ
+escapedClass g n = onFound (class g n) none λ p. onlyIf (ofKind g 5 p) p
+
+-- the plain class of class n: itself, or the one that an escaped class names
+unfoldable pub plainOf : List ℕ → ℕ → ℕ
+plainOf g n = onFound (escapedClass g n) n (fieldB g)
 
 unfoldable pub production : List ℕ → ℕ → Option ℕ
 production g n = nth (productions g) n

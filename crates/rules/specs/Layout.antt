@@ -1,18 +1,18 @@
 -- Layout, section "Records" and refusal 3; "Unused fields are zero." Each definition reads the records of one thing from p on and answers the place after it, if they lay one out.
 use Prim.Native.Nat.{ℕ, zero, suc, _+_, _-_}
 use mathlib.Core.List.{List}
-use mathlib.Core.Bool.{Bool, true, false, _&&_, _||_}
+use mathlib.Core.Bool.{Bool, true, false, cond, _&&_, _||_}
 use mathlib.Core.Option.{Option, none, some}
 use lib.ListN.{drop}
 use lib.Dec.{eqb, leb, ltb}
 use Rattle.rules.specs.Faults.{need, onFound, onlyIf}
-use Rattle.rules.specs.Records.{recordCount, byteOf, kindOf, fieldA, fieldB, fieldC, fieldD, recordsFrom, units, paddingOf, zeros}
-use Rattle.rules.specs.Grammar.{textLength}
+use Rattle.rules.specs.Records.{recordCount, byteOf, kindOf, fieldA, fieldB, fieldC, fieldD, recordsFrom, units, paddingOf, zeros, ofKind}
+use Rattle.rules.specs.Grammar.{isClass, textLength}
 use Rattle.rules.specs.Templates.{formOf}
 use Rattle.rules.specs.declared.Form.{Form}
 use Rattle.rules.specs.declared.Form.the-variants.{Build, Literal, Place, Expand, If, For, Sequence, Unknown}
 
--- one thing and then what follows it; n things in a row; things numbered from n on, as long as their kind comes, at most k
+-- one thing and then what follows it; n things in a row; things numbered from n on, as long as one of their sort comes, at most k
 unfoldable pub thenRead : Option ℕ → (ℕ → Option ℕ) → Option ℕ
 thenRead o next = onFound o none next
 
@@ -20,10 +20,9 @@ unfoldable pub inRow : (ℕ → Option ℕ) → ℕ → ℕ → Option ℕ
 inRow one zero p = some p
 inRow one (suc n) p = thenRead (one p) (inRow one n)
 
-unfoldable pub whileKind : List ℕ → ℕ → (ℕ → ℕ → Option ℕ) → ℕ → ℕ → ℕ → Option ℕ
-whileKind s kind one zero n p = some p
-whileKind s kind one (suc k) n p =
-    elim (eqb (kindOf s p) kind) [ true ↦ thenRead (one n p) (whileKind s kind one k (suc n)) | false ↦ some p ]
+unfoldable pub whileIs : (ℕ → Bool) → (ℕ → ℕ → Option ℕ) → ℕ → ℕ → ℕ → Option ℕ
+whileIs is one zero n p = some p
+whileIs is one (suc k) n p = elim (is p) [ true ↦ thenRead (one n p) (whileIs is one k (suc n)) | false ↦ some p ]
 
 -- "Text follows its head in units of 8 bytes, the last zero-padded": the place after the text of n bytes of the head at p
 unfoldable pub textEnd : List ℕ → ℕ → ℕ → Option ℕ
@@ -34,8 +33,15 @@ unfoldable pub rangeEnd : List ℕ → ℕ → Option ℕ
 rangeEnd g p = onlyIf (eqb (kindOf g p) 2 && eqb (byteOf g p 7) 0) (p + 1)
 
 -- "1 class: a number (from 0, consecutive), b least and c most characters, d count of ranges"
+unfoldable pub plainEnd : List ℕ → ℕ → ℕ → Option ℕ
+plainEnd g n p = thenRead (onlyIf (eqb (fieldA g p) n) (p + 1)) (inRow (rangeEnd g) (fieldD g p))
+
+-- 02 c: "Grammar record 5 declares an escaped class: a its number in the common row of classes, b an earlier plain class"; c and d are unused
+unfoldable pub escapedEnd : List ℕ → ℕ → ℕ → Option ℕ
+escapedEnd g n p = onlyIf (eqb (fieldA g p) n && (eqb (fieldC g p) 0 && eqb (fieldD g p) 0)) (p + 1)
+
 unfoldable pub classEnd : List ℕ → ℕ → ℕ → Option ℕ
-classEnd g n p = thenRead (onlyIf (eqb (fieldA g p) n) (p + 1)) (inRow (rangeEnd g) (fieldD g p))
+classEnd g n p = cond (ofKind g 5 p) (escapedEnd g n p) (plainEnd g n p)
 
 -- "4 element: a = 0 keyword (b bytes of text follow), 1 class b, 2 nonterminal b, 3 repetition of nonterminal b"; 02 a: "4 is a repetition of
 -- nonterminal b with c bytes of separator text after the record"; only it uses c
@@ -52,8 +58,8 @@ productionEnd g n p =
 -- "Grammar, classes first"
 unfoldable pub grammarEnd : List ℕ → Option ℕ
 grammarEnd g =
-    thenRead (whileKind g 1 (classEnd g) (recordCount g) 0 0)
-    (whileKind g 3 (productionEnd g) (recordCount g) 0)
+    thenRead (whileIs (isClass g) (classEnd g) (recordCount g) 0 0)
+    (whileIs (ofKind g 3) (productionEnd g) (recordCount g) 0)
 
 -- Templates. "2 field: type b .."; "4 parameter: type b"
 unfoldable pub namingEnd : List ℕ → ℕ → ℕ → Option ℕ
@@ -106,8 +112,8 @@ templateEnd t p =
 -- "Templates, types first"
 unfoldable pub templatesEnd : List ℕ → Option ℕ
 templatesEnd t =
-    thenRead (whileKind t 1 (λ n. typeEnd t) (recordCount t) 0 0)
-    (whileKind t 3 (λ n. templateEnd t) (recordCount t) 0)
+    thenRead (whileIs (ofKind t 1) (λ n. typeEnd t) (recordCount t) 0 0)
+    (whileIs (ofKind t 3) (λ n. templateEnd t) (recordCount t) 0)
 
 -- Value. "1 text: b bytes, c size. 2 yes/no: a 0 or 1. 3 list and 4 record: c size, d children."
 -- By its kind; `value` reads a value below.

@@ -7,7 +7,8 @@ use lib.ListN.{length}
 use lib.Dec.{eqb, leb}
 use Rattle.rules.specs.Faults.{onFound}
 use Rattle.rules.specs.Records.{byteOf, fieldB, fieldC, fieldD, row}
-use Rattle.rules.specs.Grammar.{class}
+use Rattle.rules.specs.Grammar.{plainClass, escapedClass}
+use Rattle.rules.specs.Escape.{unescaped}
 
 abbrev pub within : ℕ → ℕ → ℕ → Bool
 within low high b = leb low b && leb b high
@@ -87,5 +88,10 @@ allInSome g rs (x ∷ xs) = inSome g rs x && allInSome g rs xs
 unfoldable pub admits : List ℕ → ℕ → List ℕ → Bool
 admits g p cs = within (fieldB g p) (fieldC g p) (length cs) && allInSome g (ranges g p) cs
 
+-- a lexeme of a plain class
+unfoldable pub isPlainLexeme : List ℕ → ℕ → List ℕ → Bool
+isPlainLexeme g c text = onFound (plainClass g c) false (λ p. onFound (charactersOf text) false (admits g p))
+
+-- of any class. 02 c, of an escaped one: "Its lexemes are the plain lexemes with & < > " ' turned into the five predefined entities"
 unfoldable pub isLexeme : List ℕ → ℕ → List ℕ → Bool
-isLexeme g c text = onFound (class g c) false (λ p. onFound (charactersOf text) false (admits g p))
+isLexeme g c text = onFound (escapedClass g c) (isPlainLexeme g c text) λ p. onFound (unescaped text) false (isPlainLexeme g (fieldB g p))

@@ -1,6 +1,7 @@
 pub mod Faults
 pub mod Records
 pub mod Blocks
+pub mod Escape
 pub mod Lexeme
 pub mod Grammar
 pub mod Templates

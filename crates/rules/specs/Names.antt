@@ -1,12 +1,13 @@
--- Refusal 5: "A class, nonterminal, production, template or type named doesn't exist, or a field names no earlier type."
+-- Refusal 5: "A class, nonterminal, production, template or type named doesn't exist, or a field names no earlier type."; 02 c: "An escaped class
+-- naming no earlier plain class, or a text type naming an escaped class, is refused as 5."
 use Prim.Native.Nat.{ℕ}
 use mathlib.Core.List.{List}
-use mathlib.Core.Bool.{Bool, true}
+use mathlib.Core.Bool.{Bool, true, cond, _&&_}
 use mathlib.Core.Option.{Option}
 use lib.Dec.{ltb}
 use Rattle.rules.specs.Faults.{need, both, every, tree, exists}
-use Rattle.rules.specs.Records.{fieldB, numbered}
-use Rattle.rules.specs.Grammar.{class, production, productions, Element, keyword, lexeme, nonterminal, repetition, unknown, elementAt, elementHeads, nonterminalExists}
+use Rattle.rules.specs.Records.{fieldB, ofKind, numbered}
+use Rattle.rules.specs.Grammar.{classes, class, plainClass, production, productions, Element, keyword, lexeme, nonterminal, repetition, unknown, elementAt, elementHeads, nonterminalExists}
 use Rattle.rules.specs.Templates.{TypeForm, text, yes-no, list, fields, no-type, type, types, typeAt, fieldHeads, template, templates, parameterHeads, body, formOf, nodesBelow}
 use Rattle.rules.specs.Limits.{deepest}
 use Rattle.rules.specs.declared.Form.{Form}
@@ -20,12 +21,19 @@ elementNamed g (nonterminal n) = nonterminalExists g n
 elementNamed g (repetition n x) = nonterminalExists g n
 elementNamed g unknown = true
 
-unfoldable pub grammarNames : List ℕ → Option ℕ
-grammarNames g = every (λ p. every (λ e. need (elementNamed g (elementAt g e)) e) (elementHeads g p)) (productions g)
+-- class n, if it is an escaped one, names "an earlier plain class"
+unfoldable pub classNamed : List ℕ → ℕ × ℕ → Bool
+classNamed g (n, p) = cond (ofKind g 5 p) (ltb (fieldB g p) n && exists (plainClass g (fieldB g p))) true
 
--- a text type names a class, a list type a type; type n, a record, names earlier types in its fields
+-- classes come before productions
+unfoldable pub grammarNames : List ℕ → Option ℕ
+grammarNames g =
+    both (every (λ c. need (classNamed g c) (c .1)) (numbered 0 (classes g)))
+    (every (λ p. every (λ e. need (elementNamed g (elementAt g e)) e) (elementHeads g p)) (productions g))
+
+-- a text type names a plain class, a list type a type; type n, a record, names earlier types in its fields
 unfoldable pub typeNamed : List ℕ → List ℕ → TypeForm → Bool
-typeNamed g t (text c) = exists (class g c)
+typeNamed g t (text c) = exists (plainClass g c)
 typeNamed g t yes-no = true
 typeNamed g t (list n) = exists (type t n)
 typeNamed g t (fields ns) = true

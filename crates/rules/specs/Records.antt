@@ -75,9 +75,14 @@ unfoldable pub things : List ℕ → (ℕ → ℕ) → ℕ → ℕ → List ℕ
 things s size zero p = []
 things s size (suc n) p = elim (eqb (kindOf s p) 0) [ true ↦ [] | false ↦ p ∷ things s size n (p + size p) ]
 
-unfoldable pub ofKind : List ℕ → ℕ → List ℕ → List ℕ
-ofKind s kind [] = []
-ofKind s kind (p ∷ ps) = elim (eqb (kindOf s p) kind) [ true ↦ p ∷ ofKind s kind ps | false ↦ ofKind s kind ps ]
+-- the heads of a list that are of a sort
+unfoldable pub those : (ℕ → Bool) → List ℕ → List ℕ
+those is [] = []
+those is (p ∷ ps) = elim (is p) [ true ↦ p ∷ those is ps | false ↦ those is ps ]
+
+-- whether a head is of a kind: most sorts are one
+abbrev pub ofKind : List ℕ → ℕ → ℕ → Bool
+ofKind s kind p = eqb (kindOf s p) kind
 
 -- entry n of a list, if there is one
 unfoldable pub nth : {A : Type 0} → List A → ℕ → Option A

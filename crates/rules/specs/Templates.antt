@@ -6,7 +6,7 @@ use mathlib.Core.Option.{Option}
 use lib.ListN.{take, drop}
 use lib.Dec.{eqb}
 use Rattle.rules.specs.Faults.{onFound}
-use Rattle.rules.specs.Records.{recordCount, recordsFrom, byteOf, kindOf, fieldA, fieldB, fieldC, fieldD, heads, row, things, ofKind, nth}
+use Rattle.rules.specs.Records.{recordCount, recordsFrom, byteOf, kindOf, fieldA, fieldB, fieldC, fieldD, heads, row, things, those, ofKind, nth}
 use Rattle.rules.specs.declared.Form.{Form}
 use Rattle.rules.specs.declared.Form.the-variants.{Build, Literal, Place, Expand, If, For, Sequence, Unknown}
 
@@ -19,10 +19,10 @@ templatesThings t = things t (templatesSize t) (recordCount t) 0
 
 -- the heads of the types and of the templates, "numbered by order"
 unfoldable pub types : List ℕ → List ℕ
-types t = ofKind t 1 (templatesThings t)
+types t = those (ofKind t 1) (templatesThings t)
 
 unfoldable pub templates : List ℕ → List ℕ
-templates t = ofKind t 3 (templatesThings t)
+templates t = those (ofKind t 3) (templatesThings t)
 
 unfoldable pub type : List ℕ → ℕ → Option ℕ
 type t n = nth (types t) n

@@ -7,8 +7,8 @@ use lib.ListN.{length}
 use lib.Dec.{eqb}
 use Rattle.rules.specs.Faults.{need, both, every, tree, onFound, exists, at}
 use Rattle.rules.specs.Records.{fieldB, fieldD, textOf, nth}
-use Rattle.rules.specs.Lexeme.{isLexeme}
-use Rattle.rules.specs.Grammar.{production, Element, keyword, lexeme, nonterminal, repetition, unknown, elements}
+use Rattle.rules.specs.Lexeme.{isPlainLexeme, isLexeme}
+use Rattle.rules.specs.Grammar.{plainOf, production, Element, keyword, lexeme, nonterminal, repetition, unknown, elements}
 use Rattle.rules.specs.Templates.{TypeForm, text, yes-no, list, fields, no-type, typeOf, template, templates, parameters, body, formOf, nodes, paths, path, first, second, variable, fieldNumbers}
 use Rattle.rules.specs.Value.{asText, asYesNo, asList, asRecord}
 use Rattle.rules.specs.Limits.{deepest}
@@ -110,7 +110,8 @@ site vars position p = record { node = p; position = position; vars = vars }
 
 -- The node's own rule, by its form.
 -- Nonterminal: "a build of one of its productions"; "A build with another number of children .. breaks the typing."
--- Class: "a literal that is a lexeme, or a place whose path has type text of that very class".
+-- Class: "a literal that is a lexeme, or a place whose path has type text of that very class"; 02 c, of an escaped class: "A place there takes text
+-- of the plain class".
 -- Nonterminal: "an expand of a template with that nonterminal and argument types equal by number, or an if on yes/no ..".
 -- Repetition: "a sequence, whose items are nodes in the position of its nonterminal or a for over a list ..".
 unfoldable pub suitsForm : List ℕ → List ℕ → Form → Site → Bool
@@ -122,7 +123,7 @@ suitsForm g t Literal x = onFound (asksClass (x .position)) false λ c. isLexeme
 suitsForm g t Place x =
     onFound (asksClass (x .position)) false λ c.
     onFound (pathType t (x .vars) (path (x .node))) false λ ty.
-    onFound (textClass (typeOf t ty)) false (eqb c)
+    onFound (textClass (typeOf t ty)) false (eqb (plainOf g c))
 suitsForm g t Expand x =
     onFound (asksNonterminal (x .position)) false λ n.
     onFound (template t (fieldB t (x .node))) false λ q.
@@ -201,7 +202,7 @@ typed ty w = record { value = w; type = ty }
 
 -- "of type text if it is a 1 whose text is a lexeme of the class; of yes/no if a 2; of a list if a 3 ..; of a record if a 4 with one child for each field"
 unfoldable pub hasForm : List ℕ → List ℕ → TypeForm → ℕ → Bool
-hasForm g v (text c) w = onFound (asText v w) false (isLexeme g c)
+hasForm g v (text c) w = onFound (asText v w) false (isPlainLexeme g c)
 hasForm g v yes-no w = exists (asYesNo v w)
 hasForm g v (list ty) w = exists (asList v w)
 hasForm g v (fields tys) w = onFound (asRecord v w) false (λ ws. eqb (length ws) (length tys))

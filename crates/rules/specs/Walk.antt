@@ -5,9 +5,10 @@ use mathlib.Core.Bool.{Bool, true, false, cond}
 use mathlib.Core.Option.{Option, none, some}
 use lib.ListN.{length}
 use lib.Dec.{leb, ltb}
-use Rattle.rules.specs.Faults.{onFound}
+use Rattle.rules.specs.Faults.{onFound, exists}
 use Rattle.rules.specs.Records.{fieldB, textOf, nth}
-use Rattle.rules.specs.Grammar.{production, Element, keyword, lexeme, nonterminal, repetition, unknown, elements}
+use Rattle.rules.specs.Grammar.{escapedClass, production, Element, keyword, lexeme, nonterminal, repetition, unknown, elements}
+use Rattle.rules.specs.Escape.{escape}
 use Rattle.rules.specs.Templates.{template, body, formOf, isFor, nodes, paths, path, first, second, variable, fieldNumbers}
 use Rattle.rules.specs.Value.{asText, asYesNo, asList, asRecord}
 use Rattle.rules.specs.Limits.{deepest}
@@ -124,6 +125,15 @@ unfoldable pub visitIn : Input → (Asked → ℕ → List ℕ → State → End
 visitIn i visit f env n c =
     cond (isFor (formOf (i .templates) c)) (visit (items f n) c env) (visitItem (i .room) visit f n c env)
 
+-- what is written for the text of a place. 02 c: "A place there takes text of the plain class and writes the entities."
+unfoldable pub writtenFor : List ℕ → Asked → List ℕ → List ℕ
+writtenFor g (piece (keyword y)) x = x
+writtenFor g (piece (lexeme c)) x = cond (exists (escapedClass g c)) (escape x) x
+writtenFor g (piece (nonterminal n)) x = x
+writtenFor g (piece (repetition n y)) x = x
+writtenFor g (piece unknown) x = x
+writtenFor g (items f n) x = x
+
 -- "the form decides"; `visit` visits a node one deeper, with what its position asks for and its variables.
 -- "A build takes its elements in order". "A literal writes its text, a place the text that its path finds".
 -- "An expand enters the body with a fresh set of variables, those that its paths find."; "A body's position is its template's nonterminal".
@@ -137,7 +147,7 @@ visitForm i Literal visit a p env s = write (i .room) p (textOf (i .templates) (
 visitForm i Place visit a p env s =
     onFound (pathValue (i .templates) (i .value) env (path p)) stuck λ w.
     onFound (asText (i .value) w) stuck λ x.
-    write (i .room) p x s
+    write (i .room) p (writtenFor (i .grammar) a x) s
 visitForm i Expand visit a p env s =
     onFound (template (i .templates) (fieldB (i .templates) p)) stuck λ q.
     onFound (pathValues (i .templates) (i .value) env (paths (i .templates) p)) stuck λ ws.

@@ -4,3 +4,4 @@ pub mod PackLaws
 pub mod RecordLaws
 pub mod TextLaws
 pub mod TextCopyLaws
+pub mod SkipLaws

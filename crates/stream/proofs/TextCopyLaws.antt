@@ -1,14 +1,14 @@
 -- The copy of a text to the beginning of a lent output, part by part.
-use Prim.Native.Nat.{ℕ, suc, _+_, _-_, _≤_, _<_}
+use Prim.Native.Nat.{ℕ, _+_, _-_, _≤_, _<_}
 use mathlib.Core.Path.{_≡_, refl, ap, ap₂, sym, _∙_}
 use mathlib.Core.List.{List, [], _++_, append-assoc, append-nil}
 use native.Mathlib.Omega.{arith}
-use native.Mathlib.Numerals.{add-one}
-use native.Mathlib.Nat.{le-refl, zero-add, add-zero, add-assoc}
-use lib.ListN.{length, take, drop, set, getD, length-append, length-take, length-drop, drop-of-length-le, take-append-drop}
-use lib.Seq.{drop-drop, drop-cons, take-suc, set-at, length-take-le, take-length, take-all, take-at, drop-at}
+use native.Mathlib.Nat.{zero-add, add-zero, add-assoc}
+use lib.ListN.{length, take, drop, length-append, length-take, length-drop, take-append-drop}
+use lib.Seq.{drop-drop, take-at, drop-at}
 use borrow.Author.Tests.{le-leb, lt-leb}
 use borrow.Rule.Slice.PartMut.{putMid}
+use Rattle.laws.specs.Writes.{take-rest, put-rest}
 use Rattle.stream.specs.declared.text.Text.{Text}
 use Rattle.stream.specs.Text.{textIn, partOf, Rest, withText, Copied}
 use Rattle.stream.proofs.TextLaws.{part-length, text-end}
@@ -16,26 +16,6 @@ use Rattle.stream.proofs.TextLaws.{part-length, text-end}
 -- a piece in a list from a place on
 abbrev pub pasted : List ℕ → ℕ → List ℕ → List ℕ
 pasted out at piece = take at out ++ piece ++ drop (at + length piece) out
-
--- byte by byte
-pub copy-more : (src dst dst₀ : List ℕ) (j : ℕ) → j < length src → length src ≤ length dst₀ → dst ≡ take j src ++ drop j dst₀
-    → set dst j (getD src j 0) ≡ take (j + 1) src ++ drop (j + 1) dst₀
-copy-more src dst dst₀ j l m e =
-    ap (λ (x : List ℕ). set x j (getD src j 0)) (e ∙ ap (λ (x : List ℕ). take j src ++ x) (drop-cons dst₀ j 0 (omega arith)))
-    ∙ set-at (take j src) (getD dst₀ j 0) (drop (suc j) dst₀) (getD src j 0) j (length-take-le j src (omega arith))
-    ∙ sym (rw (add-one, take-suc src j 0 l, append-assoc))
-
-pub copy-all : (src dst dst₀ : List ℕ) (j : ℕ) → j ≤ length src → length src ≤ j → dst ≡ take j src ++ drop j dst₀ → dst ≡ src ++ drop (length src) dst₀
-copy-all src dst dst₀ j a b e = let z : j ≡ length src = omega arith in e ∙ rw (z, take-length)
-
--- from in the middle of a list to its end
-take-rest : (xs : List ℕ) (a : ℕ) → take (length xs - a) (drop a xs) ≡ drop a xs
-take-rest xs a = take-all (length xs - a) (drop a xs) (rw length-drop (le-refl _))
-
-put-rest : (a : ℕ) (xs ys : List ℕ) → putMid a (length xs - a) xs ys ≡ take a xs ++ ys
-put-rest a xs ys =
-    ap (λ (x : List ℕ). take a xs ++ (ys ++ x)) (drop-of-length-le (drop a xs) {i = length xs - a} (rw length-drop (le-refl _)))
-    ∙ ap (λ (x : List ℕ). take a xs ++ x) (append-nil ys)
 
 -- what a lent rest holds after a piece was written to its beginning
 paste-rest : (out piece last : List ℕ) (at : ℕ) → last ≡ piece ++ drop (length piece) (take (length out - at) (drop at out))

@@ -47,7 +47,7 @@ drop-past s at l = drop-of-length-le s {i = at} l
 take-past : (s : List ℕ) (n at : ℕ) → length s ≤ at → take n (drop at s) ≡ []
 take-past s n at l = rw (drop-past s at l) (take-nil n)
 
-payload-past : (s : List ℕ) (n at : ℕ) → length s ≤ at → payloadFrom s n at ≡ []
+pub payload-past : (s : List ℕ) (n at : ℕ) → length s ≤ at → payloadFrom s n at ≡ []
 unfolding payloadFrom
 payload-past s zero at l = refl
 payload-past s (suc n) at l = rw (take-past s 1 at l) (payload-past s n (onward at) (omega (arith, onward-up at)))

@@ -1,5 +1,5 @@
 -- A text across blocks: where its bytes lie, and the part of it in one block.
-use Prim.Native.Nat.{ℕ, zero, suc, _+_, _-_, _%_, min, _≤_, _<_}
+use Prim.Native.Nat.{ℕ, zero, suc, _+_, _-_, _*_, _%_, min, _≤_, _<_}
 use mathlib.Core.Path.{_≡_}
 use mathlib.Core.List.{List, [], _++_}
 use mathlib.Core.Bool.{cond}
@@ -46,6 +46,12 @@ pub record Rest (s : List ℕ) (t r : Text) : Type 0 where
   pub text : textIn s t ≡ partOf s t ++ textIn s r
   pub falls : 0 < t .left → r .left < t .left
   pub spent : length (partOf s t) + r .left ≤ t .left
+
+-- r is what is left of a text after its first n bytes, if the stream has them
+pub record Skips (n : ℕ) (t r : Text) : Type 0 where
+  pub text : (s : List ℕ) → n ≤ length (textIn s t) → textIn s r ≡ drop n (textIn s t)
+  pub left : r .left + n ≡ t .left
+  pub near : r .at ≤ t .at + 9 * n
 
 -- writing a text to the beginning of what is lent: whole or not at all
 unfoldable pub withText : List ℕ → List ℕ → List ℕ

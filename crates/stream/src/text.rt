@@ -1,9 +1,9 @@
 // The reader of text. The bytes of a text lie in the payloads of blocks in a row; they are handed on block by block, as parts of the stream.
 ghost use mathlib.Core.Path.{_≡_};
-ghost use Prim.Native.Nat.{min, _≤_, _<_, _^_};
+ghost use Prim.Native.Nat.{_+_, _*_, min, _≤_, _<_, _^_};
 ghost use lib.ListN.{length};
 ghost use Rattle.rules.specs.Records.{textOf};
-ghost use Rattle.stream.specs.Text.{textIn, Begins, BeginsAt, room, partOf, Rest, Copied};
+ghost use Rattle.stream.specs.Text.{textIn, Begins, BeginsAt, room, partOf, Rest, Skips, Copied};
 use crate::copy::copy_into;
 use crate::record::Place;
 use crate::record::place_of;
@@ -73,6 +73,37 @@ pub fn text_rest(s: &[u8], t: Text) -> Text
         at: at + here + 8,
         left: t.left - here,
     }
+}
+
+// The text after its first byte.
+fn text_next(t: Text) -> Text
+    requires { ⌜ (0 < t .left) × (t .at + 9 < 2 ^ 64) ⌝ }
+    ensures { λ r. ⌜ Skips 1 t r ⌝ }
+{
+    if t.at % 512 == 507 {
+        return Text {
+            at: t.at + 9,
+            left: t.left - 1,
+        };
+    }
+    Text {
+        at: t.at + 1,
+        left: t.left - 1,
+    }
+}
+
+// The text after its first n bytes.
+pub fn text_skip(t: Text, n: usize) -> Text
+    requires { ⌜ (n ≤ t .left) × (t .at + 9 * n < 2 ^ 64) ⌝ }
+    ensures { λ r. ⌜ Skips n t r ⌝ }
+{
+    let mut rest = t;
+    let mut i = 0;
+    while i < n {
+        rest = text_next(rest);
+        i += 1;
+    }
+    rest
 }
 
 // How many bytes of a text the stream has: a text that runs past its end is cut short. The pattern of a scan: the state after a part is the

@@ -8,6 +8,7 @@ use native.Mathlib.Omega.{arith}
 use lib.ListN.{length}
 use Rattle.rules.specs.Faults.{every, onFound}
 use Rattle.rules.specs.Blocks.{streamLength, streamBlocks}
+use Rattle.rules.specs.Records.{kindOf}
 use Rattle.rules.specs.Grammar.{classes}
 use Rattle.rules.specs.Templates.{templates}
 use Rattle.rules.specs.Layout.{valueLayout}
@@ -24,7 +25,8 @@ use Rattle.theorems.specs.Refusals.{Refuses, check-refuses}
 use Rattle.theorems.specs.Streams.{WellSized, length-exactly, RightBlock, blocks-exactly}
 use Rattle.theorems.specs.LaidOut.{GrammarLaid, TemplatesLaid, ValueLaid}
 use Rattle.theorems.specs.LayoutExactly.{grammar-laid-exactly, templates-laid-exactly, value-laid-exactly}
-use Rattle.theorems.specs.LimitsExactly.{TemplateWithin, limits-exactly, value-limits-exactly, GrammarNamed, grammar-names-exactly, TemplatesNamed, templates-names-exactly, ClassRight, classes-exactly}
+use Rattle.theorems.specs.LimitsExactly.{TemplateWithin, limits-exactly, value-limits-exactly, GrammarNamed, grammar-names-exactly, TemplatesNamed, templates-names-exactly}
+use Rattle.theorems.specs.ClassesExactly.{ClassRight, classes-exactly}
 use Rattle.theorems.specs.TypingExactly.{SetTyped, typing-exactly}
 use Rattle.theorems.specs.ValueExactly.{ValueTyped, value-typed-exactly}
 
@@ -43,7 +45,7 @@ pub record Accepted (g t : List ℕ) : Type 0 where
   pub within-limits : (p : ℕ) → In p (templates t) → TemplateWithin t p
   pub grammar-named : GrammarNamed g
   pub templates-named : TemplatesNamed g t
-  pub classes-right : (p : ℕ) → In p (classes g) → ClassRight g p
+  pub classes-right : (p : ℕ) → In p (classes g) → kindOf g p ≡ 1 → ClassRight g p
   pub typed : SetTyped g t
 
 -- "It is well-formed if its stream meets none of 1 to 3"; and at most 200 deep

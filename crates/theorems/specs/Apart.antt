@@ -6,8 +6,8 @@ use mathlib.Core.List.{List, [], _∷_}
 use mathlib.Core.Bool.{Bool, true, false}
 use native.Mathlib.Omega.{arith}
 use lib.Dec.{eqb}
-use Rattle.rules.specs.Records.{kindOf, heads, after, things, ofKind}
-use Rattle.laws.specs.Faults.{In, here, later, eqb-iff}
+use Rattle.rules.specs.Records.{kindOf, heads, after, things, those}
+use Rattle.laws.specs.Faults.{In, here, later}
 
 pub data Apart (size : ℕ → ℕ) (p q : ℕ) : Type 0 where
   one-thing : p ≡ q → Apart size p q
@@ -61,14 +61,15 @@ module _ (size : ℕ → ℕ) where
         go (inr a) (inl b) rest = second-ends (rw b (things-from n (p + size p) a))
         go (inr a) (inr b) rest = rest a b
 
-pub of-kind-in : {q : ℕ} (s : List ℕ) (kind : ℕ) (ps : List ℕ) → In q (ofKind s kind ps) → In q ps × (kindOf s q ≡ kind)
-unfolding ofKind
-of-kind-in {q} s kind (p ∷ ps) i = go (eqb (kindOf s p) kind) refl i (λ j. let (a, b) = of-kind-in s kind ps j in (later p ps a, b))
+-- what is chosen of a list by its sort
+pub those-in : {q : ℕ} (is : ℕ → Bool) (ps : List ℕ) → In q (those is ps) → In q ps × (is q ≡ true)
+unfolding those
+those-in {q} is (p ∷ ps) i = go (is p) refl i (λ j. let (a, b) = those-in is ps j in (later p ps a, b))
   where
-    first : eqb (kindOf s p) kind ≡ true → q ≡ p → In q (p ∷ ps) × (kindOf s q ≡ kind)
-    first e h = (subst (λ (x : ℕ). In x (p ∷ ps)) (sym h) (here ps), ap (kindOf s) h ∙ eqb-iff _ _ .0 e)
+    first : is p ≡ true → q ≡ p → In q (p ∷ ps) × (is q ≡ true)
+    first e h = (subst (λ (x : ℕ). In x (p ∷ ps)) (sym h) (here ps), ap is h ∙ e)
 
-    go : (b : Bool) → eqb (kindOf s p) kind ≡ b → In q (elim b [ true ↦ p ∷ ofKind s kind ps | false ↦ ofKind s kind ps ])
-        → (In q (ofKind s kind ps) → In q (p ∷ ps) × (kindOf s q ≡ kind)) → In q (p ∷ ps) × (kindOf s q ≡ kind)
+    go : (b : Bool) → is p ≡ b → In q (elim b [ true ↦ p ∷ those is ps | false ↦ those is ps ])
+        → (In q (those is ps) → In q (p ∷ ps) × (is q ≡ true)) → In q (p ∷ ps) × (is q ≡ true)
     go true e i rest = elim (in-first i) [ inl h ↦ first e h | inr j ↦ rest j ]
     go false e i rest = rest i

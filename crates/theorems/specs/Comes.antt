@@ -14,6 +14,7 @@ use Rattle.rules.specs.declared.Form.the-variants.{Build, Literal, Place, Expan
 use Rattle.rules.specs.declared.Position.{Position}
 use Rattle.theorems.specs.Children.{Asks}
 use Rattle.theorems.specs.Finds.{Finds, FindsAll}
+use Rattle.theorems.specs.Places.{PlaceWrites}
 use Rattle.theorems.specs.Levels.{filling}
 use Rattle.theorems.specs.Evaluation.{BeforeItem, Evaluates, Loops}
 
@@ -75,7 +76,8 @@ pub data Next (g t v : List ℕ) (a : Asked) (p : ℕ) (env : List ℕ) : List �
   a-keyword : (q : ℕ) {k y : List ℕ} {m : ℕ} → formOf t p ≡ Build → production g (fieldB t p) ≡ some q → BuildsUpTo g t v env (elements g q) (nodes t p) k y m
       → Next g t v a p env k y m
   its-text : formOf t p ≡ Literal → Next g t v a p env (textOf t (fieldB t p) p) [] 0
-  text-found : (w : ℕ) → formOf t p ≡ Place → Finds t v env (path p) w → kindOf v w ≡ 1 → Next g t v a p env (textOf v (fieldB v w) w) [] 0
+  text-found : (w : ℕ) (e : Element) {x : List ℕ} → formOf t p ≡ Place → a ≡ piece e → Finds t v env (path p) w → kindOf v w ≡ 1
+      → PlaceWrites g e (textOf v (fieldB v w) w) x → Next g t v a p env x [] 0
   -- a sequence's separator, before its own item c, which is not the first, or before a turn of its for c
   before-item : (n : ℕ) {c l m : ℕ} {x y : List ℕ} → formOf t p ≡ Sequence → a ≡ piece (repetition n x) → ItemsTo g t v env n x 0 (nodes t p) c (suc l) y m
       → (formOf t c ≡ For → ⊥) → Next g t v a p env x y m

@@ -3,16 +3,17 @@ use mathlib.Core.Path.{_≡_, refl, sym, _∙_, ap, ap₂}
 use mathlib.Core.Logic.{_↔_}
 use Prim.Native.Nat.{ℕ, _/_, _%_, _<_}
 use mathlib.Core.List.{List, [], _∷_}
-use mathlib.Core.Bool.{Bool, _&&_}
-use mathlib.Core.Option.{Option}
+use mathlib.Core.Bool.{Bool, true, cond, _&&_}
+use mathlib.Core.Option.{Option, none}
 use lib.ListN.{length}
-use lib.Dec.{eqb, leb}
+use lib.Dec.{eqb, leb, ltb}
 use Rattle.rules.specs.Faults.{need, both, every, onFound, exists}
+use Rattle.rules.specs.Records.{numbered}
 use Rattle.rules.specs.Blocks.{streamLength, streamBlocks}
 use Rattle.rules.specs.Grammar.{classes, productions, Element, keyword, lexeme, nonterminal, repetition, unknown, elementAt, elementHeads, elements}
 use Rattle.rules.specs.Lexeme.{ranges}
-use Rattle.rules.specs.Names.{elementNamed, grammarNames}
-use Rattle.rules.specs.Classes.{rangeRight, classBounds, grammarClasses}
+use Rattle.rules.specs.Names.{elementNamed, classNamed, grammarNames}
+use Rattle.rules.specs.Classes.{rangeRight, classBounds, boundsRight, grammarClasses}
 use Rattle.rules.specs.Derivation.{Derives}
 use Rattle.rules.specs.Answers.{Stream, grammar, templates, value, streamKind, bytesOf, layoutOf, limitsOf, placed, over, try, accept, setRefusal, checkRefusal}
 use Rattle.rules.specs.Answers.{scratchNeeded, evaluateRefusal, answer, check, unlessRefused, evaluate}
@@ -20,9 +21,9 @@ use Rattle.rules.specs.declared.Answer.{Answer}
 use Rattle.laws.specs.Faults.{In, here, later}
 use Rattle.theorems.specs.Streams.{WellSized, RightBlock, blocks-exactly}
 use Rattle.theorems.specs.Evaluation.{EvaluatesSet}
-use Rattle.theorems.specs.ReadAlike.{ReadAlike, derives-alike, evaluates-set-alike, names-alike, typing-alike, value-alike, walk-alike}
+use Rattle.theorems.specs.ReadAlike.{ReadAlike, plain-alike, derives-alike, evaluates-set-alike, names-alike, typing-alike, value-alike, walk-alike}
 use Rattle.theorems.specs.Unseparated.{DifferInForm, the-other-way, read-alike, same-element, same-elements}
-use Rattle.theorems.specs.Unseparated.{same-b, same-c, same-classes, same-productions, same-heads, same-bounds, same-ranges}
+use Rattle.theorems.specs.Unseparated.{same-kind, same-b, same-c, same-classes, same-productions, same-heads, same-bounds, same-ranges}
 use Rattle.theorems.specs.UnseparatedLaid.{layout-alike}
 
 every-same : {B : Type 0} {f f′ : ℕ → Option B} (xs : List ℕ) → ((x : ℕ) → In x xs → f x ≡ f′ x) → every f xs ≡ every f′ xs
@@ -43,14 +44,20 @@ module _ (g g′ : List ℕ) (d : DifferInForm g g′) where
   named-alike (repetition n x) = alike .same-existence n
   named-alike unknown = refl
 
+  class-named-alike : (c : ℕ × ℕ) → classNamed g c ≡ classNamed g′ c
+  unfolding classNamed
+  class-named-alike (n, p) = λ j.
+      cond (eqb (same-kind g g′ d p j) 5) (ltb (same-b g g′ d p j) n && exists (plain-alike g g′ alike (same-b g g′ d p j) j)) true
+
   grammar-names-alike : grammarNames g ≡ grammarNames g′
   unfolding grammarNames
   grammar-names-alike =
-      every-same (productions g) (λ p i.
+      ap₂ both (λ j. every (λ c. need (class-named-alike c j) (c .1)) (numbered 0 (same-classes g g′ d j)))
+      (every-same (productions g) (λ p i.
       every-same (elementHeads g p) (λ e j. ap (λ (b : Bool). need b e)
       (named-alike (elementAt g e) ∙ ap (elementNamed g′) (same-element g g′ d (record { head = p; a-production = i; its-element = j }))))
       ∙ ap (every (λ e. need (elementNamed g′ (elementAt g′ e)) e)) (same-heads g g′ d p))
-      ∙ ap (every (λ p. every (λ e. need (elementNamed g′ (elementAt g′ e)) e) (elementHeads g′ p))) (same-productions g g′ d)
+      ∙ ap (every (λ p. every (λ e. need (elementNamed g′ (elementAt g′ e)) e) (elementHeads g′ p))) (same-productions g g′ d))
 
   -- 6
   range-alike : {p r : ℕ} → In p (classes g) → In r (ranges g p) → rangeRight g r ≡ rangeRight g′ r
@@ -63,9 +70,13 @@ module _ (g g′ : List ℕ) (d : DifferInForm g g′) where
       ap₂ both (λ j. need (leb (same-b g g′ d p j) (same-c g g′ d p j)) p)
       (every-same (ranges g p) (λ r k. ap (λ (b : Bool). need b r) (range-alike i k)) ∙ ap (every (λ r. need (rangeRight g′ r) r)) (same-ranges g g′ d p))
 
+  bounds-alike : (p : ℕ) → In p (classes g) → boundsRight g p ≡ boundsRight g′ p
+  unfolding boundsRight
+  bounds-alike p i = λ j. cond (eqb (same-kind g g′ d p j) 5) none (class-alike p i j)
+
   grammar-classes-alike : grammarClasses g ≡ grammarClasses g′
   unfolding grammarClasses
-  grammar-classes-alike = every-same (classes g) class-alike ∙ ap (every (classBounds g′)) (same-classes g g′ d)
+  grammar-classes-alike = every-same (classes g) bounds-alike ∙ ap (every (boundsRight g′)) (same-classes g g′ d)
 
 -- "right by 2": neither 1 nor 2 meets the grammar
 pub record RightBy2 (g : List ℕ) : Type 0 where

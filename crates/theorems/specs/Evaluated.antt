@@ -19,6 +19,7 @@ use Rattle.rules.specs.declared.Form.the-variants.{Build, Literal, Place, Expan
 use Rattle.rules.specs.declared.Position.{Position}
 use Rattle.theorems.specs.Children.{Asks, asks-class, asks-nonterminal, asks-repetition, asks-nothing}
 use Rattle.theorems.specs.Finds.{Finds, text-is, yes-is, no-is, finds-exactly, finds-all-exactly}
+use Rattle.theorems.specs.Places.{place-text}
 use Rattle.theorems.specs.Handed.{IsFor, a-for, no-for, is-for, filled-by, listed-is, for-visited, item-visited, one-brought, turns-brought}
 use Rattle.theorems.specs.Ends.{then-done, found-done, reached-done, write-done}
 use Rattle.theorems.specs.Evaluation.{BeforeItem, the-first, another, Evaluates, build, literal, place, expand, then, else, sequence}
@@ -169,8 +170,8 @@ module _ (i : Input) (go : Asked → ℕ → List ℕ → State → End) (below 
       let (w, a, d) = found-done _ _ s′ e in
       let (x, b, h) = found-done _ _ s′ d in
       let (k, z) = text-is v w x .0 b in
-      wrote-step _ _ s s′ (write-wrote (i .room) p x (counted s) s′ h) λ y n q.
-      rw (← q .0, ← q .1, ← z) (place f (finds-exactly t v env _ w .0 a) k)
+      wrote-step _ _ s s′ (write-wrote (i .room) p _ (counted s) s′ h) λ y n q.
+      rw (← q .0, ← q .1) (place f (finds-exactly t v env _ w .0 a) k (place-text g el z))
   form-evaluated Expand el p env s s′ f e =
       let (q, a, d) = found-done _ _ s′ e in
       let (ws, b, h) = found-done _ _ s′ d in

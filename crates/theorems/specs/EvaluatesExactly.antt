@@ -21,6 +21,7 @@ use Rattle.theorems.specs.Begins.{Begins, begins-then}
 use Rattle.theorems.specs.Finds.{text-is, yes-is, no-is, path-found, paths-found}
 use Rattle.theorems.specs.Levels.{filling}
 use Rattle.theorems.specs.Handed.{pieces-child, is-listed, for-visited, item-visited, one-brought, turns-brought}
+use Rattle.theorems.specs.Places.{place-exactly}
 use Rattle.theorems.specs.Evaluation.{BeforeItem, the-first, another, Evaluates, build, literal, place, expand, then, else, sequence}
 use Rattle.theorems.specs.Evaluation.{no-element, own-bytes, next-child, no-item, one-item, for, no-turn, one-turn, EvaluatesSet}
 use Rattle.theorems.specs.Evaluated.{finished-evaluated}
@@ -121,7 +122,8 @@ module _ (i : Input) where
       → Gives i (adding s x n) (inOrder (λ w. 1) (λ j w. visitItem (i .room) (visit i k) (filling q m between) j p (env ++ w ∷ [])) j ws s)) [
         | build f q (b → h) ↦ λ k s. visit-gives _ _ k _ _ _ s f λ k. found-gives _ q (h k _ (counted s))
         | literal f ↦ λ k s. visit-gives _ _ k _ _ _ s f λ k. write-gives _ _ (counted s)
-        | place f w x ↦ λ k s. visit-gives _ _ k _ _ _ s f λ k. found-gives _ (path-found w) (found-gives _ (text-is v _ _ .1 (x, refl)) (write-gives _ _ (counted s)))
+        | place {e = e} f w x y ↦ λ k s. visit-gives _ _ k _ _ _ s f λ k.
+            found-gives _ (path-found w) (found-gives _ (text-is v _ _ .1 (x, refl)) (rw (place-exactly g e _ _ .1 y) (write-gives _ _ (counted s))))
         | expand f q ws (b → h) ↦ λ k s. visit-gives _ _ k _ _ _ s f λ k. found-gives _ q (found-gives _ (paths-found ws) (h k (counted s)))
         | then f w x y (b → h) ↦ λ k s. visit-gives _ _ k _ _ _ s f λ k. found-gives _ (path-found w) (found-gives _ (yes-is v _ .1 (x, y)) (h k (counted s)))
         | else f w x y (b → h) ↦ λ k s. visit-gives _ _ k _ _ _ s f λ k. found-gives _ (path-found w) (found-gives _ (no-is v _ .1 (x, y)) (h k (counted s)))

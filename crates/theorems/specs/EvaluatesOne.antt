@@ -16,6 +16,7 @@ use Rattle.rules.specs.declared.Form.the-variants.{Build, Literal, Place, Expan
 use Rattle.rules.specs.declared.Position.{Position}
 use Rattle.theorems.specs.Children.{Asks}
 use Rattle.theorems.specs.Finds.{Finds, text-is, yes-is, no-is, path-found, paths-found}
+use Rattle.theorems.specs.Places.{PlaceWrites, place-one}
 use Rattle.theorems.specs.Evaluation.{BeforeItem, the-first, another, Evaluates, build, literal, place, expand, then, else, sequence, Builds, no-element, own-bytes, next-child}
 use Rattle.theorems.specs.Evaluation.{Items, no-item, one-item, for, Loops, no-turn, one-turn, EvaluatesSet}
 
@@ -57,7 +58,7 @@ module _ (g t v : List ℕ) where
   abbrev Rule : Form → List ℕ → Element → ℕ → List ℕ → ℕ → Type 0
   Rule Build env e p x n = Found (production g (fieldB t p)) λ q. Builds g t v env (elements g q) (nodes t p) x n
   Rule Literal env e p x n = (textOf t (fieldB t p) p ≡ x) × (0 ≡ n)
-  Rule Place env e p x n = Found (pathValue t v env (path p)) λ w. (asText v w ≡ some x) × (0 ≡ n)
+  Rule Place env e p x n = Found (pathValue t v env (path p)) λ w. Found (asText v w) λ z. PlaceWrites g e z x × (0 ≡ n)
   Rule Expand env e p x n =
       Found (template t (fieldB t p)) λ q. Found (pathValues t v env (paths t p)) λ ws. Evaluates g t v ws (nonterminal (fieldB t q)) (body t q) x n
   Rule If env e p x n = Found (pathValue t v env (path p)) λ w. Found (asYesNo v w) λ y. Evaluates g t v env e (cond y (first p) (second t p)) x n
@@ -68,7 +69,7 @@ module _ (g t v : List ℕ) where
   ruled : {env : List ℕ} {e : Element} {p n : ℕ} {x : List ℕ} → Evaluates g t v env e p x n → Stepped (Rule (formOf t p) env e p) x n
   ruled (build f q b) = (_, refl, rw f (_, q, b))
   ruled (literal f) = (_, refl, rw f (refl, refl))
-  ruled (place f w k) = (_, refl, rw f (_, path-found w, (text-is v _ _ .1 (k, refl), refl)))
+  ruled (place f w k y) = (_, refl, rw f (_, path-found w, (_, text-is v _ _ .1 (k, refl), (y, refl))))
   ruled (expand f q ws b) = (_, refl, rw f (_, q, (_, paths-found ws, b)))
   ruled (then f w k y b) = (_, refl, rw f (_, path-found w, (true, yes-is v _ .1 (k, y), b)))
   ruled (else f w k y b) = (_, refl, rw f (_, path-found w, (false, no-is v _ .1 (k, y), b)))
@@ -134,7 +135,8 @@ module _ (g t v : List ℕ) where
       (λ env m between k p ws x n d. Only (Loops g t v env m between k p ws) x n) [
         | build f q (b → h) ↦ by-form Build f λ y m r. h y m (found-one _ q r)
         | literal f ↦ by-form Literal f λ y m r. r
-        | place f w k ↦ by-form Place f λ y m r. let z = found-one _ (path-found w) r in (Option·some-injective _ y (sym (text-is v _ _ .1 (k, refl)) ∙ z .0), z .1)
+        | place f w k h ↦ by-form Place f λ y m r.
+            let z = found-one _ (text-is v _ _ .1 (k, refl)) (found-one _ (path-found w) r) in (place-one h (z .0), z .1)
         | expand f q ws (b → h) ↦ by-form Expand f λ y m r. h y m (found-one _ (paths-found ws) (found-one _ q r))
         | then f w k z (b → h) ↦ by-form If f λ y m r. h y m (found-one _ (yes-is v _ .1 (k, z)) (found-one _ (path-found w) r))
         | else f w k z (b → h) ↦ by-form If f λ y m r. h y m (found-one _ (no-is v _ .1 (k, z)) (found-one _ (path-found w) r))

@@ -1,7 +1,8 @@
 -- The evaluation rules a second time, as a relation in the manner of source document 001: its dynamic rules of Fig. 11, and of Fig. 6 where that leaves them.
 -- 001's judgement `T, Θ ⊢ tstmt ⇒ ψ` is `Evaluates g t v env e p x n`. T is env, the places of the variables' values in the value v; Θ is the template code t;
 -- tstmt is the node at p, and ψ the text x. g is the target language's grammar. Beside 001, e is the element that the node's position asks for, which says what
--- separates the items of a sequence, and n counts the nodes that are evaluated: "A visit counts one step." No fuel, depth or room stand here, and nothing of the walk.
+-- separates the items of a sequence and whether a place writes entities, and n counts the nodes that are evaluated: "A visit counts one step." No fuel, depth or
+-- room stand here, and nothing of the walk.
 use Prim.Native.Nat.{ℕ, suc, _+_}
 use mathlib.Core.Path.{_≡_}
 use mathlib.Core.List.{List, [], _∷_, _++_}
@@ -15,6 +16,7 @@ use Rattle.rules.specs.declared.Form.the-variants.{Build, Literal, Place, Expan
 use Rattle.rules.specs.declared.Position.{Position}
 use Rattle.theorems.specs.Children.{Asks}
 use Rattle.theorems.specs.Finds.{Finds, FindsAll}
+use Rattle.theorems.specs.Places.{PlaceWrites}
 
 -- what is written before an item, k of which came before it: "The separator is written before every item but the first"
 pub data BeforeItem (between : List ℕ) : ℕ → List ℕ → Type 0 where
@@ -30,9 +32,9 @@ mutual
         → production g (fieldB t p) ≡ some q → Builds g t v env (elements g q) (nodes t p) x n → Evaluates g t v env e p x (suc n)
     -- the rule of each morphem class: "a morphem generates itself"
     literal : {env : List ℕ} {e : Element} {p : ℕ} → formOf t p ≡ Literal → Evaluates g t v env e p (textOf t (fieldB t p) p) 1
-    -- [expr]
-    place : {env : List ℕ} {e : Element} {p w : ℕ} → formOf t p ≡ Place → Finds t v env (path p) w → kindOf v w ≡ 1
-        → Evaluates g t v env e p (textOf v (fieldB v w) w) 1
+    -- [expr]; 02 c, in the position of an escaped class, with the entities
+    place : {env : List ℕ} {e : Element} {p w : ℕ} {x : List ℕ} → formOf t p ≡ Place → Finds t v env (path p) w → kindOf v w ≡ 1
+        → PlaceWrites g e (textOf v (fieldB v w) w) x → Evaluates g t v env e p x 1
     -- [expand]: the body, with "a fresh set of variables, those that its paths find"; "A body's position is its template's nonterminal."
     expand : {env ws : List ℕ} {e : Element} {p q : ℕ} {x : List ℕ} {n : ℕ} → formOf t p ≡ Expand
         → template t (fieldB t p) ≡ some q → FindsAll t v env (paths t p) ws → Evaluates g t v ws (nonterminal (fieldB t q)) (body t q) x n

@@ -40,7 +40,7 @@ fits-below : {g t vars : List ℕ} {p c : ℕ} {at : Position} → Fits g t vars
 unfolding nodesBelow nodesOf
 fits-below {vars = vars} (a-build at q f e a o) i = let (el, at′, k, b) = each-child o (rw f at i) in (vars, at′, build-child at at′ el q _ f e k b)
 fits-below (a-literal c f l) i = absurd (in-none (rw f at i))
-fits-below (a-place c ty f h e) i = absurd (in-none (rw f at i))
+fits-below (a-place c d ty f h e k) i = absurd (in-none (rw f at i))
 fits-below (an-expand at q f e a as′) i = absurd (in-none (rw f at i))
 fits-below {g} {t} {vars} {p} (an-if at n ty f a h e) i =
     in-cons (ChildSomehow g t vars p at) (vars, _, first-branch at n f a)

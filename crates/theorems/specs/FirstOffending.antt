@@ -2,45 +2,45 @@
 use mathlib.Core.Path.{_≡_, refl, sym, _∙_, subst}
 use mathlib.Core.Logic.{_↔_, _⊎_, inl, inr}
 use Prim.Native.Nat.{ℕ, zero, suc, _+_, _/_, _<_}
-use mathlib.Core.List.{List, [], _∷_}
+use mathlib.Core.List.{List}
 use mathlib.Core.Bool.{Bool, true, false, _&&_, false≢true, true≢false}
 use mathlib.Core.Option.{Option, none, some, Option·some-ne-none, Option·none-ne-some, Option·some-injective}
 use native.Mathlib.Omega.{arith}
 use lib.ListN.{length}
-use lib.Dec.{leb, ltb}
-use borrow.Author.Tests.{leb-false, lt-leb, ltb-false, le-ltb}
+use lib.Dec.{leb}
+use borrow.Author.Tests.{leb-false, lt-leb}
 use Rattle.rules.specs.Faults.{need, every, tree, onFound, exists, at}
-use Rattle.rules.specs.Records.{fieldA, fieldB, fieldC, row, nth, numbered}
+use Rattle.rules.specs.Records.{kindOf, fieldA, fieldB, fieldC, row}
 use Rattle.rules.specs.Blocks.{streamLength, blockRight, streamBlocks}
 use Rattle.rules.specs.Lexeme.{lowest, highest, ranges}
-use Rattle.rules.specs.Grammar.{elementSize, classes, productions, elementAt, elementHeads, nonterminalExists}
-use Rattle.rules.specs.Templates.{type, types, typeAt, fieldHeads, templates, formOf, parameterHeads, body, nodesBelow}
+use Rattle.rules.specs.Grammar.{classes}
+use Rattle.rules.specs.Templates.{type, templates, body, nodesBelow}
 use Rattle.rules.specs.Value.{valuesBelow}
 use Rattle.rules.specs.Layout.{layoutFault, grammarLayout, templatesLayout, valueLayout}
 use Rattle.rules.specs.Limits.{deepest, looped, loopedBelow, fewLoops, templateLimits, templatesLimits, valueLimits}
-use Rattle.rules.specs.Names.{elementNamed, grammarNames, typeNamed, typeNames, nodeNamed, templateNames, templatesNames}
-use Rattle.rules.specs.Classes.{rangeRight, classBounds, grammarClasses}
+use Rattle.rules.specs.Classes.{rangeRight, classBounds, boundsRight, grammarClasses}
 use Rattle.rules.specs.Typing.{site, suits, sitesBelow, misfit, bodySite, declaredType, templatesTyping, typed, hasType, typedBelow, mistyped, valueTyping}
 use Rattle.rules.specs.Answers
 use Rattle.rules.specs.Answers.{Stream, bytesOf, layoutOf, limitsOf}
-use Rattle.laws.specs.Faults.{In, here, later, Below, exists-iff}
+use Rattle.laws.specs.Faults.{In, Below, exists-iff}
 use Rattle.theorems.specs.Streams.{WellSized, length-exactly, block-exactly, row-in, in-row}
-use Rattle.theorems.specs.LaidOut.{InRow, no-thing, one-thing, GrammarLaid, TypeAt, TemplateAt, TemplatesLaid, ValueLaid}
-use Rattle.theorems.specs.Heads.{element-size, element-grows}
+use Rattle.theorems.specs.LaidOut.{InRow, no-thing, one-thing, GrammarLaid, TemplateAt, TemplatesLaid, ValueLaid}
+use Rattle.theorems.specs.Sizes.{ranges-row}
+use Rattle.theorems.specs.Heads.{class-spans}
 use Rattle.theorems.specs.LayoutExactly.{grammar-laid-exactly, templates-laid-exactly, value-laid-exactly}
-use Rattle.theorems.specs.Follows.{fields-row}
 use Rattle.theorems.specs.Around.{around-exactly}
-use Rattle.theorems.specs.LimitsExactly.{looped-below, below-looped, limits-exactly, not-deep, nonterminal-iff, element-names, type-names, node-names, numbered-in}
+use Rattle.theorems.specs.LimitsExactly.{looped-below, below-looped, limits-exactly, not-deep}
+use Rattle.theorems.specs.ClassesExactly.{plain-bounds, escaped-bounds, class-in}
 use Rattle.theorems.specs.Judgement.{Declared}
 use Rattle.theorems.specs.OwnRuleExactly.{fits-exactly, stands-exactly}
 use Rattle.theorems.specs.TypingExactly.{sites-shallow, declared-exactly}
 use Rattle.theorems.specs.ValueExactly.{form-exactly, should-exactly, values-shallow}
-use Rattle.theorems.specs.Least.{First, Least, first-same, first-need, first-none, first-both, least-same, least-wide, least-need, least-both, rows-heads, Some, least-every, least-heads, least-tests, Offends, too-deep, fails, least-tree, Fails, failing, least-shallow}
-use Rattle.theorems.specs.Ranges.{AnyClass, AnyProduction, class-rows, production-rows, type-rows, template-rows, Leading, stops, goes-on, rows-leading, standing-leading, nodes-standing, values-standing, looped-leading, sites-leading, typed-leading}
-use Rattle.theorems.specs.Offences.{WrongBlock, Laid, TemplateOver, over-8-parameters, over-200-deep, over-16-loops, OverLimits, a-template, a-value, GrammarUnnamed, by-element, TypeUnnamed, by-type, by-field, TemplateUnnamed, by-template, by-parameter, by-node, TemplatesUnnamed, in-type, in-template, WrongClass, least-above-most, lowest-above-highest, past-unicode, Misfit, undeclared, unsuited, Mistyped, not-of-type}
+use Rattle.theorems.specs.Least.{First, Least, first-same, first-need, first-none, first-both, least-same, least-wide, least-need, least-both, rows-heads, Some, least-heads, least-tests, Offends, too-deep, fails, least-tree, Fails, failing, least-shallow}
+use Rattle.theorems.specs.Ranges.{AnyClass, class-rows, template-rows, standing-leading, nodes-standing, values-standing, looped-leading, sites-leading, typed-leading}
+use Rattle.theorems.specs.Offences.{WrongBlock, Laid, TemplateOver, over-8-parameters, over-200-deep, over-16-loops, OverLimits, a-template, a-value, WrongClass, least-above-most, lowest-above-highest, past-unicode, Misfit, undeclared, unsuited, Mistyped, not-of-type}
 
 -- a test fails where what it decides does not hold
-fails-iff : {P : Type 0} (b : Bool) → ((b ≡ true) ↔ P) → (b ≡ false) ↔ (P → ⊥)
+pub fails-iff : {P : Type 0} (b : Bool) → ((b ≡ true) ↔ P) → (b ≡ false) ↔ (P → ⊥)
 fails-iff true h = (λ e. absurd (true≢false e), λ n. absurd (n (h .0 refl)))
 fails-iff false h = (λ e p. false≢true (h .1 p), λ n. refl)
 
@@ -69,7 +69,7 @@ ones (suc n) p =
     (subst (InRow (λ p q. q ≡ p + 1) n (p + 1)) (let z : p + 1 + n ≡ p + suc n = omega arith in z) (ones n (p + 1)))
 
 -- a test of every record in a row
-least-row : {Thing : ℕ → ℕ → Type 0} {n p q : ℕ} → ((p q : ℕ) → Thing p q → q ≡ p + 1) → (b : ℕ → Bool) → InRow Thing n p q
+pub least-row : {Thing : ℕ → ℕ → Type 0} {n p q : ℕ} → ((p q : ℕ) → Thing p q → q ≡ p + 1) → (b : ℕ → Bool) → InRow Thing n p q
     → Least (λ x. In x (row n p) × (b x ≡ false)) p q (every (λ x. need (b x) x) (row n p))
 unfolding row
 least-row h b r = least-tests (λ p q a. let e = h p q a in omega arith) b (rows-heads (λ q. 1) h r)
@@ -137,7 +137,7 @@ over-value : (v : List ℕ) (q : ℕ) → OverLimits (Answers.value v) q → Off
 unfolding deepest
 over-value v q (a-value u d w b l) = too-deep d w b l
 
-at-itself : (o : Option ℕ) → at (λ w. w) o ≡ o
+pub at-itself : (o : Option ℕ) → at (λ w. w) o ≡ o
 unfolding at
 at-itself none = refl
 at-itself (some w) = refl
@@ -156,114 +156,8 @@ first-over (Answers.value v) w h =
     (first-same (λ q. (value-over v q, over-value v q)) (least-tree (values-standing v) (λ w. true) deepest 0 0 (h .end) (refl, h .value) .first))
 
 -- after it no node is over 200 deep
-node-shallow : (t : List ℕ) → templatesLimits t ≡ none → (p : ℕ) → In p (templates t) → (d q : ℕ) → Below (nodesBelow t) (body t p) d q → d < deepest
+pub node-shallow : (t : List ℕ) → templatesLimits t ≡ none → (p : ℕ) → In p (templates t) → (d q : ℕ) → Below (nodesBelow t) (body t p) d q → d < deepest
 node-shallow t l p i = not-deep t p (limits-exactly t .0 l p i)
-
--- 5. Of a production: its elements' tests
-abbrev ElementIn : List ℕ → ℕ → ℕ → Type 0
-ElementIn g p q = In q (elementHeads g p) × (elementNamed g (elementAt g q) ≡ false)
-
-unnamed-element : (g : List ℕ) (q : ℕ) → GrammarUnnamed g q → Some (productions g) (ElementIn g) q
-unnamed-element g q (by-element p e i j n) = (p, i, (j, fails-iff _ (element-names g (elementAt g e)) .1 n))
-
-element-unnamed : (g : List ℕ) (q : ℕ) → Some (productions g) (ElementIn g) q → GrammarUnnamed g q
-element-unnamed g q (p, i, (j, b)) = by-element p q i j (fails-iff _ (element-names g (elementAt g q)) .0 b)
-
-least-elements : (g : List ℕ) (p q : ℕ) → AnyProduction g p q
-    → Least (ElementIn g p) p q (every (λ e. need (elementNamed g (elementAt g e)) e) (elementHeads g p))
-unfolding elementHeads
-least-elements g p q (n, a) =
-    least-wide (omega arith) (omega arith)
-    (least-tests (λ p q. element-grows) (λ e. elementNamed g (elementAt g e)) (rows-heads (elementSize g) (λ p q. element-size) (a .elements)))
-
-pub first-grammar-unnamed : (g : List ℕ) → WellSized g → GrammarLaid g → First (GrammarUnnamed g) (grammarNames g)
-unfolding grammarNames
-first-grammar-unnamed g w h =
-    first-same (λ q. (element-unnamed g q, unnamed-element g q)) (least-heads (ElementIn g) _ (λ p q i. least-elements g p q) (production-rows w h) .first)
-
--- of a type: its own test, and then its fields'
-abbrev TypeIn : List ℕ → List ℕ → ℕ → ℕ → ℕ → Type 0
-TypeIn g t n p q = ((q ≡ p) × (typeNamed g t (typeAt t p) ≡ false)) ⊎ (In q (fieldHeads t p) × (ltb (fieldB t q) n ≡ false))
-
-type-unnamed : (g t : List ℕ) (n p q : ℕ) → TypeIn g t n p q → TypeUnnamed g t n p q
-type-unnamed g t n p q (inl (e, b)) = subst (TypeUnnamed g t n p) (sym e) (by-type (fails-iff _ (type-names g t (typeAt t p)) .0 b))
-type-unnamed g t n p q (inr (i, b)) = by-field q i (ltb-false _ _ b)
-
-unnamed-type : (g t : List ℕ) (n p q : ℕ) → TypeUnnamed g t n p q → TypeIn g t n p q
-unnamed-type g t n p q (by-type b) = inl (refl, fails-iff _ (type-names g t (typeAt t p)) .1 b)
-unnamed-type g t n p q (by-field f i l) = inr (i, le-ltb _ _ l)
-
-least-type : (g t : List ℕ) (n p q : ℕ) → TypeAt t p q → Least (TypeUnnamed g t n p) p q (typeNames g t (n, p))
-unfolding typeNames fieldHeads
-least-type g t n p q a =
-    least-same (λ q. (type-unnamed g t n p q, unnamed-type g t n p q))
-    (least-both (least-need _ p) (least-row (λ p q f. f .end) (λ f. ltb (fieldB t f) n) (fields-row a)))
-
-numbered-leading : (n : ℕ) (ps : List ℕ) → Leading {A = ℕ × ℕ} (λ x. x .1) (numbered n ps) ps
-unfolding numbered
-numbered-leading n [] = stops []
-numbered-leading n (p ∷ ps) = goes-on (n, p) (numbered (suc n) ps) p ps refl (numbered-leading (suc n) ps)
-
-in-numbered : (m : ℕ) (ps : List ℕ) {x : ℕ × ℕ} → In x (numbered m ps) → (j : ℕ) × (x .0 ≡ m + j) × (nth ps j ≡ some (x .1))
-unfolding numbered nth
-in-numbered m (p ∷ ps) (here xs) = (0, omega arith, refl)
-in-numbered m (p ∷ ps) (later y xs i) = let r = in-numbered (suc m) ps i in (suc (r .0), omega arith, r .2)
-
-least-types : (g t : List ℕ) → WellSized t → (h : TemplatesLaid t)
-    → Least (Some (numbered 0 (types t)) (λ x. TypeUnnamed g t (x .0) (x .1))) 0 (h .middle) (every (typeNames g t) (numbered 0 (types t)))
-least-types g t w h =
-    least-every (λ x. TypeUnnamed g t (x .0) (x .1)) (typeNames g t)
-    (λ x lo hi i a. subst (λ (p : ℕ). Least (TypeUnnamed g t (x .0) p) lo hi (typeNames g t (x .0, p))) (sym (a .0)) (least-type g t (x .0) lo hi (a .1)))
-    (rows-leading (λ p lo hi a. least-type g t 0 lo hi (a .1) .ordered) (numbered-leading 0 (types t)) (type-rows w h))
-
--- of a template: its own test, its parameters' and its nodes'
-abbrev TemplateIn : List ℕ → List ℕ → ℕ → ℕ → Type 0
-TemplateIn g t p q =
-    ((q ≡ p) × (nonterminalExists g (fieldB t p) ≡ false))
-    ⊎ ((In q (parameterHeads t p) × (exists (type t (fieldB t q)) ≡ false)) ⊎ Fails (nodeNamed g t) (nodesBelow t) (λ w. w) (body t p) q)
-
-template-unnamed : (g t : List ℕ) (p q : ℕ) → TemplateIn g t p q → TemplateUnnamed g t p q
-unfolding nodeNamed
-template-unnamed g t p q (inl (e, b)) = subst (TemplateUnnamed g t p) (sym e) (by-template (fails-iff _ (nonterminal-iff g _) .0 b))
-template-unnamed g t p q (inr (inl (i, b))) = by-parameter q i (fails-iff _ (exists-iff _) .0 b)
-template-unnamed g t p q (inr (inr (failing d y b e))) = by-node d y b (fails-iff _ (node-names g t (formOf t y) (fieldB t y)) .0 e)
-
-unnamed-template : (g t : List ℕ) (p q : ℕ) → TemplateUnnamed g t p q → TemplateIn g t p q
-unfolding nodeNamed
-unnamed-template g t p q (by-template b) = inl (refl, fails-iff _ (nonterminal-iff g _) .1 b)
-unnamed-template g t p q (by-parameter a i b) = inr (inl (i, fails-iff _ (exists-iff _) .1 b))
-unnamed-template g t p q (by-node d y b n) = inr (inr (failing d y b (fails-iff _ (node-names g t (formOf t y) (fieldB t y)) .1 n)))
-
-least-template : (g t : List ℕ) → templatesLimits t ≡ none → (p q : ℕ) → In p (templates t) → TemplateAt t p q
-    → Least (TemplateUnnamed g t p) p q (templateNames g t p)
-unfolding templateNames parameterHeads body
-least-template g t l p q i a =
-    least-same (λ q. (template-unnamed g t p q, unnamed-template g t p q))
-    (least-both (least-need _ p)
-    (least-both (least-row (λ p q f. f .end) (λ a. exists (type t (fieldB t a))) (a .parameters))
-    (rw (← at-itself (tree (nodeNamed g t) (nodesBelow t) deepest (body t p)))
-    (least-shallow (nodes-standing t) (nodeNamed g t) deepest (body t p) (p + 1 + fieldA t p) q (refl, a .body) (node-shallow t l p i)))))
-
-abbrev UnnamedIn : List ℕ → List ℕ → ℕ → Type 0
-UnnamedIn g t q = Some (numbered 0 (types t)) (λ x. TypeUnnamed g t (x .0) (x .1)) q ⊎ Some (templates t) (TemplateUnnamed g t) q
-
-templates-unnamed : (g t : List ℕ) (q : ℕ) → UnnamedIn g t q → TemplatesUnnamed g t q
-unfolding type
-templates-unnamed g t q (inl ((n, p), i, o)) = let r = in-numbered 0 (types t) i in
-    in-type n p q (rw (let z : n ≡ r .0 = omega arith in z) (r .2)) o
-templates-unnamed g t q (inr (p, i, o)) = in-template p q i o
-
-unnamed-templates : (g t : List ℕ) (q : ℕ) → TemplatesUnnamed g t q → UnnamedIn g t q
-unfolding type
-unnamed-templates g t q (in-type n p r e o) =
-    inl ((n, p), subst (λ (m : ℕ). In (m, p) (numbered 0 (types t))) (let z : 0 + n ≡ n = omega arith in z) (numbered-in 0 (types t) n p e), o)
-unnamed-templates g t q (in-template p r i o) = inr (p, i, o)
-
-pub first-templates-unnamed : (g t : List ℕ) → WellSized t → TemplatesLaid t → templatesLimits t ≡ none → First (TemplatesUnnamed g t) (templatesNames g t)
-unfolding templatesNames
-first-templates-unnamed g t w h l =
-    first-same (λ q. (templates-unnamed g t q, unnamed-templates g t q))
-    (least-both (least-types g t w h) (least-heads (TemplateUnnamed g t) (templateNames g t) (least-template g t l) (template-rows w h)) .first)
 
 -- 6. Of a class: its own test, and then its ranges'
 abbrev ClassIn : List ℕ → ℕ → ℕ → Type 0
@@ -292,11 +186,25 @@ class-wrong g p q (past-unicode r i l) = inr (i, rw (lt-leb (highest g r) 0x10ff
 least-class : (g : List ℕ) (p q : ℕ) → AnyClass g p q → Least (WrongClass g p) p q (classBounds g p)
 unfolding classBounds ranges
 least-class g p q (n, a) =
-    least-same (λ q. (wrong-class g p q, class-wrong g p q)) (least-both (least-need _ p) (least-row (λ p q r. r .end) (rangeRight g) (a .ranges)))
+    least-same (λ q. (wrong-class g p q, class-wrong g p q)) (least-both (least-need _ p) (least-row (λ p q r. r .end) (rangeRight g) (ranges-row a)))
 
-pub first-class : (g : List ℕ) → WellSized g → GrammarLaid g → First (Some (classes g) (WrongClass g)) (grammarClasses g)
+-- an escaped class has no bounds
+abbrev pub PlainWrong : List ℕ → ℕ → ℕ → Type 0
+PlainWrong g p q = (kindOf g p ≡ 1) × WrongClass g p q
+
+least-plain : (g : List ℕ) (p q : ℕ) → In p (classes g) → AnyClass g p q → Least (PlainWrong g p) p q (boundsRight g p)
+least-plain g p q i a = elim (class-in g i) [
+  | inl k ↦ rw (plain-bounds g p k) (least-same (λ q. (λ o. (k, o), λ o. o .1)) (least-class g p q a))
+  | inr k ↦ rw (escaped-bounds g p k) (record {
+    ordered = let l = class-spans (a .1) .grows in omega arith;
+    inside = λ q o. absurd (let z = o .0 in omega arith);
+    first = first-none (λ q o. let z = o .0 in omega arith);
+  })
+]
+
+pub first-class : (g : List ℕ) → WellSized g → GrammarLaid g → First (Some (classes g) (PlainWrong g)) (grammarClasses g)
 unfolding grammarClasses
-first-class g w h = least-heads (WrongClass g) (classBounds g) (λ p q i. least-class g p q) (class-rows w h) .first
+first-class g w h = least-heads (PlainWrong g) (boundsRight g) (least-plain g) (class-rows w h) .first
 
 -- 7. That a type is declared, and then each template's tree
 abbrev MisfitIn : List ℕ → List ℕ → ℕ → Type 0

@@ -23,8 +23,9 @@ use Rattle.theorems.specs.Streams.{WellSized, length-exactly}
 use Rattle.theorems.specs.LaidOut.{GrammarLaid, TemplatesLaid}
 use Rattle.theorems.specs.TypingExactly.{declared-exactly}
 use Rattle.theorems.specs.Least.{FirstBy, First, first-same, first-none, first-need, first-both, Some, some-split, in-none}
-use Rattle.theorems.specs.Offences.{WrongBlock, Laid, OverLimits, GrammarUnnamed, TemplatesUnnamed, WrongClass, Misfit, Mistyped, lent, Offence, wrong-length, wrong-block, wrong-layout, over-limits, grammar-unnamed, templates-unnamed, wrong-class, misfit, mistyped, short-scratch}
-use Rattle.theorems.specs.FirstOffending.{first-length, first-block, laid-exactly, first-layout, first-over, first-grammar-unnamed, first-templates-unnamed, first-class, first-misfit, first-mistyped}
+use Rattle.theorems.specs.Offences.{WrongBlock, Laid, OverLimits, GrammarUnnamed, TemplatesUnnamed, Misfit, Mistyped, lent, Offence, wrong-length, wrong-block, wrong-layout, over-limits, grammar-unnamed, templates-unnamed, wrong-class, misfit, mistyped, short-scratch}
+use Rattle.theorems.specs.FirstUnnamed.{first-grammar-unnamed, first-templates-unnamed}
+use Rattle.theorems.specs.FirstOffending.{first-length, first-block, laid-exactly, first-layout, first-over, PlainWrong, first-class, first-misfit, first-mistyped}
 
 -- The order of the refusals: "in this order, each over grammar, templates, value before the next", and in a stream the first head. A kind and a place:
 abbrev pub Earlier : ℕ × ℕ → ℕ × ℕ → Type 0
@@ -146,11 +147,11 @@ module _ (g t : List ℕ) (more : List Stream) (scratch : Option (List ℕ)) whe
       from k p (grammar-unnamed q o) = inl (refl, o)
       from k p (templates-unnamed q o) = inr (refl, o)
 
-  by-6 : (k p : ℕ) → ((k ≡ 1) × Some (classes g) (WrongClass g) p) ↔ Offence g t more scratch 6 k p
-  by-6 k p = (λ (e, (c, i, o)). rw e (wrong-class c p i o), from k p)
+  by-6 : (k p : ℕ) → ((k ≡ 1) × Some (classes g) (PlainWrong g) p) ↔ Offence g t more scratch 6 k p
+  by-6 k p = (λ (e, (c, i, o)). rw e (wrong-class c p i (o .0) (o .1)), from k p)
     where
-      from : (k p : ℕ) → Offence g t more scratch 6 k p → (k ≡ 1) × Some (classes g) (WrongClass g) p
-      from k p (wrong-class c q i o) = (refl, (c, i, o))
+      from : (k p : ℕ) → Offence g t more scratch 6 k p → (k ≡ 1) × Some (classes g) (PlainWrong g) p
+      from k p (wrong-class c q i k′ o) = (refl, (c, i, (k′, o)))
 
   by-7 : (k p : ℕ) → ((k ≡ 2) × Misfit g t p) ↔ Offence g t more scratch 7 k p
   by-7 k p = (λ (e, o). rw e (misfit p o), from k p)
@@ -166,7 +167,7 @@ module _ (g t : List ℕ) (more : List Stream) (scratch : Option (List ℕ)) whe
   numbers (over-limits s q i o) = (omega arith, omega arith)
   numbers (grammar-unnamed q o) = (omega arith, omega arith)
   numbers (templates-unnamed q o) = (omega arith, omega arith)
-  numbers (wrong-class p q i o) = (omega arith, omega arith)
+  numbers (wrong-class p q i k o) = (omega arith, omega arith)
   numbers (misfit q o) = (omega arith, omega arith)
   numbers (mistyped v q i o) = (omega arith, omega arith)
   numbers (short-scratch xs e l) = (omega arith, omega arith)
@@ -243,7 +244,7 @@ to-7 g t (wrong-layout s i n) = omega arith
 to-7 g t (over-limits s q i o) = omega arith
 to-7 g t (grammar-unnamed q o) = omega arith
 to-7 g t (templates-unnamed q o) = omega arith
-to-7 g t (wrong-class p q i o) = omega arith
+to-7 g t (wrong-class p q i k o) = omega arith
 to-7 g t (misfit q o) = omega arith
 to-7 g t (mistyped v q i o) = absurd (in-none i)
 to-7 g t (short-scratch xs e l) = absurd (Option·none-ne-some xs e)

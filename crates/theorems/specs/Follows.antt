@@ -14,7 +14,8 @@ use Rattle.rules.specs.Value.{valueSize, children, valuesBelow}
 use Rattle.theorems.specs.Streams.{WellSized}
 use Rattle.theorems.specs.Readings.{ElementIs, element-is}
 use Rattle.theorems.specs.LaidOut.{InRow, no-thing, one-thing, Numbered, no-more, one-more, RangeAt, ClassAt, ElementAt, ProductionAt, GrammarLaid, NamingAt, TypeAt, PathAt, NodeAt, NodesAt, no-node, one-node, TemplateAt, TemplatesLaid, ValueAt}
-use Rattle.theorems.specs.Heads.{each-numbered, range-size, class-size, element-size, production-size, naming-size, type-size, template-size, path-size, node-size, value-size, classes-are, productions-are, types-are, templates-are}
+use Rattle.theorems.specs.Sizes.{each-numbered, range-size, class-number, ranges-row, class-size, element-size, production-size, naming-size, type-size, template-size, path-size, node-size, value-size}
+use Rattle.theorems.specs.Heads.{classes-are, productions-are, types-are, templates-are}
 use Rattle.theorems.specs.Ranges.{AnyClass, AnyProduction, nodes-row, values-row}
 
 -- the things from p up to q by their heads: the first begins at p, each other where the one before it ends, and the last ends at q
@@ -80,12 +81,12 @@ grammar-follows g w h = record {
   class-by-order = λ n. refl;
   production-by-order = λ n. refl;
   class-numbered = λ n p e.
-      numbered-nth (fieldA g) (grammarSize g) (λ n p q a. a .number) (λ n p q. class-size) (h .classes) n p
+      numbered-nth (fieldA g) (grammarSize g) (λ n p q. class-number) (λ n p q. class-size) (h .classes) n p
       (subst (λ (l : List ℕ). nth l n ≡ some p) (classes-are g w h) e) ∙ omega arith;
   production-numbered = λ n p e.
       numbered-nth (fieldA g) (grammarSize g) (λ n p q a. a .number) (λ n p q. production-size) (h .productions) n p
       (subst (λ (l : List ℕ). nth l n ≡ some p) (productions-are g w h) e) ∙ omega arith;
-  all-ranges = λ n p q a. row-of (λ p q. range-size) (a .ranges);
+  all-ranges = λ n p q a. row-of (λ p q. range-size) (ranges-row a);
   all-elements = λ n p q a. heads-of (elementSize g) (λ p q. element-size) (a .elements);
   elements-are = λ n p q a. elements-of (heads-of (elementSize g) (λ p q. element-size) (a .elements));
 }

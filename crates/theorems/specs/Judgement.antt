@@ -10,7 +10,8 @@ use Rattle.rules.specs.Value.{children}
 use Rattle.rules.specs.declared.Form.the-variants.{Build, Literal, Place, Expand, If, For, Sequence}
 use Rattle.rules.specs.declared.Position.{Position}
 use Rattle.rules.specs.declared.Position.the-variants.{Class, Nonterminal, Repetition, Item}
-use Rattle.theorems.specs.Lexemes.{Lexeme}
+use Rattle.theorems.specs.Readings.{Takes}
+use Rattle.theorems.specs.Lexemes.{PlainLexeme, Lexeme}
 use Rattle.theorems.specs.Children.{Asks}
 
 -- 001's `T ⊢ texpr : τ`: the variable's type, then field by field
@@ -36,8 +37,9 @@ mutual
         → Fills g t vars (elements g q) (nodes t p) → Suits g t vars p (Nonterminal n)
     -- a morphem class's: "a literal that is a lexeme"
     by-literal : (vars : List ℕ) (p c : ℕ) → formOf t p ≡ Literal → Lexeme g c (textOf t (fieldB t p) p) → Suits g t vars p (Class c)
-    -- [expr]: "a place whose path has type text of that very class"
-    by-place : (vars : List ℕ) (p c ty : ℕ) → formOf t p ≡ Place → PathTyped t vars (path p) ty → typeOf t ty ≡ text c → Suits g t vars p (Class c)
+    -- [expr]: "a place whose path has type text of that very class"; 02 c, of an escaped class: "A place there takes text of the plain class"
+    by-place : (vars : List ℕ) (p c d ty : ℕ) → formOf t p ≡ Place → PathTyped t vars (path p) ty → typeOf t ty ≡ text d → Takes g c d
+        → Suits g t vars p (Class c)
     -- [expand]: "an expand of a template with that nonterminal and argument types equal by number"
     by-expand : (vars : List ℕ) (p n q : ℕ) → formOf t p ≡ Expand → template t (fieldB t p) ≡ some q → fieldB t q ≡ n
         → Arguments t vars (paths t p) (parameters t q) → Suits g t vars p (Nonterminal n)
@@ -70,9 +72,9 @@ pub record Declared (t : List ℕ) (ty : ℕ) : Type 0 where
 
 mutual
   -- "A value is of type text if it is a 1 whose text is a lexeme of the class; of yes/no if a 2; of a list if a 3 whose children are all of its item type;
-  -- of a record if a 4 with one child for each field, in order, of that field's type."
+  -- of a record if a 4 with one child for each field, in order, of that field's type." A text type names a plain class.
   pub data OfType (g t v : List ℕ) : ℕ → ℕ → Type 0 where
-    of-text : (ty w c : ℕ) → typeOf t ty ≡ text c → kindOf v w ≡ 1 → Lexeme g c (textOf v (fieldB v w) w) → OfType g t v ty w
+    of-text : (ty w c : ℕ) → typeOf t ty ≡ text c → kindOf v w ≡ 1 → PlainLexeme g c (textOf v (fieldB v w) w) → OfType g t v ty w
     of-yes-no : (ty w : ℕ) → typeOf t ty ≡ yes-no → kindOf v w ≡ 2 → OfType g t v ty w
     of-list : (ty w item : ℕ) → typeOf t ty ≡ list item → kindOf v w ≡ 3 → AllOf g t v item (children v w) → OfType g t v ty w
     of-record : (ty w : ℕ) (tys : List ℕ) → typeOf t ty ≡ fields tys → kindOf v w ≡ 4 → EachOf g t v tys (children v w) → OfType g t v ty w

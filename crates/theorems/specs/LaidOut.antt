@@ -32,10 +32,11 @@ pub record RangeAt (g : List ℕ) (p q : ℕ) : Type 0 where
   pub unused : byteOf g p 7 ≡ 0
   pub end : q ≡ p + 1
 
-pub record ClassAt (g : List ℕ) (n p q : ℕ) : Type 0 where
-  pub kind : kindOf g p ≡ 1
-  pub number : fieldA g p ≡ n
-  pub ranges : InRow (RangeAt g) (fieldD g p) (p + 1) q
+-- "1 class: a number (from 0, consecutive), b least and c most characters, d count of ranges", which is a plain one; 02 c: "Grammar record 5 declares
+-- an escaped class: a its number in the common row of classes, b an earlier plain class". It has no ranges.
+pub data ClassAt (g : List ℕ) (n p q : ℕ) : Type 0 where
+  a-plain : kindOf g p ≡ 1 → fieldA g p ≡ n → InRow (RangeAt g) (fieldD g p) (p + 1) q → ClassAt g n p q
+  an-escaped : kindOf g p ≡ 5 → fieldA g p ≡ n → fieldC g p ≡ 0 → fieldD g p ≡ 0 → q ≡ p + 1 → ClassAt g n p q
 
 pub record ElementHead (g : List ℕ) (p : ℕ) : Type 0 where
   pub kind : kindOf g p ≡ 4

@@ -1,7 +1,7 @@
 -- Refusal 3, exactly when: the readers of a layout find an end exactly where the records lay a thing out, and the check finds no fault exactly
 -- where a stream is laid out.
 use mathlib.Core.Path.{_≡_, refl, sym, _∙_, ap, subst}
-use mathlib.Core.Logic.{_↔_, Iff·rfl}
+use mathlib.Core.Logic.{_↔_, Iff·rfl, inl, inr}
 use Prim.Native.Nat.{ℕ, zero, suc, _+_, _-_, _≤_, _<_}
 use mathlib.Core.List.{List, [], _∷_, _++_, append-nil}
 use mathlib.Core.Bool.{Bool, true, false, _||_, false≢true}
@@ -13,15 +13,18 @@ use lib.Seq.{getD-take, getD-drop}
 use lib.Dec.{eqb}
 use borrow.Author.Tests.{eqb-true, eqb-false, eq-eqb, ne-eqb}
 use Rattle.rules.specs.Faults.{onFound, onlyIf}
-use Rattle.rules.specs.Records.{base, recordCount, byteOf, kindOf, fieldA, fieldB, fieldC, fieldD, recordsFrom, paddingOf, units, zeros}
-use Rattle.rules.specs.Grammar.{textLength}
+use Rattle.rules.specs.Records.{base, recordCount, byteOf, kindOf, fieldA, fieldB, fieldC, fieldD, recordsFrom, paddingOf, units, zeros, ofKind}
+use Rattle.rules.specs.Grammar.{isClass, textLength}
 use Rattle.rules.specs.Templates.{formNumbered, formOf}
-use Rattle.rules.specs.Layout.{thenRead, inRow, whileKind, textEnd, rangeEnd, classEnd, elementEnd, productionEnd, grammarEnd, namingEnd, typeFormEnd, typeEnd, pathEnd, formEnd, sized, nodeEnd, templateEnd, templatesEnd, childrenEnd, kindEnd, valueEnd, tailRight, layoutFault, grammarLayout, templatesLayout, valueLayout}
+use Rattle.rules.specs.Layout.{thenRead, inRow, whileIs, textEnd, rangeEnd, plainEnd, escapedEnd, classEnd, elementEnd, productionEnd, grammarEnd, namingEnd, typeFormEnd, typeEnd, pathEnd, formEnd, sized, nodeEnd, templateEnd, templatesEnd, childrenEnd, kindEnd, valueEnd, tailRight, layoutFault, grammarLayout, templatesLayout, valueLayout}
 use Rattle.laws.specs.Faults.{need-iff, onFound-true, only-if-iff, and-iff, eqb-iff, leb-iff}
+use Rattle.laws.specs.Sorts.{class-kinds}
 use Rattle.theorems.specs.Streams.{WellSized}
 use Rattle.theorems.specs.LaidOut.{InRow, no-thing, one-thing, Numbered, no-more, one-more, Padded, Tail, RangeAt, ClassAt, ElementHead, ElementAt, ProductionAt, GrammarLaid, NamingAt, TypeAt, PathAt, NodeHead, NodeAt, NodesAt, TemplateAt, TemplatesLaid, ValueAt, ValuesAt, ValueLaid}
+use Rattle.theorems.specs.LaidOut.ClassAt.{a-plain, an-escaped}
 use Rattle.theorems.specs.LaidOut.ElementAt.{a-keyword, a-name, a-separated}
-use Rattle.theorems.specs.Heads.{by-equal, by-less, Spans, each-numbered, row-of-ones, row-grows, keyword-text, name-text, separator-text, naming-size, node-grows, nodes-grow, value-grows, values-grow, kind-after, class-spans, production-spans, type-spans, template-spans}
+use Rattle.theorems.specs.Sizes.{by-equal, by-less, each-numbered, row-of-ones, row-grows, keyword-text, name-text, separator-text, naming-size, node-grows, nodes-grow, value-grows, values-grow}
+use Rattle.theorems.specs.Heads.{Spans, Sorts, not-first, grammar-sorts, templates-sorts, kind-after, class-spans, production-spans, type-spans, template-spans}
 
 -- What a reader says when it finds an end
 
@@ -62,42 +65,46 @@ row-exactly : {Thing : ℕ → ℕ → Type 0} (one : ℕ → Option ℕ) → ((
     → (n p q : ℕ) → (inRow one n p ≡ some q) ↔ InRow Thing n p q
 row-exactly one f n p q = (row-from one (λ p q. f p q .0) n p q, row-to one (λ p q. f p q .1))
 
--- Things as long as their kind comes: `one` reads a thing whose kind is known
+-- Things as long as one of their sort comes: `one` reads a thing that is known to be of it
 
-module _ (s : List ℕ) (kind : ℕ) (one : ℕ → ℕ → Option ℕ) where
-  while-more : (k n p : ℕ) → kindOf s p ≡ kind → whileKind s kind one (suc k) n p ≡ thenRead (one n p) (whileKind s kind one k (suc n))
-  unfolding whileKind
-  while-more k n p e = rw (eq-eqb _ _ e, whileKind)
+module _ (is : ℕ → Bool) (one : ℕ → ℕ → Option ℕ) where
+  while-more : (k n p : ℕ) → is p ≡ true → whileIs is one (suc k) n p ≡ thenRead (one n p) (whileIs is one k (suc n))
+  unfolding whileIs
+  while-more k n p e = rw (e, whileIs)
 
-  while-stop : (k n p : ℕ) → (kindOf s p ≡ kind → ⊥) → whileKind s kind one k n p ≡ some p
-  unfolding whileKind
-  while-stop zero n p l = refl
-  while-stop (suc k) n p l = rw (ne-eqb _ _ l, whileKind)
+  while-stop : (k n p : ℕ) → is p ≡ false → whileIs is one k n p ≡ some p
+  unfolding whileIs
+  while-stop zero n p e = refl
+  while-stop (suc k) n p e = rw (e, whileIs)
 
   module _ {Thing : ℕ → ℕ → ℕ → Type 0} where
     none-read : (n p q : ℕ) → _≡_ {A = Option ℕ} (some p) (some q) → (m : ℕ) × Numbered Thing n m p q
     none-read n p q e = (0, subst (λ x. Numbered Thing n 0 p x) (Option·some-injective p q e) (no-more n p))
 
-    while-from : ((n p q : ℕ) → kindOf s p ≡ kind → one n p ≡ some q → Thing n p q)
-        → (k n p q : ℕ) → whileKind s kind one k n p ≡ some q → (m : ℕ) × Numbered Thing n m p q
-    while-from f zero n p q e = none-read n p q (unfold whileKind in e)
-    while-from f (suc k) n p q e = by-equal (kindOf s p) kind
-        (λ i. let h = then-iff (one n p) (whileKind s kind one k (suc n)) q .0 (sym (while-more k n p i) ∙ e) in
-        let r = while-from f k (suc n) (h .0) q (h .2) in
-        (suc (r .0), one-more n (r .0) p (h .0) q (f n p (h .0) i (h .1)) (r .1)))
-        (λ l. none-read n p q (sym (while-stop (suc k) n p l) ∙ e))
+    while-from : ((n p q : ℕ) → is p ≡ true → one n p ≡ some q → Thing n p q)
+        → (k n p q : ℕ) → whileIs is one k n p ≡ some q → (m : ℕ) × Numbered Thing n m p q
+    while-from f zero n p q e = none-read n p q (unfold whileIs in e)
+    while-from f (suc k) n p q e = go (is p) refl (while-from f k (suc n))
+      where
+        go : (b : Bool) → is p ≡ b → ((p q : ℕ) → whileIs is one k (suc n) p ≡ some q → (m : ℕ) × Numbered Thing (suc n) m p q)
+            → (m : ℕ) × Numbered Thing n m p q
+        go true i rest =
+            let h = then-iff (one n p) (whileIs is one k (suc n)) q .0 (sym (while-more k n p i) ∙ e) in
+            let r = rest (h .0) q (h .2) in
+            (suc (r .0), one-more n (r .0) p (h .0) q (f n p (h .0) i (h .1)) (r .1))
+        go false i rest = none-read n p q (sym (while-stop (suc k) n p i) ∙ e)
 
-    -- back: every thing ends within the stream, and what comes after the last is not of this kind
-    while-to : {size : ℕ → ℕ} → ((n p q : ℕ) → Thing n p q → Spans s size kind p q)
-        → ((n p q : ℕ) → Thing n p q → q ≤ recordCount s → one n p ≡ some q)
-        → {n m p q : ℕ} → Numbered Thing n m p q → q ≤ recordCount s → (kindOf s q ≡ kind → ⊥)
-        → (k : ℕ) → m ≤ k → whileKind s kind one k n p ≡ some q
+    -- back: every thing ends within the stream, and what comes after the last is not of this sort
+    while-to : {most : ℕ} {size : ℕ → ℕ} → ((n p q : ℕ) → Thing n p q → Spans is size p q)
+        → ((n p q : ℕ) → Thing n p q → q ≤ most → one n p ≡ some q)
+        → {n m p q : ℕ} → Numbered Thing n m p q → q ≤ most → is q ≡ false
+        → (k : ℕ) → m ≤ k → whileIs is one k n p ≡ some q
     while-to a f (no-more n p) l o k j = while-stop k n p o
     while-to a f (one-more n m p q r x xs) l o zero j = absurd (omega arith)
     while-to a f (one-more n m p q r x xs) l o (suc k) j =
         let i = row-grows (λ p q h. h .grows) (each-numbered a xs) in
-        while-more k n p (a n p q x .kind-is)
-        ∙ then-iff (one n p) (whileKind s kind one k (suc n)) r .1 (q, f n p q x (omega arith), while-to a f xs l o k (omega arith))
+        while-more k n p (a n p q x .is-one)
+        ∙ then-iff (one n p) (whileIs is one k (suc n)) r .1 (q, f n p q x (omega arith), while-to a f xs l o k (omega arith))
 
 -- Zero bytes
 
@@ -172,12 +179,26 @@ range-exactly g p q = (
 ranges-exactly : (g : List ℕ) (n p q : ℕ) → (inRow (rangeEnd g) n p ≡ some q) ↔ InRow (RangeAt g) n p q
 ranges-exactly g = row-exactly (rangeEnd g) (range-exactly g)
 
-class-exactly : (g : List ℕ) (n p q : ℕ) → ((kindOf g p ≡ 1) × (classEnd g n p ≡ some q)) ↔ ClassAt g n p q
+plain-exactly : (g : List ℕ) (n p q : ℕ) → (plainEnd g n p ≡ some q) ↔ ((fieldA g p ≡ n) × InRow (RangeAt g) (fieldD g p) (p + 1) q)
+unfolding plainEnd
+plain-exactly g n p q = simp (only-if-then, eqb-iff, ranges-exactly) Iff·rfl
+
+escaped-exactly : (g : List ℕ) (n p q : ℕ)
+    → (escapedEnd g n p ≡ some q) ↔ (((fieldA g p ≡ n) × ((fieldC g p ≡ 0) × (fieldD g p ≡ 0))) × (p + 1 ≡ q))
+unfolding escapedEnd
+escaped-exactly g n p q = simp (only-if-iff, and-iff, eqb-iff) Iff·rfl
+
+class-from : (g : List ℕ) (n p q : ℕ) → isClass g p ≡ true → classEnd g n p ≡ some q → ClassAt g n p q
 unfolding classEnd
-class-exactly g n p q = (
-  λ e. let h = simp (only-if-then, eqb-iff, ranges-exactly) at (e .1) in record { kind = e .0; number = h .0; ranges = h .1 },
-  λ r. (r .kind, simp (only-if-then, eqb-iff, ranges-exactly) (r .number, r .ranges)),
-)
+class-from g n p q i e = elim (class-kinds g p i) [
+  | inl k ↦ let h = plain-exactly g n p q .0 (rw (ne-eqb (kindOf g p) 5 (λ z. omega arith)) at e) in a-plain k (h .0) (h .1)
+  | inr k ↦ let h = escaped-exactly g n p q .0 (rw (eq-eqb (kindOf g p) 5 k) at e) in an-escaped k (h .0 .0) (h .0 .1 .0) (h .0 .1 .1) (sym (h .1))
+]
+
+class-to : {g : List ℕ} {n p q : ℕ} → ClassAt g n p q → classEnd g n p ≡ some q
+unfolding classEnd
+class-to {g} {n} {p} {q} (a-plain k a rs) = rw (ne-eqb (kindOf g p) 5 (λ z. omega arith)) (plain-exactly g n p q .1 (a, rs))
+class-to {g} {n} {p} {q} (an-escaped k a c d e) = rw (eq-eqb (kindOf g p) 5 k) (escaped-exactly g n p q .1 ((a, (c, d)), sym e))
 
 -- the end of a text of n bytes; that of none is where it begins
 text-exactly : (s : List ℕ) (n p q : ℕ) → (textEnd s n p ≡ some q) ↔ (Padded s n p × (p + 1 + units n ≡ q))
@@ -465,36 +486,31 @@ fault-iff : (s : List ℕ) (end : Option ℕ) → (layoutFault s end ≡ none) �
 unfolding layoutFault
 fault-iff s end = simp (need-iff, onFound-true, tail-exactly) Iff·rfl
 
--- a row of kind 1, then a row of kind 3
-two-rows-from : {A B : ℕ → ℕ → ℕ → Type 0} (s : List ℕ) (one other : ℕ → ℕ → Option ℕ)
-    → ((n p q : ℕ) → kindOf s p ≡ 1 → one n p ≡ some q → A n p q) → ((n p q : ℕ) → kindOf s p ≡ 3 → other n p ≡ some q → B n p q)
-    → (e : ℕ) → thenRead (whileKind s 1 one (recordCount s) 0 0) (whileKind s 3 other (recordCount s) 0) ≡ some e
+-- a row of one sort, then a row of another
+two-rows-from : {A B : ℕ → ℕ → ℕ → Type 0} (s : List ℕ) (is are : ℕ → Bool) (one other : ℕ → ℕ → Option ℕ)
+    → ((n p q : ℕ) → is p ≡ true → one n p ≡ some q → A n p q) → ((n p q : ℕ) → are p ≡ true → other n p ≡ some q → B n p q)
+    → (e : ℕ) → thenRead (whileIs is one (recordCount s) 0 0) (whileIs are other (recordCount s) 0) ≡ some e
     → (m : ℕ) × (n : ℕ) × (q : ℕ) × Numbered A 0 m 0 q × Numbered B 0 n q e
-two-rows-from s one other f g e i =
-    let h = then-iff _ (whileKind s 3 other (recordCount s) 0) e .0 i in
-    let a = while-from s 1 one f (recordCount s) 0 0 (h .0) (h .1) in
-    let b = while-from s 3 other g (recordCount s) 0 (h .0) e (h .2) in
+two-rows-from s is are one other f g e i =
+    let h = then-iff _ (whileIs are other (recordCount s) 0) e .0 i in
+    let a = while-from is one f (recordCount s) 0 0 (h .0) (h .1) in
+    let b = while-from are other g (recordCount s) 0 (h .0) e (h .2) in
     (a .0, b .0, h .0, a .1, b .1)
 
--- after the first row comes a thing of kind 3 or a zero record, so nothing of kind 1
-not-first : {s : List ℕ} {size : ℕ → ℕ} {n p q : ℕ} → InRow (Spans s size 3) n p q → kindOf s q ≡ 0 → kindOf s p ≡ 1 → ⊥
-not-first (no-thing p) z k = omega arith
-not-first (one-thing n p q r x xs) z k = let y = x .kind-is in omega arith
-
-two-rows-to : {A B : ℕ → ℕ → ℕ → Type 0} {s : List ℕ} {size : ℕ → ℕ} {m n q e : ℕ} (one other : ℕ → ℕ → Option ℕ)
-    → ((n p q : ℕ) → A n p q → Spans s size 1 p q) → ((n p q : ℕ) → B n p q → Spans s size 3 p q)
+two-rows-to : {A B : ℕ → ℕ → ℕ → Type 0} {s : List ℕ} {is are : ℕ → Bool} {size : ℕ → ℕ} {m n q e : ℕ} (one other : ℕ → ℕ → Option ℕ) → Sorts s is are
+    → ((n p q : ℕ) → A n p q → Spans is size p q) → ((n p q : ℕ) → B n p q → Spans are size p q)
     → ((n p q : ℕ) → A n p q → q ≤ recordCount s → one n p ≡ some q) → ((n p q : ℕ) → B n p q → q ≤ recordCount s → other n p ≡ some q)
     → WellSized s → Tail s e → Numbered A 0 m 0 q → Numbered B 0 n q e
-    → thenRead (whileKind s 1 one (recordCount s) 0 0) (whileKind s 3 other (recordCount s) 0) ≡ some e
-two-rows-to {s = s} {size} {m} {n} {q} {e} one other a b f g w t x y =
+    → thenRead (whileIs is one (recordCount s) 0 0) (whileIs are other (recordCount s) 0) ≡ some e
+two-rows-to {s = s} {is} {are} {size} {m} {n} {q} {e} one other o a b f g w t x y =
     let i = row-grows (λ p q h. h .grows) (each-numbered a x) in
     let j = row-grows (λ p q h. h .grows) (each-numbered b y) in
     let l = t .inside in
     let z = kind-after w t in
-    then-iff _ (whileKind s 3 other (recordCount s) 0) e .1 (
+    then-iff _ (whileIs are other (recordCount s) 0) e .1 (
       q,
-      while-to s 1 one a f x (omega arith) (not-first (each-numbered b y) z) (recordCount s) (omega arith),
-      while-to s 3 other b g y l (λ k. omega arith) (recordCount s) (omega arith),
+      while-to is one a f x (omega arith) (not-first o (each-numbered b y) z) (recordCount s) (omega arith),
+      while-to are other b g y l (o .zero-second e z) (recordCount s) (omega arith),
     )
 
 -- 3: "The records break a layout above (place 0)." The check finds no fault exactly if they don't:
@@ -502,13 +518,13 @@ pub grammar-laid-exactly : (g : List ℕ) → WellSized g → (grammarLayout g �
 unfolding grammarLayout grammarEnd
 grammar-laid-exactly g w = (
   λ e. let h = fault-iff g _ .0 e in
-      let r = two-rows-from g (classEnd g) (productionEnd g)
-      (λ n p q k e. class-exactly g n p q .0 (k, e)) (λ n p q k e. production-exactly g n p q .0 (k, e)) (h .0) (h .1) in
+      let r = two-rows-from g (isClass g) (ofKind g 3) (classEnd g) (productionEnd g)
+      (class-from g) (λ n p q k e. production-exactly g n p q .0 (eqb-true _ 3 k, e)) (h .0) (h .1) in
       record { class-count = r .0; production-count = r .1; middle = r .2; end = h .0; classes = r .3; productions = r .4; tail = h .2 },
   λ h. fault-iff g _ .1 (
     h .end,
-    two-rows-to (classEnd g) (productionEnd g) (λ n p q. class-spans) (λ n p q. production-spans)
-        (λ n p q x l. class-exactly g n p q .1 x .1) (λ n p q x l. production-exactly g n p q .1 x .1) w (h .tail) (h .classes) (h .productions),
+    two-rows-to (classEnd g) (productionEnd g) (grammar-sorts g) (λ n p q. class-spans) (λ n p q. production-spans)
+        (λ n p q x l. class-to x) (λ n p q x l. production-exactly g n p q .1 x .1) w (h .tail) (h .classes) (h .productions),
     h .tail,
   ),
 )
@@ -522,8 +538,8 @@ pub templates-laid-exactly : (t : List ℕ) → WellSized t → (templatesLayout
 unfolding templatesLayout templatesEnd
 templates-laid-exactly t w = (
   λ e. let h = fault-iff t _ .0 e in
-      let r = two-rows-from {A = λ n. TypeAt t} {B = λ n. TemplateAt t} t (λ n. typeEnd t) (λ n. templateEnd t)
-      (λ n. type-from t) (λ n. template-from t) (h .0) (h .1) in
+      let r = two-rows-from {A = λ n. TypeAt t} {B = λ n. TemplateAt t} t (ofKind t 1) (ofKind t 3) (λ n. typeEnd t) (λ n. templateEnd t)
+      (λ n p q k. type-from t p q (eqb-true _ 1 k)) (λ n p q k. template-from t p q (eqb-true _ 3 k)) (h .0) (h .1) in
       record {
         type-count = r .0;
         template-count = r .1;
@@ -535,7 +551,7 @@ templates-laid-exactly t w = (
       },
   λ h. fault-iff t _ .1 (
     h .end,
-    two-rows-to {A = λ n. TypeAt t} {B = λ n. TemplateAt t} (λ n. typeEnd t) (λ n. templateEnd t) (λ n p q. type-spans) (λ n p q. template-spans)
+    two-rows-to {A = λ n. TypeAt t} {B = λ n. TemplateAt t} (λ n. typeEnd t) (λ n. templateEnd t) (templates-sorts t) (λ n p q. type-spans) (λ n p q. template-spans)
         (λ n p q x l. type-to x) (λ n p q. template-to) w (h .tail) (with-numbers 0 (h .types)) (with-numbers 0 (h .templates)),
     h .tail,
   ),

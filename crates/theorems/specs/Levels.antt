@@ -14,6 +14,7 @@ use Rattle.rules.specs.declared.Form.the-variants.{Build, Literal, Place, Expan
 use Rattle.laws.specs.Faults.{In}
 use Rattle.theorems.specs.Children.{ChildFor}
 use Rattle.theorems.specs.Finds.{Finds, FindsAll}
+use Rattle.theorems.specs.Places.{PlaceWrites}
 
 -- how many items the node c brings to the sequence that it stands in: one, "a for itself is none", but each item of its list is one
 pub data Brings (t v env : List ℕ) (c : ℕ) : ℕ → Type 0 where
@@ -62,10 +63,11 @@ pub data Levels (g t v : List ℕ) : ℕ → Asked → ℕ → List ℕ → Type
   root-body : (q : ℕ) → template t 0 ≡ some q → Levels g t v 1 (piece (nonterminal (fieldB t q))) (body t q) (0 ∷ [])
   one-deeper : (d p q : ℕ) (a a′ : Asked) (env env′ : List ℕ) → Levels g t v d a p env → Under g t v a p env a′ q env′ → Levels g t v (suc d) a′ q env′
 
--- the pieces of text that a visit of the node p itself writes: "it writes a keyword"; "A literal writes its text, a place the text that its path finds";
--- and between its items a sequence's separator: "The separator is written before every item but the first"
+-- the pieces of text that a visit of the node p itself writes: "it writes a keyword"; "A literal writes its text, a place the text that its path finds",
+-- with entities where an escaped class is asked for; and between its items a sequence's separator: "The separator is written before every item but the first"
 pub data Writes (g t v : List ℕ) (a : Asked) (p : ℕ) (env : List ℕ) : List ℕ → Type 0 where
   a-keyword : (q : ℕ) (x : List ℕ) → formOf t p ≡ Build → production g (fieldB t p) ≡ some q → In (keyword x) (elements g q) → Writes g t v a p env x
   its-text : formOf t p ≡ Literal → Writes g t v a p env (textOf t (fieldB t p) p)
-  text-found : (w : ℕ) → formOf t p ≡ Place → Finds t v env (path p) w → kindOf v w ≡ 1 → Writes g t v a p env (textOf v (fieldB v w) w)
+  text-found : (w : ℕ) (e : Element) (x : List ℕ) → formOf t p ≡ Place → a ≡ piece e → Finds t v env (path p) w → kindOf v w ≡ 1
+      → PlaceWrites g e (textOf v (fieldB v w) w) x → Writes g t v a p env x
   a-separator : (n m : ℕ) (x : List ℕ) → formOf t p ≡ Sequence → a ≡ piece (repetition n x) → ItemAfter t v env (nodes t p) (suc m) → Writes g t v a p env x

@@ -1,31 +1,41 @@
 -- A lexeme of a class, in the words of section "Typing", and that the test of `rules` passes exactly these.
-use mathlib.Core.Path.{_≡_, refl}
+use mathlib.Core.Path.{_≡_, refl, sym, _∙_, subst}
 use mathlib.Core.Logic.{_↔_, _⊎_, inl, inr}
 use Prim.Native.Nat.{ℕ, _≤_}
 use mathlib.Core.List.{List, [], _∷_}
 use mathlib.Core.Bool.{Bool, true, false, _||_, false≢true}
-use mathlib.Core.Option.{some}
+use mathlib.Core.Option.{Option, none, some, Option·some-ne-none, Option·some-injective}
 use lib.ListN.{length}
 use Rattle.rules.specs.Records.{fieldB, fieldC}
-use Rattle.rules.specs.Grammar.{class}
-use Rattle.rules.specs.Lexeme.{within, charactersOf, lowest, highest, ranges, inSome, allInSome, admits, isLexeme}
+use Rattle.rules.specs.Faults.{onFound}
+use Rattle.rules.specs.Grammar.{lexeme, plainClass, escapedClass}
+use Rattle.rules.specs.Escape.{escape, unescaped}
+use Rattle.rules.specs.Lexeme.{within, charactersOf, lowest, highest, ranges, inSome, allInSome, admits, isPlainLexeme, isLexeme}
+use Rattle.rules.specs.Derivation.{Piece, a-lexeme, an-escaped-lexeme}
 use Rattle.laws.specs.Faults.{In, here, later, onFound-true, and-iff}
+use Rattle.theorems.specs.Readings.{Plain, Escaped, plain-is, escaped-is, not-both}
+use Rattle.theorems.specs.Entities.{EscapedForm, escape-exactly, unescaped-exactly}
 use Rattle.theorems.specs.Utf8.{AllScalar, encodedAll, within-iff, utf8-exactly}
 
 -- "in some range": from the lowest to the highest code point of one of the ranges whose records are listed
 abbrev pub InRange : List ℕ → List ℕ → ℕ → Type 0
 InRange g rs x = (r : ℕ) × In r rs × (lowest g r ≤ x) × (x ≤ highest g r)
 
--- "A lexeme of a class is well-formed UTF-8 (RFC 3629) with a character count from least to most, each character in some range."
-pub record Lexeme (g : List ℕ) (c : ℕ) (text : List ℕ) : Type 0 where
+-- "A lexeme of a class is well-formed UTF-8 (RFC 3629) with a character count from least to most, each character in some range.": of a plain class
+pub record PlainLexeme (g : List ℕ) (c : ℕ) (text : List ℕ) : Type 0 where
   pub head : ℕ
-  pub of-class : class g c ≡ some head
+  pub of-class : Plain g c head
   pub characters : List ℕ
   pub scalars : AllScalar characters
   pub well-formed : text ≡ encodedAll characters
   pub least : fieldB g head ≤ length characters
   pub most : length characters ≤ fieldC g head
   pub in-some-range : (x : ℕ) → In x characters → InRange g (ranges g head) x
+
+-- 02 c, of an escaped class: "Its lexemes are the plain lexemes with & < > " ' turned into the five predefined entities"
+pub data Lexeme (g : List ℕ) (c : ℕ) (text : List ℕ) : Type 0 where
+  a-plain : PlainLexeme g c text → Lexeme g c text
+  an-escaped : (p : ℕ) (x : List ℕ) → Escaped g c p → PlainLexeme g (fieldB g p) x → EscapedForm x text → Lexeme g c text
 
 or-iff : (a b : Bool) → ((a || b) ≡ true) ↔ ((a ≡ true) ⊎ (b ≡ true))
 or-iff true b = (λ e. inl refl, λ e. refl)
@@ -56,18 +66,18 @@ in-range-each g rs (x ∷ xs) h =
     let i = h x (here xs) in
     and-iff _ _ .1 (range-found g x (i .1) (i .2) (i .3), in-range-each g rs xs (λ y j. h y (later x xs j)))
 
-pub lexeme-exactly : (g : List ℕ) (c : ℕ) (text : List ℕ) → (isLexeme g c text ≡ true) ↔ Lexeme g c text
-unfolding isLexeme admits
-lexeme-exactly g c text = (
+pub plain-lexeme-exactly : (g : List ℕ) (c : ℕ) (text : List ℕ) → (isPlainLexeme g c text ≡ true) ↔ PlainLexeme g c text
+unfolding isPlainLexeme admits
+plain-lexeme-exactly g c text = (
   λ e.
-      let k = onFound-true (class g c) _ .0 e in
+      let k = onFound-true (plainClass g c) _ .0 e in
       let u = onFound-true (charactersOf text) _ .0 (k .2) in
       let s = utf8-exactly text (u .0) .0 (u .1) in
       let a = and-iff _ _ .0 (u .2) in
       let n = within-iff (fieldB g (k .0)) (fieldC g (k .0)) (length (u .0)) .0 (a .0) in
       record {
         head = k .0;
-        of-class = k .1;
+        of-class = plain-is g c (k .0) .0 (k .1);
         characters = u .0;
         scalars = s .0;
         well-formed = s .1;
@@ -76,9 +86,9 @@ lexeme-exactly g c text = (
         in-some-range = λ x i. each-in-range g (ranges g (k .0)) (a .1) i;
       },
   λ l.
-      onFound-true (class g c) _ .1 (
+      onFound-true (plainClass g c) _ .1 (
         l .head,
-        l .of-class,
+        plain-is g c (l .head) .1 (l .of-class),
         onFound-true (charactersOf text) _ .1 (
           l .characters,
           utf8-exactly text (l .characters) .1 (l .scalars, l .well-formed),
@@ -89,3 +99,42 @@ lexeme-exactly g c text = (
         ),
       ),
 )
+
+found-lexeme : (g : List ℕ) (c : ℕ) (text : List ℕ) (o : Option ℕ) → escapedClass g c ≡ o
+    → (onFound o (isPlainLexeme g c text) (λ p. onFound (unescaped text) false (isPlainLexeme g (fieldB g p))) ≡ true) ↔ Lexeme g c text
+unfolding onFound
+found-lexeme g c text none e = (
+  λ h. a-plain (plain-lexeme-exactly g c text .0 h),
+  λ l. elim l [
+    | a-plain h ↦ plain-lexeme-exactly g c text .1 h
+    | an-escaped p x k h f ↦ absurd (Option·some-ne-none p (sym (escaped-is g c p .1 k) ∙ e))
+  ],
+)
+found-lexeme g c text (some p) e = (
+  λ h. let (x, u, l) = onFound-true (unescaped text) _ .0 h in
+      an-escaped p x (escaped-is g c p .0 e) (plain-lexeme-exactly g (fieldB g p) x .0 l) (unescaped-exactly text x .0 u),
+  λ l. elim l [
+    | a-plain h ↦ absurd (not-both (h .of-class) (escaped-is g c p .0 e))
+    | an-escaped q x k h f ↦
+        let z : q ≡ p = Option·some-injective q p (sym (escaped-is g c q .1 k) ∙ e) in
+        onFound-true (unescaped text) _ .1 (x, unescaped-exactly text x .1 f, rw (← z) (plain-lexeme-exactly g (fieldB g q) x .1 h))
+  ],
+)
+
+pub lexeme-exactly : (g : List ℕ) (c : ℕ) (text : List ℕ) → (isLexeme g c text ≡ true) ↔ Lexeme g c text
+unfolding isLexeme
+lexeme-exactly g c text = found-lexeme g c text (escapedClass g c) refl
+
+-- in the derivation, "for a class a lexeme of it", and nothing else
+class-piece : {g x : List ℕ} {c : ℕ} → Piece g (lexeme c) x → Lexeme g c x
+class-piece {g} (a-lexeme c x e) = a-plain (plain-lexeme-exactly g c x .0 e)
+class-piece {g} (an-escaped-lexeme c p x k e) =
+    an-escaped p x (escaped-is g c p .0 k) (plain-lexeme-exactly g (fieldB g p) x .0 e) (escape-exactly x (escape x) .0 refl)
+
+piece-class : {g x : List ℕ} {c : ℕ} → Lexeme g c x → Piece g (lexeme c) x
+piece-class {g} {x} {c} (a-plain l) = a-lexeme c x (plain-lexeme-exactly g c x .1 l)
+piece-class {g} {x} {c} (an-escaped p y k l f) =
+    subst (Piece g (lexeme c)) (escape-exactly y x .1 f) (an-escaped-lexeme c p y (escaped-is g c p .1 k) (plain-lexeme-exactly g (fieldB g p) y .1 l))
+
+pub piece-exactly : (g : List ℕ) (c : ℕ) (x : List ℕ) → Piece g (lexeme c) x ↔ Lexeme g c x
+piece-exactly g c x = (class-piece, piece-class)

@@ -1,23 +1,22 @@
--- Refusals 4, 5 and 6 as statements, and that the checks find no fault exactly where they hold.
-use mathlib.Core.Path.{_≡_, refl, subst}
+-- Refusals 4 and 5 as statements, and that the checks find no fault exactly where they hold.
+use mathlib.Core.Path.{_≡_, refl, sym, _∙_, subst}
 use mathlib.Core.Logic.{_↔_}
 use Prim.Native.Nat.{ℕ, zero, suc, _+_, _<_, _≤_}
 use mathlib.Core.List.{List, [], _∷_}
-use mathlib.Core.Bool.{Bool, true, false, _||_, false≢true}
+use mathlib.Core.Bool.{Bool, true, false, cond, _&&_, _||_, false≢true}
 use mathlib.Core.Option.{Option, none, some, Option·none-ne-some, Option·some-injective}
 use native.Mathlib.Omega.{arith}
-use lib.Dec.{eqb}
-use Rattle.rules.specs.Faults.{every}
-use Rattle.rules.specs.Records.{fieldA, fieldB, fieldC, nth, numbered}
-use Rattle.rules.specs.Lexeme.{lowest, highest, ranges}
-use Rattle.rules.specs.Grammar.{class, classes, production, productions, Element, keyword, lexeme, nonterminal, repetition, unknown, elementAt, elementHeads, hasProduction, nonterminalExists}
+use lib.Dec.{eqb, ltb}
+use Rattle.rules.specs.Faults.{need, every, exists}
+use Rattle.rules.specs.Records.{kindOf, fieldA, fieldB, nth, numbered}
+use Rattle.rules.specs.Grammar.{class, plainClass, classes, production, productions, Element, keyword, lexeme, nonterminal, repetition, unknown, elementAt, elementHeads, hasProduction, nonterminalExists}
 use Rattle.rules.specs.Templates.{TypeForm, text, yes-no, list, fields, no-type, type, types, typeAt, fieldHeads, template, templates, parameterHeads, body, formOf, nodesBelow}
 use Rattle.rules.specs.Value.{valuesBelow}
 use Rattle.rules.specs.Limits.{deepest, Looped, looped, loopsBelow, loopedBelow, fewLoops, templateLimits, templatesLimits, valueLimits}
-use Rattle.rules.specs.Names.{elementNamed, grammarNames, typeNamed, typeNames, formNamed, nodeNamed, templateNames, templatesNames}
-use Rattle.rules.specs.Classes.{rangeRight, classBounds, grammarClasses}
+use Rattle.rules.specs.Names.{elementNamed, classNamed, grammarNames, typeNamed, typeNames, formNamed, nodeNamed, templateNames, templatesNames}
 use Rattle.rules.specs.declared.Form.{Form}
 use Rattle.rules.specs.declared.Form.the-variants.{Build, Literal, Place, Expand, If, For, Sequence, Unknown}
+use Rattle.theorems.specs.Readings.{Plain, plain-is}
 use Rattle.theorems.specs.Around.{Around, around-exactly}
 use Rattle.theorems.specs.Ranges.{below-leading, looped-leading}
 use Rattle.laws.specs.Faults.{need-none, need-iff, both-none, both-iff, In, here, later, in-map, every-in, in-every, every-nil, every-cons, exists-iff, and-iff, eqb-iff, leb-iff, ltb-iff, at-none, Below, itself, under, tree-in, in-tree}
@@ -83,6 +82,14 @@ or-true : (a : Bool) {b : Bool} → b ≡ true → (a || b) ≡ true
 or-true true e = refl
 or-true false e = e
 
+-- a plain class of that number
+abbrev pub PlainExists : List ℕ → ℕ → Type 0
+PlainExists g c = (p : ℕ) × Plain g c p
+
+-- 02 c: "An escaped class naming no earlier plain class .. is refused as 5.": class n, at p, if it is an escaped one, names an earlier plain class
+abbrev pub ClassNames : List ℕ → ℕ → ℕ → Type 0
+ClassNames g n p = kindOf g p ≡ 5 → (fieldB g p < n) × PlainExists g (fieldB g p)
+
 -- "A nonterminal exists if it has a production"
 abbrev pub HasProduction : List ℕ → ℕ → Type 0
 HasProduction g n = (p : ℕ) × In p (productions g) × (fieldB g p ≡ n)
@@ -114,8 +121,9 @@ ElementNames g (nonterminal n) = HasProduction g n
 ElementNames g (repetition n x) = HasProduction g n
 ElementNames g unknown = Unit {0}
 
+-- 02 c: "a text type naming an escaped class, is refused as 5"
 abbrev pub TypeNames : List ℕ → List ℕ → TypeForm → Type 0
-TypeNames g t (text c) = Exists (class g c)
+TypeNames g t (text c) = PlainExists g c
 TypeNames g t yes-no = Unit {0}
 TypeNames g t (list n) = Exists (type t n)
 TypeNames g t (fields ns) = Unit {0}
@@ -132,6 +140,7 @@ NodeNames g t Sequence n = Unit {0}
 NodeNames g t Unknown n = Unit {0}
 
 pub record GrammarNamed (g : List ℕ) : Type 0 where
+  pub classes-name : (n p : ℕ) → nth (classes g) n ≡ some p → ClassNames g n p
   pub elements-name : (p e : ℕ) → In p (productions g) → In e (elementHeads g p) → ElementNames g (elementAt g e)
 
 pub record TemplatesNamed (g t : List ℕ) : Type 0 where
@@ -149,9 +158,26 @@ element-names g (nonterminal n) = nonterminal-iff g n
 element-names g (repetition n x) = nonterminal-iff g n
 element-names g unknown = (λ e. tt, λ h. refl)
 
+plain-exists : (g : List ℕ) (c : ℕ) → (exists (plainClass g c) ≡ true) ↔ PlainExists g c
+plain-exists g c = (
+  λ e. let a = exists-iff (plainClass g c) .0 e in (a .0, plain-is g c (a .0) .0 (a .1)),
+  λ h. exists-iff (plainClass g c) .1 (h .0, plain-is g c (h .0) .1 (h .1)),
+)
+
+pub class-names : (g : List ℕ) (n p : ℕ) → (classNamed g (n, p) ≡ true) ↔ ClassNames g n p
+unfolding classNamed
+class-names g n p = go (eqb (kindOf g p) 5) refl
+  where
+    go : (b : Bool) → eqb (kindOf g p) 5 ≡ b → (cond b (ltb (fieldB g p) n && exists (plainClass g (fieldB g p))) true ≡ true) ↔ ClassNames g n p
+    go true k = (
+      λ e z. let a = and-iff _ _ .0 e in (ltb-iff _ _ .0 (a .0), plain-exists g (fieldB g p) .0 (a .1)),
+      λ h. let a = h (eqb-iff _ _ .0 k) in and-iff _ _ .1 (ltb-iff _ _ .1 (a .0), plain-exists g (fieldB g p) .1 (a .1)),
+    )
+    go false k = (λ e z. absurd (false≢true (sym k ∙ eqb-iff _ _ .1 z)), λ h. refl)
+
 pub type-names : (g t : List ℕ) (x : TypeForm) → (typeNamed g t x ≡ true) ↔ TypeNames g t x
 unfolding typeNamed
-type-names g t (text c) = exists-iff (class g c)
+type-names g t (text c) = plain-exists g c
 type-names g t yes-no = (λ e. tt, λ h. refl)
 type-names g t (list n) = exists-iff (type t n)
 type-names g t (fields ns) = (λ e. tt, λ h. refl)
@@ -167,13 +193,6 @@ node-names g t If n = (λ e. tt, λ h. refl)
 node-names g t For n = (λ e. tt, λ h. refl)
 node-names g t Sequence n = (λ e. tt, λ h. refl)
 node-names g t Unknown n = (λ e. tt, λ h. refl)
-
-pub grammar-names-exactly : (g : List ℕ) → (grammarNames g ≡ none) ↔ GrammarNamed g
-unfolding grammarNames
-grammar-names-exactly g = (
-  λ e. record { elements-name = λ p x i j. element-names g (elementAt g x) .0 (need-none _ x (every-in _ (every-in _ e i) j)) },
-  λ h. in-every _ _ λ p i. in-every _ _ λ x j. need-iff _ x .1 (element-names g (elementAt g x) .1 (h .elements-name p x i j)),
-)
 
 -- the entries of a numbered list
 pub numbered-in : (m : ℕ) (ps : List ℕ) (j p : ℕ) → nth ps j ≡ some p → In (m + j, p) (numbered m ps)
@@ -192,6 +211,20 @@ in-numbered f m (p ∷ ps) h =
 
 numbered-none : (f : ℕ × ℕ → Option ℕ) (ps : List ℕ) → every f (numbered 0 ps) ≡ none → (j p : ℕ) → nth ps j ≡ some p → f (j, p) ≡ none
 numbered-none f ps e j p h = let z : 0 + j ≡ j = omega arith in subst (λ (x : ℕ). f (x, p) ≡ none) z (every-in f e (numbered-in 0 ps j p h))
+
+pub grammar-names-exactly : (g : List ℕ) → (grammarNames g ≡ none) ↔ GrammarNamed g
+unfolding grammarNames
+grammar-names-exactly g = (
+  λ e. let a = both-none _ _ e in
+      record {
+        classes-name = λ n p h. class-names g n p .0 (need-none _ p (numbered-none (λ c. need (classNamed g c) (c .1)) (classes g) (a .0) n p h));
+        elements-name = λ p x i j. element-names g (elementAt g x) .0 (need-none _ x (every-in _ (every-in _ (a .1) i) j));
+      },
+  λ h. both-iff _ _ .1 (
+    in-numbered _ 0 (classes g) (λ n p e. let z : 0 + n ≡ n = omega arith in rw z (need-iff _ p .1 (class-names g n p .1 (h .classes-name n p e)))),
+    in-every _ _ λ p i. in-every _ _ λ x j. need-iff _ x .1 (element-names g (elementAt g x) .1 (h .elements-name p x i j)),
+  ),
+)
 
 type-fault : (g t : List ℕ) (n p : ℕ) → (typeNames g t (n, p) ≡ none) ↔ (TypeNames g t (typeAt t p) × ((f : ℕ) → In f (fieldHeads t p) → fieldB t f < n))
 unfolding typeNames
@@ -234,30 +267,5 @@ templates-names-exactly g t within = (
     in-numbered _ 0 (types t) (λ n p e. let z : 0 + n ≡ n = omega arith in
         rw z (type-fault g t n p .1 (h .types-name n p e, λ f i. h .fields-name-earlier n p f e i))),
     in-every _ _ λ p i. template-fault g t p (within p i) .1 (h .templates-name p i, λ x. h .parameters-name p x i, λ d q. h .nodes-name p d q i),
-  ),
-)
-
--- 6
-pub record ClassRight (g : List ℕ) (p : ℕ) : Type 0 where
-  pub least-most : fieldB g p ≤ fieldC g p
-  pub lowest-highest : (r : ℕ) → In r (ranges g p) → lowest g r ≤ highest g r
-  pub in-unicode : (r : ℕ) → In r (ranges g p) → highest g r ≤ 0x10ffff
-
-range-iff : (g : List ℕ) (r : ℕ) → (rangeRight g r ≡ true) ↔ ((lowest g r ≤ highest g r) × (highest g r ≤ 0x10ffff))
-unfolding rangeRight
-range-iff g r = (λ e. let a = and-iff _ _ .0 e in (leb-iff _ _ .0 (a .0), leb-iff _ _ .0 (a .1)), λ h. and-iff _ _ .1 (leb-iff _ _ .1 (h .0), leb-iff _ _ .1 (h .1)))
-
-pub classes-exactly : (g : List ℕ) → (grammarClasses g ≡ none) ↔ ((p : ℕ) → In p (classes g) → ClassRight g p)
-unfolding grammarClasses classBounds
-classes-exactly g = (
-  λ e p i. let a = both-none _ _ (every-in _ e i) in
-      record {
-        least-most = leb-iff _ _ .0 (need-none _ p (a .0));
-        lowest-highest = λ r j. range-iff g r .0 (need-none _ r (every-in _ (a .1) j)) .0;
-        in-unicode = λ r j. range-iff g r .0 (need-none _ r (every-in _ (a .1) j)) .1;
-      },
-  λ h. in-every _ _ λ p i. both-iff _ _ .1 (
-    need-iff _ p .1 (leb-iff _ _ .1 (h p i .least-most)),
-    in-every _ _ λ r j. need-iff _ r .1 (range-iff g r .1 (h p i .lowest-highest r j, h p i .in-unicode r j)),
   ),
 )

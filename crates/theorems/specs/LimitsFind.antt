@@ -24,6 +24,8 @@ use Rattle.theorems.specs.Children.{Asks, asks-class, asks-nonterminal, 
 use Rattle.theorems.specs.Finds.{Finds, text-is, yes-is, no-is, finds-exactly, finds-all-exactly}
 use Rattle.theorems.specs.Ends.{write-done}
 use Rattle.theorems.specs.Levels.{filling}
+use Rattle.theorems.specs.Places.{place-text}
+use Rattle.theorems.specs.Visits.{place-no-for}
 use Rattle.theorems.specs.Handed.{IsFor, a-for as is-a-for, no-for, is-for, filled-by, listed-is, for-visited, item-visited}
 use Rattle.theorems.specs.Comes.{BuildsTo, this-child, past-keyword, past-child, BuildsUpTo, this-keyword}
 use Rattle.theorems.specs.Comes.{ItemsTo, this-node, past-item, past-for, TurnsTo, this-turn, past-turn, Before, a-child, a-body, on-yes, on-no, a-turn, an-item, a-for}
@@ -232,14 +234,21 @@ module _ (i : Input) where
           (λ o s₂ n x. under-it s₂ (a-turn h j w f q e r (subst (λ (b : List ℕ). TurnsTo g t v env (h .nonterminal) (h .separator) (first p) j b u l y m) (sym c) to) n)
           (text-after z x))
 
+      -- a place has an element's position: items are asked of a for only
+      place-fair : (b : Asked) → a ≡ b → formOf t p ≡ Place → Fair i (visitForm i Place (visit i k) b p env (counted s))
+      unfolding visitForm
+      place-fair (piece el) q f = found-fair _ _ λ w e. found-fair _ _ λ x b. let r = text-is v w x .0 b in
+          write-alone p _ (counted s)
+          (full (counted s) (text-found w el f q (finds-exactly t v env _ w .0 e) (r .0) (place-text g el (r .1))) (after-none (counted s)))
+      place-fair (items h j) q f =
+          absurd (place-no-for f (for-form (for-came (subst (λ (b : Asked). Comes g t v d b p env (s .text) (s .steps)) q came))))
+
       form-fair : (f : Form) → formOf t p ≡ f → Fair i (visitForm i f (visit i k) a p env (counted s))
       unfolding visitForm
       form-fair Build f = found-fair _ _ λ q e.
           pieces-fair p env _ _ (counted s) (λ e′ c m y s₁ b l. under-it s₁ (a-child q f e b) l) (λ w y m s₁ b l. full s₁ (a-keyword q f e b) l)
       form-fair Literal f = write-alone p _ (counted s) (full (counted s) (its-text f) (after-none (counted s)))
-      form-fair Place f = found-fair _ _ λ w e. found-fair _ _ λ x b. let r = text-is v w x .0 b in
-          write-alone p x (counted s)
-          (full (counted s) (subst (λ (z : List ℕ). Next g t v a p env z [] 0) (r .1) (text-found w f (finds-exactly t v env _ w .0 e) (r .0))) (after-none (counted s)))
+      form-fair Place f = place-fair a refl f
       form-fair Expand f = found-fair _ _ λ q e. found-fair _ _ λ ws b.
           under-it _ (a-body q ws f e (finds-all-exactly t v env _ ws .0 b)) (after-none (counted s))
       form-fair If f = found-fair _ _ λ w e. found-fair _ _ λ yes? b. branch-fair w yes? f (finds-exactly t v env _ w .0 e) b

@@ -4,9 +4,9 @@ use Prim.Native.Nat.{ℕ, suc, _/_, _≤_, _<_}
 use mathlib.Core.List.{List, _∷_}
 use mathlib.Core.Option.{Option, some}
 use lib.ListN.{length}
-use Rattle.rules.specs.Records.{fieldA, fieldB, fieldC}
+use Rattle.rules.specs.Records.{kindOf, fieldA, fieldB, fieldC}
 use Rattle.rules.specs.Lexeme.{lowest, highest, ranges}
-use Rattle.rules.specs.Grammar.{classes, productions, elementAt, elementHeads}
+use Rattle.rules.specs.Grammar.{class, classes, productions, elementAt, elementHeads}
 use Rattle.rules.specs.Templates.{type, typeAt, fieldHeads, templates, parameterHeads, body, formOf, nodesBelow}
 use Rattle.rules.specs.Value.{valuesBelow}
 use Rattle.rules.specs.declared.Position.{Position}
@@ -16,7 +16,7 @@ use Rattle.laws.specs.Faults.{In, Below}
 use Rattle.theorems.specs.Streams.{WellSized, RightBlock}
 use Rattle.theorems.specs.LaidOut.{GrammarLaid, TemplatesLaid, ValueLaid}
 use Rattle.theorems.specs.Around.{Around}
-use Rattle.theorems.specs.LimitsExactly.{Exists, HasProduction, ElementNames, TypeNames, NodeNames}
+use Rattle.theorems.specs.LimitsExactly.{Exists, ClassNames, HasProduction, ElementNames, TypeNames, NodeNames}
 use Rattle.theorems.specs.Judgement.{Declared}
 use Rattle.theorems.specs.OwnRule.{Fits, Stands, OfForm, ShouldBe}
 
@@ -42,8 +42,10 @@ pub data OverLimits : Stream → ℕ → Type 0 where
   a-template : (t : List ℕ) (p q : ℕ) → In p (templates t) → TemplateOver t p q → OverLimits (Answers.templates t) q
   a-value : (v : List ℕ) (d w : ℕ) → Below (valuesBelow v) 0 d w → 200 < suc d → OverLimits (Answers.value v) w
 
--- 5: "A class, nonterminal, production, template or type named doesn't exist, or a field names no earlier type."
+-- 5: "A class, nonterminal, production, template or type named doesn't exist, or a field names no earlier type."; 02 c: "An escaped class naming
+-- no earlier plain class, or a text type naming an escaped class, is refused as 5."
 pub data GrammarUnnamed (g : List ℕ) : ℕ → Type 0 where
+  by-class : (n p : ℕ) → class g n ≡ some p → (ClassNames g n p → ⊥) → GrammarUnnamed g p
   by-element : (p e : ℕ) → In p (productions g) → In e (elementHeads g p) → (ElementNames g (elementAt g e) → ⊥) → GrammarUnnamed g e
 
 -- by type n, at p; by the template at p
@@ -60,7 +62,7 @@ pub data TemplatesUnnamed (g t : List ℕ) : ℕ → Type 0 where
   in-type : (n p q : ℕ) → type t n ≡ some p → TypeUnnamed g t n p q → TemplatesUnnamed g t q
   in-template : (p q : ℕ) → In p (templates t) → TemplateUnnamed g t p q → TemplatesUnnamed g t q
 
--- 6: "A class has least above most, or a range has lowest above highest or passes U+10FFFF." The class at p:
+-- 6: "A class has least above most, or a range has lowest above highest or passes U+10FFFF." The plain class at p:
 pub data WrongClass (g : List ℕ) (p : ℕ) : ℕ → Type 0 where
   least-above-most : fieldC g p < fieldB g p → WrongClass g p p
   lowest-above-highest : (r : ℕ) → In r (ranges g p) → highest g r < lowest g r → WrongClass g p r
@@ -88,7 +90,7 @@ pub data Offence (g t : List ℕ) (more : List Stream) (scratch : Option (List �
   over-limits : (s : Stream) (q : ℕ) → In s (lent g t more) → OverLimits s q → Offence g t more scratch 4 (streamKind s) q
   grammar-unnamed : (q : ℕ) → GrammarUnnamed g q → Offence g t more scratch 5 1 q
   templates-unnamed : (q : ℕ) → TemplatesUnnamed g t q → Offence g t more scratch 5 2 q
-  wrong-class : (p q : ℕ) → In p (classes g) → WrongClass g p q → Offence g t more scratch 6 1 q
+  wrong-class : (p q : ℕ) → In p (classes g) → kindOf g p ≡ 1 → WrongClass g p q → Offence g t more scratch 6 1 q
   misfit : (q : ℕ) → Misfit g t q → Offence g t more scratch 7 2 q
   mistyped : (v : List ℕ) (q : ℕ) → In (Answers.value v) more → Mistyped g t v q → Offence g t more scratch 8 3 q
   short-scratch : (xs : List ℕ) → scratch ≡ some xs → length xs < 4800 → Offence g t more scratch 9 0 0

@@ -12,7 +12,8 @@ use Rattle.rules.specs.declared.Form.the-variants.{Build, Literal, Place, Expan
 use Rattle.rules.specs.declared.Position.{Position}
 use Rattle.rules.specs.declared.Position.the-variants.{Class, Nonterminal, Repetition, Item}
 use Rattle.laws.specs.Faults.{In}
-use Rattle.theorems.specs.Lexemes.{Lexeme}
+use Rattle.theorems.specs.Readings.{Takes}
+use Rattle.theorems.specs.Lexemes.{PlainLexeme, Lexeme}
 use Rattle.theorems.specs.Children.{Asks, OneEach, ChildFor}
 use Rattle.theorems.specs.Judgement.{PathTyped, Arguments, Declared}
 
@@ -28,8 +29,8 @@ pub data Fits (g t vars : List ℕ) (p : ℕ) : Position → Type 0 where
       → OneEach (elements g q) (nodes t p) → Fits g t vars p at
   -- "a literal that is a lexeme"
   a-literal : (c : ℕ) → formOf t p ≡ Literal → Lexeme g c (textOf t (fieldB t p) p) → Fits g t vars p (Class c)
-  -- "a place whose path has type text of that very class"
-  a-place : (c ty : ℕ) → formOf t p ≡ Place → PathTyped t vars (path p) ty → typeOf t ty ≡ text c → Fits g t vars p (Class c)
+  -- "a place whose path has type text of that very class"; 02 c, of an escaped class: "A place there takes text of the plain class"
+  a-place : (c d ty : ℕ) → formOf t p ≡ Place → PathTyped t vars (path p) ty → typeOf t ty ≡ text d → Takes g c d → Fits g t vars p (Class c)
   -- "an expand of a template with that nonterminal and argument types equal by number"
   an-expand : (at : Position) (q : ℕ) → formOf t p ≡ Expand → template t (fieldB t p) ≡ some q → AsksText at (fieldB t q)
       → Arguments t vars (paths t p) (parameters t q) → Fits g t vars p at
@@ -61,9 +62,9 @@ pub data Stands (g t : List ℕ) (p : ℕ) : List ℕ → ℕ → Position → T
   below : (vars vars′ : List ℕ) (q c : ℕ) (at at′ : Position) → Stands g t p vars q at → ChildNode g t vars q at vars′ c at′ → Stands g t p vars′ c at′
 
 -- A value's own rule: the value at w is of type ty, whatever stands below it. "A value is of type text if it is a 1 whose text is a lexeme of the class; of yes/no
--- if a 2; of a list if a 3 ..; of a record if a 4 with one child for each field".
+-- if a 2; of a list if a 3 ..; of a record if a 4 with one child for each field". A text type names a plain class.
 pub data OfForm (g t v : List ℕ) (ty w : ℕ) : Type 0 where
-  a-text : (c : ℕ) → typeOf t ty ≡ text c → kindOf v w ≡ 1 → Lexeme g c (textOf v (fieldB v w) w) → OfForm g t v ty w
+  a-text : (c : ℕ) → typeOf t ty ≡ text c → kindOf v w ≡ 1 → PlainLexeme g c (textOf v (fieldB v w) w) → OfForm g t v ty w
   a-yes-no : typeOf t ty ≡ yes-no → kindOf v w ≡ 2 → OfForm g t v ty w
   a-list : (item : ℕ) → typeOf t ty ≡ list item → kindOf v w ≡ 3 → OfForm g t v ty w
   a-record : (tys : List ℕ) → typeOf t ty ≡ fields tys → kindOf v w ≡ 4 → length (children v w) ≡ length tys → OfForm g t v ty w

@@ -9,8 +9,8 @@ use native.Mathlib.Omega.{arith}
 use lib.ListN.{length}
 use Rattle.rules.specs.Faults.{onFound, exists}
 use Rattle.rules.specs.Records.{fieldB, fieldC, fieldD}
-use Rattle.rules.specs.Grammar.{production, Element, keyword, lexeme, nonterminal, repetition, unknown}
-use Rattle.rules.specs.Templates.{text, typeOf, template, parameters, formOf, nodes, paths, path, first}
+use Rattle.rules.specs.Grammar.{plainOf, production, Element, keyword, lexeme, nonterminal, repetition, unknown}
+use Rattle.rules.specs.Templates.{typeOf, template, parameters, formOf, nodes, paths, path, first}
 use Rattle.rules.specs.Typing.{asksClass, asksNonterminal, asksRepetition, asksItem, positions, textClass, isYesNo, itemType, pathType, Site, site, suitsForm, suits, sites, sitesOf, sitesBelow, bodySite}
 use Rattle.rules.specs.declared.Form.{Form}
 use Rattle.rules.specs.declared.Form.the-variants.{Build, Literal, Place, Expand, If, For, Sequence, Unknown}
@@ -18,6 +18,7 @@ use Rattle.rules.specs.declared.Position.{Position}
 use Rattle.rules.specs.declared.Position.the-variants.{Nonterminal, Item}
 use Rattle.laws.specs.Faults.{In, here, later, in-map, exists-iff, onFound-true, and-iff, eqb-iff, Below, itself, under}
 use Rattle.laws.specs.Rows.{length-heads}
+use Rattle.theorems.specs.Readings.{takes-is}
 use Rattle.theorems.specs.Lexemes.{lexeme-exactly}
 use Rattle.theorems.specs.Children.{Asks, asks-class, asks-nonterminal, asks-repetition, asks-nothing, OneEach, nothing-left, no-child-for, one-child-for, ChildFor, this-child, past-keyword, past-child}
 use Rattle.theorems.specs.Judgement.{PathTyped, Arguments}
@@ -96,7 +97,7 @@ form-fits g t Place x f e =
     let (c, asked, h) = onFound-true (asksClass (x .position)) _ .0 e in
     let (ty, k, r) = path-right t (x .vars) (path (x .node)) _ h in
     let (d, is, same) = onFound-true (textClass (typeOf t ty)) _ .0 r in
-    rw (asked-class (x .position) c asked) (a-place c ty f k (text-class _ d is ∙ ap text (sym (eqb-iff c d .0 same))))
+    rw (asked-class (x .position) c asked) (a-place c d ty f k (text-class _ d is) (takes-is g c d .0 (eqb-iff (plainOf g c) d .0 same)))
 form-fits g t Expand x f e = let (q, there, a, as′) = expand-right g t x e in an-expand (x .position) q f there a as′
 form-fits g t If x f e =
     let (n, asked, h) = onFound-true (asksNonterminal (x .position)) _ .0 e in
@@ -114,7 +115,7 @@ fits-form : {g t vars : List ℕ} {p : ℕ} {at : Position} → Fits g t vars p 
 unfolding suits suitsForm site asksClass asksItem asksRepetition textClass isYesNo itemType onFound exists
 fits-form {t = t} {p = p} (a-build at q f e a o) = rw (f, text-asked a, e, eqb-iff _ _ .1 refl) (eqb-iff _ _ .1 (one-each o ∙ length-nodes t p))
 fits-form {g = g} (a-literal c f l) = rw f (lexeme-exactly g c _ .1 l)
-fits-form {t = t} {vars} {p} (a-place c ty f h e) = rw (f, path-exactly t vars (path p) ty .1 h, e) (eqb-iff c c .1 refl)
+fits-form {g} {t} {vars} {p} (a-place c d ty f h e k) = rw (f, path-exactly t vars (path p) ty .1 h, e) (eqb-iff (plainOf g c) d .1 (takes-is g c d .1 k))
 fits-form (an-expand at q f e a as′) = rw (f, text-asked a, e, eqb-iff _ _ .1 refl) (found-arguments as′)
 fits-form {t = t} {vars} {p} (an-if at n ty f a h e) = rw (f, text-asked a, path-exactly t vars (path p) ty .1 h, e)
 fits-form {t = t} {vars} {p} (a-for n ty item f h e) = rw (f, path-exactly t vars (path p) ty .1 h, e)

@@ -91,7 +91,7 @@ kind-exactly kind = (
 )
 
 -- a test that is tried with place 0: where it holds what is tried next decides, and where it fails it is refused
-try-need : (P : Written → Type 0) (number : ℕ) (b : Bool) (next : Unit {0} → Option Answer) (bytes : Unit {0} → List ℕ) (out : List ℕ)
+pub try-need : (P : Written → Type 0) (number : ℕ) (b : Bool) (next : Unit {0} → Option Answer) (bytes : Unit {0} → List ℕ) (out : List ℕ)
     → (b ≡ true → P (written (next tt) bytes out)) → (b ≡ false → P (record { result = answer number 0 0 0 0; output = out }))
     → P (written (try number (placed 0 (need b 0)) next) bytes out)
 unfolding need placed try written
@@ -102,10 +102,10 @@ try-need P number false next bytes out held failed = failed refl
 fails : {A : Type 0} {b : Bool} → (b ≡ true) ↔ A → b ≡ false → A → ⊥
 fails i e a = false≢true (sym e ∙ i .1 a)
 
-refused-by : (number place : ℕ) (out : List ℕ) → Refused number place out (record { result = answer number 0 place 0 0; output = out })
+pub refused-by : (number place : ℕ) (out : List ℕ) → Refused number place out (record { result = answer number 0 place 0 0; output = out })
 refused-by number place out = record { refusal = refl; nothing-written = refl }
 
-wrote-all : (bytes : Unit {0} → List ℕ) (out : List ℕ) → Wrote (bytes tt) out (written (accept tt) bytes out)
+pub wrote-all : (bytes : Unit {0} → List ℕ) (out : List ℕ) → Wrote (bytes tt) out (written (accept tt) bytes out)
 unfolding written accept
 wrote-all bytes out = record { bytes-counted = refl; only-these = refl }
 

@@ -21,7 +21,8 @@ use Rattle.rules.specs.declared.Position.the-variants.{Nonterminal, Item}
 use Rattle.laws.specs.Faults.{In, here, later, Below, itself, under}
 use Rattle.theorems.specs.Streams.{WellSized}
 use Rattle.theorems.specs.LaidOut.{InRow, no-thing, one-thing, ClassAt, ProductionAt, GrammarLaid, TypeAt, TemplateAt, TemplatesLaid, PathAt, NodeAt, a-build, a-literal, a-place, an-expand, an-if, a-for, a-sequence, NodesAt, no-node, one-node, ValueAt, a-text, a-yes-no, a-list, a-record, ValuesAt, no-value, one-value}
-use Rattle.theorems.specs.Heads.{row-grows, each-numbered, class-size, production-size, type-size, template-size, classes-are, productions-are, types-are, templates-are, path-size, node-size, node-grows, value-size, value-grows}
+use Rattle.theorems.specs.Sizes.{row-grows, each-numbered, class-size, production-size, type-size, template-size, path-size, node-size, node-grows, value-size, value-grows}
+use Rattle.theorems.specs.Heads.{classes-are, productions-are, types-are, templates-are}
 use Rattle.theorems.specs.Least.{Rows, no-row, one-row, rows-ordered, rows-wide, From, rows-heads, Standing}
 
 -- the places of xs are the first of ps, in order

@@ -3,36 +3,41 @@
 use mathlib.Core.Path.{_≡_, refl, sym, _∙_, ap, subst}
 use Prim.Native.Nat.{ℕ, zero, suc}
 use mathlib.Core.List.{List, [], _∷_}
-use mathlib.Core.Bool.{false, _&&_}
+use mathlib.Core.Bool.{Bool, true, false, cond, _&&_}
 use mathlib.Core.Option.{Option, none, some}
 use lib.ListN.{length}
 use lib.Dec.{eqb, ltb}
-use Rattle.rules.specs.Faults.{need, both, every, tree, onFound, exists, at}
-use Rattle.rules.specs.Records.{fieldB, fieldD, textOf, numbered}
-use Rattle.rules.specs.Grammar.{class, production, elements, Element, nonterminal, nonterminalExists}
-use Rattle.rules.specs.Templates.{TypeForm, text, yes-no, list, fields, no-type, type, typeAt, typeOf, types, fieldHeads, template, templates, parameterHeads, body, formOf, nodes, nodesBelow}
+use Rattle.rules.specs.Faults.{need, both, every, tree, onFound, onlyIf, exists, at}
+use Rattle.rules.specs.Records.{kindOf, fieldB, fieldD, textOf, numbered}
+use Rattle.rules.specs.Grammar.{class, plainClass, escapedClass, plainOf, production, elements, Element, keyword, lexeme, nonterminal, repetition, unknown, nonterminalExists}
+use Rattle.rules.specs.Templates.{TypeForm, text, yes-no, list, fields, no-type, type, typeAt, typeOf, types, fieldHeads, template, templates, parameterHeads, body, formOf, nodes, nodesBelow, path}
 use Rattle.rules.specs.Value.{asText}
 use Rattle.rules.specs.Answers.{input}
-use Rattle.rules.specs.Lexeme.{isLexeme}
+use Rattle.rules.specs.Escape.{escape, unescaped}
+use Rattle.rules.specs.Lexeme.{isPlainLexeme, isLexeme}
 use Rattle.rules.specs.Limits.{deepest}
 use Rattle.rules.specs.Names.{typeNamed, typeNames, formNamed, nodeNamed, templateNames, templatesNames}
-use Rattle.rules.specs.Typing.{positions, asksNonterminal, asksClass, Site, suitsForm, suits, sites, sitesOf, sitesBelow, misfit, bodySite, declaredType, templatesTyping}
+use Rattle.rules.specs.Typing.{positions, asksNonterminal, asksClass, textClass, pathType, Site, suitsForm, suits, sites, sitesOf, sitesBelow, misfit, bodySite, declaredType, templatesTyping}
 use Rattle.rules.specs.Typing.{typed, hasForm, hasType, typedBelow, mistyped, valueTyping}
-use Rattle.rules.specs.Walk.{State, start, End, stuck, pieces, write, Asked, piece, items, listed, itemsOf, visitIn, visitForm, reached, visit, walk}
-use Rattle.rules.specs.Derivation.{Derives, produced, Pieces, no-element, one-piece, Piece, own-bytes, a-lexeme, derived, repeated}
+use Rattle.rules.specs.Walk.{State, start, End, stuck, pathValue, pieces, write, Asked, piece, items, writtenFor, listed, itemsOf, visitIn, visitForm, reached, visit, walk}
+use Rattle.rules.specs.Derivation.{Derives, produced, Pieces, no-element, one-piece, Piece, own-bytes, a-lexeme, an-escaped-lexeme, derived, repeated}
 use Rattle.rules.specs.Derivation.{Row, no-text, some-texts, Texts, last-text, next-text}
 use Rattle.rules.specs.declared.Form.{Form}
 use Rattle.rules.specs.declared.Form.the-variants.{Build, Literal, Place, Expand, If, For, Sequence, Unknown}
+use Rattle.laws.specs.Sorts.{escaped-class-iff}
+use Rattle.theorems.specs.Places.{PlaceWrites, place-exactly}
 use Rattle.theorems.specs.Evaluation.{Evaluates, build, literal, place, expand, then, else, sequence, Builds, own-bytes as own-bytes-built, no-element as nothing-built, next-child}
 use Rattle.theorems.specs.Evaluation.{Items, no-item, one-item, for, Loops, no-turn, one-turn, EvaluatesSet}
 
 pub record ReadAlike (g g′ : List ℕ) : Type 0 where
   pub same-class : (n : ℕ) → class g n ≡ class g′ n
+  pub same-kind : (n p : ℕ) → class g n ≡ some p → kindOf g p ≡ kindOf g′ p
+  pub same-named : (n p : ℕ) → class g n ≡ some p → fieldB g p ≡ fieldB g′ p
   pub same-production : (n : ℕ) → production g n ≡ production g′ n
   pub same-existence : (n : ℕ) → nonterminalExists g n ≡ nonterminalExists g′ n
   pub same-nonterminal : (n p : ℕ) → production g n ≡ some p → fieldB g p ≡ fieldB g′ p
   pub same-elements : (n p : ℕ) → production g n ≡ some p → elements g p ≡ elements g′ p
-  pub same-lexemes : (c : ℕ) (x : List ℕ) → isLexeme g c x ≡ isLexeme g′ c x
+  pub same-lexemes : (c : ℕ) (x : List ℕ) → isPlainLexeme g c x ≡ isPlainLexeme g′ c x
 
 -- what follows from something found is the same where it is the same for each that is found
 pub found-same : {A B : Type 0} (o o′ : Option A) (b : B) (f f′ : A → B) → o ≡ o′ → ((a : A) → o ≡ some a → f a ≡ f′ a) → onFound o b f ≡ onFound o′ b f′
@@ -44,6 +49,41 @@ module _ (g g′ : List ℕ) (r : ReadAlike g g′) where
   there : (n p : ℕ) → production g n ≡ some p → production g′ n ≡ some p
   there n p e = sym (r .same-production n) ∙ e
 
+  -- plain and escaped classes
+  pub plain-alike : (n : ℕ) → plainClass g n ≡ plainClass g′ n
+  unfolding plainClass
+  plain-alike n = found-same _ _ none _ _ (r .same-class n) (λ p e. λ j. onlyIf (eqb (r .same-kind n p e j) 1) p)
+
+  escaped-alike : (n : ℕ) → escapedClass g n ≡ escapedClass g′ n
+  unfolding escapedClass
+  escaped-alike n = found-same _ _ none _ _ (r .same-class n) (λ p e. λ j. onlyIf (eqb (r .same-kind n p e j) 5) p)
+
+  named-by-escaped : (n p : ℕ) → escapedClass g n ≡ some p → fieldB g p ≡ fieldB g′ p
+  named-by-escaped n p e = r .same-named n p (escaped-class-iff g n p .0 e .0)
+
+  plain-of-alike : (c : ℕ) → plainOf g c ≡ plainOf g′ c
+  unfolding plainOf
+  plain-of-alike c = found-same _ _ c _ _ (escaped-alike c) (named-by-escaped c)
+
+  lexeme-alike : (c : ℕ) (x : List ℕ) → isLexeme g c x ≡ isLexeme g′ c x
+  unfolding isLexeme
+  lexeme-alike c x =
+      ap (λ (b : Bool). onFound (escapedClass g c) b (λ p. onFound (unescaped x) false (isPlainLexeme g (fieldB g p)))) (r .same-lexemes c x)
+      ∙ found-same _ _ (isPlainLexeme g′ c x) _ _ (escaped-alike c)
+      (λ p e. ap (onFound (unescaped x) false) (λ j y. r .same-lexemes (named-by-escaped c p e j) y j))
+
+  position-alike : (a : Asked) (x : List ℕ) → writtenFor g a x ≡ writtenFor g′ a x
+  unfolding writtenFor
+  position-alike (piece (keyword y)) x = refl
+  position-alike (piece (lexeme c)) x = λ j. cond (exists (escaped-alike c j)) (escape x) x
+  position-alike (piece (nonterminal n)) x = refl
+  position-alike (piece (repetition n y)) x = refl
+  position-alike (piece unknown) x = refl
+  position-alike (items f n) x = refl
+
+  place-alike : {e : Element} {x y : List ℕ} → PlaceWrites g e x y → PlaceWrites g′ e x y
+  place-alike {e} {x} {y} h = place-exactly g′ e x y .0 (sym (position-alike (piece e) x) ∙ place-exactly g e x y .1 h)
+
   pub derives-alike : {n : ℕ} {x : List ℕ} → Derives g n x → Derives g′ n x
   derives-alike d = elim d as
       (λ n x d. Derives g′ n x) (λ es x d. Pieces g′ es x) (λ e x d. Piece g′ e x) (λ n between x d. Row g′ n between x) (λ n between x d. Texts g′ n between x) [
@@ -53,6 +93,9 @@ module _ (g g′ : List ℕ) (r : ReadAlike g g′) where
         | one-piece e es x rest (p → h) (ps → k) ↦ one-piece e es x rest h k
         | own-bytes x ↦ own-bytes x
         | a-lexeme c x e ↦ a-lexeme c x (sym (r .same-lexemes c x) ∙ e)
+        | an-escaped-lexeme c p x k e ↦
+            an-escaped-lexeme c p x (sym (escaped-alike c) ∙ k)
+            (subst (λ (d : ℕ). isPlainLexeme g′ d x ≡ true) (named-by-escaped c p k) (sym (r .same-lexemes (fieldB g p) x) ∙ e))
         | derived n x (d → h) ↦ derived n x h
         | repeated n between x (d → h) ↦ repeated n between x h
         | no-text n between ↦ no-text n between
@@ -69,7 +112,7 @@ module _ (g g′ : List ℕ) (r : ReadAlike g g′) where
           | build {env} {p = p} {x = x} {n} f e (b → h) ↦
               build f (there _ _ e) (subst (λ (es : List Element). Builds g′ t v env es (nodes t p) x n) (r .same-elements _ _ e) h)
           | literal f ↦ literal f
-          | place f w k ↦ place f w k
+          | place f w k h ↦ place f w k (place-alike h)
           | expand f q ws (b → h) ↦ expand f q ws h
           | then f w k y (b → h) ↦ then f w k y h
           | else f w k y (b → h) ↦ else f w k y h
@@ -91,7 +134,7 @@ module _ (g g′ : List ℕ) (r : ReadAlike g g′) where
   module _ (t : List ℕ) where
     type-named-alike : (f : TypeForm) → typeNamed g t f ≡ typeNamed g′ t f
     unfolding typeNamed
-    type-named-alike (text c) = ap exists (r .same-class c)
+    type-named-alike (text c) = ap exists (plain-alike c)
     type-named-alike yes-no = refl
     type-named-alike (list n) = refl
     type-named-alike (fields ns) = refl
@@ -128,8 +171,9 @@ module _ (g g′ : List ℕ) (r : ReadAlike g g′) where
     suits-alike Build x = ap (onFound (asksNonterminal (x .position)) false) λ j n.
         found-same _ _ false _ _ (r .same-production (fieldB t (x .node)))
         (λ q e. λ k. eqb (r .same-nonterminal _ q e k) n && eqb (length (positions (r .same-elements _ q e k))) (fieldD t (x .node))) j
-    suits-alike Literal x = ap (onFound (asksClass (x .position)) false) λ j c. r .same-lexemes c (textOf t (fieldB t (x .node)) (x .node)) j
-    suits-alike Place x = refl
+    suits-alike Literal x = ap (onFound (asksClass (x .position)) false) λ j c. lexeme-alike c (textOf t (fieldB t (x .node)) (x .node)) j
+    suits-alike Place x = ap (onFound (asksClass (x .position)) false) λ j c.
+        onFound (pathType t (x .vars) (path (x .node))) false λ ty. onFound (textClass (typeOf t ty)) false (eqb (plain-of-alike c j))
     suits-alike Expand x = refl
     suits-alike If x = refl
     suits-alike For x = refl
@@ -177,7 +221,8 @@ module _ (g g′ : List ℕ) (r : ReadAlike g g′) where
         found-same _ _ stuck _ _ (r .same-production (fieldB t p))
         λ q e. ap (λ (es : List Element). pieces (write (length out) p) (λ e c. go (piece e) c env) es (nodes t p) s) (r .same-elements _ q e)
     form-walked Literal go a p env s = refl
-    form-walked Place go a p env s = refl
+    form-walked Place go a p env s = ap (onFound (pathValue t v env (path p)) stuck) λ j w.
+        onFound (asText v w) stuck λ x. write (length out) p (position-alike a x j) s
     form-walked Expand go a p env s = refl
     form-walked If go a p env s = refl
     form-walked For go (piece e) p env s = refl

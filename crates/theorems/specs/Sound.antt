@@ -9,26 +9,27 @@ use native.Mathlib.Nat.{add-zero}
 use lib.ListN.{length}
 use Rattle.rules.specs.Faults.{onFound}
 use Rattle.rules.specs.Records.{fieldB, nth}
-use Rattle.rules.specs.Grammar.{Element, nonterminal}
+use Rattle.rules.specs.Grammar.{Element, lexeme, nonterminal}
 use Rattle.rules.specs.Templates.{TypeForm, text, yes-no, list, fields, no-type, typeOf, template, parameters, body, formOf, isFor}
 use Rattle.rules.specs.Value.{asText, asYesNo, asList, asRecord}
 use Rattle.rules.specs.Limits.{deepest}
 use Rattle.rules.specs.Typing.{site, bodySite, templatesTyping, typed, valueTyping}
 use Rattle.rules.specs.Walk.{Input, State, start, too-deep, End, done, stuck, andThen, valueAlong, pathValue, pathValues, write, withChild, pieces}
 use Rattle.rules.specs.Walk.{Filled, Asked, piece, items, filledBy, separate, visitItem, inOrder, listed, itemsOf, visitIn, visitForm, counted, visit, walk}
-use Rattle.rules.specs.Derivation.{Derives, produced, Pieces, no-element, one-piece, Piece, own-bytes, a-lexeme as lexeme-of, derived, repeated}
+use Rattle.rules.specs.Derivation.{Derives, produced, Pieces, no-element, one-piece, Piece, own-bytes, derived, repeated}
 use Rattle.rules.specs.declared.Form.the-variants.{For}
 use Rattle.rules.specs.declared.Position.{Position}
 use Rattle.rules.specs.declared.Position.the-variants.{Nonterminal, Item}
 use Rattle.laws.specs.Faults.{both-none, nth-in, every-in, onFound-none, at-none}
 use Rattle.theorems.specs.Ends.{Ends, finished, limited, ends-map, then-ends, found-ends, reached-ends, write-ends, ends-done}
-use Rattle.theorems.specs.Lexemes.{Lexeme, lexeme-exactly}
+use Rattle.theorems.specs.Lexemes.{PlainLexeme, piece-exactly}
 use Rattle.theorems.specs.Children.{Asks, asks-class, asks-nonterminal, asks-repetition}
 use Rattle.theorems.specs.Levels.{filling}
 use Rattle.theorems.specs.Handed.{pieces-child, IsFor, a-for, no-for, is-for, for-visited, item-visited, one-brought}
 use Rattle.theorems.specs.Evaluation.{BeforeItem, the-first, another}
 use Rattle.theorems.specs.Neighbours.{Further, no-more, further-one, further-append, further-row}
 use Rattle.theorems.specs.Judgement.{Along, arrived, a-field, PathTyped, Arguments, no-argument, an-argument}
+use Rattle.theorems.specs.Places.{place-text, place-lexeme}
 use Rattle.theorems.specs.Judgement.{Suits, by-build, by-literal, by-place, by-expand, by-if, by-for, by-sequence, as-item}
 use Rattle.theorems.specs.Judgement.{Fills, all-filled, no-child, a-child, Items, no-item, an-item}
 use Rattle.theorems.specs.Judgement.{OfType, of-text, of-yes-no, of-list, of-record, AllOf, none-left, one-of, EachOf, no-field}
@@ -38,7 +39,7 @@ use Rattle.theorems.specs.Finds.{kind-of}
 
 -- What the walk finds at a value of a type, by the type's form
 abbrev Shaped : List ℕ → List ℕ → List ℕ → ℕ → TypeForm → Type 0
-Shaped g t v w (text c) = (x : List ℕ) × (asText v w ≡ some x) × Lexeme g c x
+Shaped g t v w (text c) = (x : List ℕ) × (asText v w ≡ some x) × PlainLexeme g c x
 Shaped g t v w yes-no = (yes? : Bool) × (asYesNo v w ≡ some yes?)
 Shaped g t v w (list ty) = (ws : List ℕ) × (asList v w ≡ some ws) × AllOf g t v ty ws
 Shaped g t v w (fields tys) = (ws : List ℕ) × (asRecord v w ≡ some ws) × EachOf g t v tys ws
@@ -198,11 +199,11 @@ module _ (i : Input) (below : Asked → ℕ → List ℕ → State → End) (sou
   unfolding visitForm filledBy onFound
   form-sound bodies (by-build vars p n q f e b fs) (asks-nonterminal n′) h s =
       rw f (found-ends _ e (writes-map (λ x ps. derived n x (produced n (fieldB t p) q x e b ps)) (fills-sound p fs h s)))
-  form-sound bodies (by-literal vars p c f e) (asks-class c′) h s = rw f (writes-whole room p _ s (lexeme-of c _ (lexeme-exactly g c _ .1 e)))
-  form-sound bodies (by-place vars p c ty f e b) (asks-class c′) h s =
+  form-sound bodies (by-literal vars p c f e) (asks-class c′) h s = rw f (writes-whole room p _ s (piece-exactly g c _ .1 e))
+  form-sound bodies (by-place vars p c d ty f e b k) (asks-class c′) h s =
       let w = path-of e h in
-      let x = shaped (text c) (w .2) b in
-      rw f (found-ends _ (w .1) (found-ends _ (x .1) (writes-whole room p (x .0) s (lexeme-of c _ (lexeme-exactly g c _ .1 (x .2))))))
+      let x = shaped (text d) (w .2) b in
+      rw f (found-ends _ (w .1) (found-ends _ (x .1) (writes-whole room p _ s (piece-exactly g c _ .1 (place-lexeme k (x .2) (place-text g (lexeme c) refl))))))
   form-sound bodies (by-expand vars p n q f e b as′) (asks-nonterminal n′) h s =
       let ws = arguments-of as′ h in
       rw (f, ← b) (found-ends _ e (found-ends _ (ws .1) (sound .writes (bodies _ q e) (asks-nonterminal _) (ws .2) s)))

@@ -10,11 +10,11 @@ use mathlib.Core.Option.{some}
 use lib.ListN.{length, length-append}
 use Rattle.rules.specs.Records.{fieldB}
 use Rattle.rules.specs.Grammar.{productions, production, Element, keyword, lexeme, nonterminal, repetition, unknown, elements, nonterminalExists}
-use Rattle.rules.specs.Derivation.{Derives, produced, Pieces, no-element, one-piece, Piece, own-bytes, a-lexeme, derived, repeated}
+use Rattle.rules.specs.Derivation.{Derives, produced, Pieces, no-element, one-piece, Piece, own-bytes, derived, repeated}
 use Rattle.rules.specs.Derivation.{Row, no-text, some-texts, Texts, last-text, next-text}
 use Rattle.laws.specs.Faults.{In, here, later, nth-in}
 use Rattle.theorems.specs.LimitsExactly.{has-in}
-use Rattle.theorems.specs.Lexemes.{Lexeme, lexeme-exactly}
+use Rattle.theorems.specs.Lexemes.{Lexeme, piece-exactly}
 use Rattle.theorems.specs.HeadByHead.{in-cons}
 
 -- "A nonterminal derives a text if one of its productions does", and nothing else
@@ -27,10 +27,6 @@ production-of (produced n k p x e f ps) = (k, p, e, f, ps)
 -- "for a keyword its own bytes", and nothing else
 keyword-piece : {g w x : List ℕ} → Piece g (keyword w) x → x ≡ w
 keyword-piece (own-bytes x) = refl
-
--- "for a class a lexeme of it", and nothing else
-lexeme-piece : {g x : List ℕ} {c : ℕ} → Piece g (lexeme c) x → Lexeme g c x
-lexeme-piece {g} (a-lexeme c x e) = lexeme-exactly g c x .0 e
 
 -- "for a nonterminal a text that it derives", "for a repetition any number of texts in a row", and nothing else
 nonterminal-piece : {g x : List ℕ} {n : ℕ} → Piece g (nonterminal n) x → Derives g n x
@@ -189,7 +185,7 @@ derivation-has-teeth g = record {
   no-element-only = λ x. (no-pieces, λ e. subst (Pieces g []) (sym e) no-element);
   elements-only = λ e es x. (first-piece, λ (y, rest, p, ps, q). subst (Pieces g (e ∷ es)) (sym q) (one-piece e es y rest p ps));
   keyword-only = λ w x. (keyword-piece, λ e. subst (Piece g (keyword w)) (sym e) (own-bytes w));
-  lexeme-only = λ c x. (lexeme-piece, λ l. a-lexeme c x (lexeme-exactly g c x .1 l));
+  lexeme-only = piece-exactly g;
   nonterminal-only = λ n x. (nonterminal-piece, derived n x);
   repetition-only = λ n between x. (
     λ p. row-texts (repetition-piece p),

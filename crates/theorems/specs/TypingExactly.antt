@@ -44,7 +44,7 @@ fills-one-each (a-child vars e at c es cs a s fs) = one-child-for e at c es cs a
 suits-fits : {g t vars : List ℕ} {p : ℕ} {at : Position} → Suits g t vars p at → Fits g t vars p at
 suits-fits (by-build vars p n q f e b fs) = a-build (Nonterminal n) q f e (rw b (in-its-position n)) (fills-one-each fs)
 suits-fits (by-literal vars p c f l) = a-literal c f l
-suits-fits (by-place vars p c ty f h e) = a-place c ty f h e
+suits-fits (by-place vars p c d ty f h e k) = a-place c d ty f h e k
 suits-fits (by-expand vars p n q f e b as′) = an-expand (Nonterminal n) q f e (rw b (in-its-position n)) as′
 suits-fits (by-if vars p n ty f h e s₁ s₂) = an-if (Nonterminal n) n ty f (in-its-position n) h e
 suits-fits (by-for vars p n ty item f h e s) = a-for n ty item f h e
@@ -73,7 +73,7 @@ suits-below : {g t vars : List ℕ} {p : ℕ} {at : Position} → Suits g t vars
 unfolding sitesBelow sitesOf site asksNonterminal asksItem asksRepetition itemType onFound
 suits-below (by-build vars p n q f e b fs) y i = fills-in fs y (rw (f, e) at i)
 suits-below (by-literal vars p c f l) y i = absurd (in-none (rw f at i))
-suits-below (by-place vars p c ty f h e) y i = absurd (in-none (rw f at i))
+suits-below (by-place vars p c d ty f h e k) y i = absurd (in-none (rw f at i))
 suits-below (by-expand vars p n q f e b as′) y i = absurd (in-none (rw f at i))
 suits-below {g} {t} (by-if vars p n ty f h e s₁ s₂) y i = in-cons (SuitsAt g t) s₁ (λ z. in-cons (SuitsAt g t) s₂ (λ w j. elim j [ ])) (rw f at i)
 suits-below {g} {t} (by-for vars p n ty item f h e s) y i = in-cons (SuitsAt g t) s (λ z j. elim j [ ]) (rw (f, path-exactly t vars (path p) ty .1 h, e) at i)
@@ -101,7 +101,7 @@ fits-suits : {g t vars : List ℕ} {p : ℕ} {at : Position} → Fits g t vars p
 fits-suits {vars = vars} {p} (a-build at q f e a o) h =
     text-suits a (by-build vars p _ q f e refl (children-fill vars o (λ el at′ c k b. h vars c at′ (build-child at at′ el q c f e k b))))
 fits-suits {vars = vars} {p} (a-literal c f l) h = by-literal vars p c f l
-fits-suits {vars = vars} {p} (a-place c ty f k e) h = by-place vars p c ty f k e
+fits-suits {vars = vars} {p} (a-place c d ty f k e l) h = by-place vars p c d ty f k e l
 fits-suits {vars = vars} {p} (an-expand at q f e a as′) h = text-suits a (by-expand vars p _ q f e refl as′)
 fits-suits {vars = vars} {p} (an-if at n ty f a k e) h = text-suits a (by-if vars p n ty f k e (h _ _ _ (first-branch at n f a)) (h _ _ _ (second-branch at n f a)))
 fits-suits {vars = vars} {p} (a-for n ty item f k e) h = by-for vars p n ty item f k e (h _ _ _ (loop-body n ty item f k e))

@@ -3,22 +3,24 @@ use mathlib.Core.Path.{_≡_, refl, sym, _∙_, ap, ap₂, subst}
 use mathlib.Core.Logic.{_⊎_, inl, inr}
 use Prim.Native.Nat.{ℕ, zero, suc, _+_, _-_, _*_, _/_, _≤_, _<_}
 use mathlib.Core.List.{List, [], _∷_, _++_, append-nil, map}
-use mathlib.Core.Bool.{true, false, cond, _&&_, _||_}
+use mathlib.Core.Bool.{true, false, cond, _&&_, _||_, false≢true}
+use mathlib.Core.Option.{none}
 use native.Mathlib.Omega.{arith}
 use native.Mathlib.Nat.{add-assoc}
 use lib.ListN.{length, getD, take, drop}
 use lib.Seq.{getD-take, getD-drop}
 use lib.Dec.{eqb, leb}
-use borrow.Author.Tests.{eq-eqb, ne-eqb}
-use Rattle.rules.specs.Faults.{onFound}
-use Rattle.rules.specs.Records.{base, byteOf, word, kindOf, fieldA, fieldB, fieldC, fieldD, recordCount, recordsFrom, units, textOf, heads, after, row, things, ofKind, nth}
-use Rattle.rules.specs.Grammar.{textLength, elementSize, productionSize, grammarSize, grammarThings, classes, productions, class, production}
+use borrow.Author.Tests.{eqb-true}
+use Rattle.rules.specs.Faults.{onFound, onlyIf}
+use Rattle.rules.specs.Records.{base, byteOf, word, kindOf, fieldA, fieldB, fieldC, fieldD, recordCount, recordsFrom, units, textOf, heads, after, row, things, those, ofKind, nth}
+use Rattle.rules.specs.Grammar.{isClass, textLength, elementSize, productionSize, grammarSize, grammarThings, classes, productions, class, plainClass, production}
 use Rattle.rules.specs.Grammar.{keyword, lexeme, nonterminal, repetition, elementNumbered, elementAt, elementHeads, elements, hasProduction, nonterminalExists}
-use Rattle.rules.specs.Lexeme.{lowest, highest, ranges, inSome, allInSome, admits, charactersOf, isLexeme}
+use Rattle.rules.specs.Lexeme.{lowest, highest, ranges, inSome, allInSome, admits, charactersOf, isPlainLexeme}
 use Rattle.laws.specs.Faults.{In, here, later, nth-in}
+use Rattle.laws.specs.Sorts.{no-class, plain-class-iff}
 use Rattle.theorems.specs.Streams.{in-row}
-use Rattle.theorems.specs.Heads.{keyword-text, name-text, separator-text}
-use Rattle.theorems.specs.Apart.{one-thing, first-ends, second-ends, heads-within, heads-apart, things-apart, of-kind-in}
+use Rattle.theorems.specs.Sizes.{keyword-text, name-text, separator-text}
+use Rattle.theorems.specs.Apart.{one-thing, first-ends, second-ends, heads-within, heads-apart, things-apart, those-in}
 use Rattle.theorems.specs.ReadAlike.{ReadAlike, found-same}
 
 -- the record e is an element of a production of g
@@ -72,16 +74,16 @@ map-same (x ∷ xs) h = ap₂ _∷_ (h x (here xs)) (map-same xs (λ y i. h y (l
 element-within : {g : List ℕ} {e : ℕ} (h : ElementOf g e) → (h .head < e) × (e + elementSize g e ≤ h .head + grammarSize g (h .head))
 unfolding productions elementHeads grammarSize productionSize
 element-within {g} {e} h =
-    let k = of-kind-in g 3 (grammarThings g) (h .a-production) .1 in
+    let k = eqb-true (kindOf g (h .head)) 3 (those-in (ofKind g 3) (grammarThings g) (h .a-production) .1) in
     let (a, b) = heads-within (elementSize g) (fieldD g (h .head)) (h .head + 1) (h .its-element) in
-    (omega arith, rw (ne-eqb (kindOf g (h .head)) 1 (λ z. omega arith)) (omega arith))
+    (omega arith, rw (no-class g (h .head) (λ z. omega arith) (λ z. omega arith)) (omega arith))
 
 in-no-text : {g : List ℕ} {e f : ℕ} → ElementOf g e → ElementOf g f → e < f → f < e + elementSize g e → ⊥
 unfolding productions grammarThings elementHeads
 in-no-text {g} {e} {f} a b l m =
     let (i, j) = element-within a in
     let (k, n) = element-within b in
-    elim (things-apart (grammarSize g) g (recordCount g) 0 (of-kind-in g 3 _ (a .a-production) .0) (of-kind-in g 3 _ (b .a-production) .0)) [
+    elim (things-apart (grammarSize g) g (recordCount g) 0 (those-in (ofKind g 3) _ (a .a-production) .0) (those-in (ofKind g 3) _ (b .a-production) .0)) [
       | first-ends h ↦ omega arith
       | second-ends h ↦ omega arith
       | one-thing h ↦
@@ -95,12 +97,13 @@ in-no-text {g} {e} {f} a b l m =
 in-no-class : {g : List ℕ} {p f : ℕ} → In p (classes g) → ElementOf g f → p < f → f < p + 1 + fieldD g p → ⊥
 unfolding classes productions grammarThings grammarSize
 in-no-class {g} {p} {f} a b l m =
-    let (i, u) = of-kind-in g 1 _ a in
-    let (j, w) = of-kind-in g 3 _ (b .a-production) in
+    let (i, u) = those-in (isClass g) _ a in
+    let (j, w) = those-in (ofKind g 3) _ (b .a-production) in
+    let x = eqb-true (kindOf g (b .head)) 3 w in
     let (k, n) = element-within b in
-    let z : grammarSize g p ≡ 1 + fieldD g p = rw (eq-eqb _ 1 u) in
+    let z : grammarSize g p ≡ 1 + fieldD g p = rw u in
     elim (things-apart (grammarSize g) g (recordCount g) 0 i j) [
-      | one-thing h ↦ let o : kindOf g p ≡ kindOf g (b .head) = ap (kindOf g) h in omega arith
+      | one-thing h ↦ false≢true (sym (no-class g (b .head) (λ z. omega arith) (λ z. omega arith)) ∙ ap (isClass g) (sym h) ∙ u)
       | first-ends h ↦ omega arith
       | second-ends h ↦ omega arith
     ]
@@ -134,10 +137,9 @@ module _ (g g′ : List ℕ) (d : DifferInForm g g′) where
   things-same size zero p = refl
   things-same size (suc n) p = λ j. elim (eqb (same-kind p j) 0) [ true ↦ [] | false ↦ p ∷ things-same size n (p + size p) j ]
 
-  of-kind-same : (kind : ℕ) (ps : List ℕ) → ofKind g kind ps ≡ ofKind g′ kind ps
-  unfolding ofKind
-  of-kind-same kind [] = refl
-  of-kind-same kind (p ∷ ps) = λ j. elim (eqb (same-kind p j) kind) [ true ↦ p ∷ of-kind-same kind ps j | false ↦ of-kind-same kind ps j ]
+  same-sort : isClass g ≡ isClass g′
+  unfolding isClass
+  same-sort = λ j p. eqb (same-kind p j) 1 || eqb (same-kind p j) 5
 
   pub same-b : (i : ℕ) → fieldB g i ≡ fieldB g′ i
   unfolding fieldB
@@ -165,7 +167,7 @@ module _ (g g′ : List ℕ) (d : DifferInForm g g′) where
 
   grammar-sizes : grammarSize g ≡ grammarSize g′
   unfolding grammarSize productionSize
-  grammar-sizes = λ j p. cond (eqb (same-kind p j) 1) (1 + same-d p j) (after (sizes j) (same-d p j) (p + 1) - p)
+  grammar-sizes = λ j p. cond (same-sort j p) (1 + same-d p j) (after (sizes j) (same-d p j) (p + 1) - p)
 
   same-things : grammarThings g ≡ grammarThings g′
   unfolding grammarThings recordCount
@@ -173,11 +175,11 @@ module _ (g g′ : List ℕ) (d : DifferInForm g g′) where
 
   pub same-classes : classes g ≡ classes g′
   unfolding classes
-  same-classes = of-kind-same 1 (grammarThings g) ∙ ap (ofKind g′ 1) same-things
+  same-classes = λ j. those (same-sort j) (same-things j)
 
   pub same-productions : productions g ≡ productions g′
   unfolding productions
-  same-productions = of-kind-same 3 (grammarThings g) ∙ ap (ofKind g′ 3) same-things
+  same-productions = λ j. those (λ p. eqb (same-kind p j) 3) (same-things j)
 
   pub same-heads : (p : ℕ) → elementHeads g p ≡ elementHeads g′ p
   unfolding elementHeads
@@ -275,15 +277,21 @@ module _ (g g′ : List ℕ) (d : DifferInForm g g′) where
   exists-alike n [] = refl
   exists-alike n (p ∷ ps) = λ j. eqb (same-b p j) n || exists-alike n ps j
 
+  same-plain : (c : ℕ) → plainClass g c ≡ plainClass g′ c
+  unfolding plainClass class
+  same-plain c = λ j. onFound (nth (same-classes j) c) none λ p. onlyIf (eqb (same-kind p j) 1) p
+
   pub read-alike : ReadAlike g g′
-  unfolding class production nonterminalExists isLexeme
+  unfolding class production nonterminalExists isPlainLexeme
   read-alike = record {
     same-class = λ n. ap (λ (xs : List ℕ). nth xs n) same-classes;
+    same-kind = λ n p e. same-kind p;
+    same-named = λ n p e. same-b p;
     same-production = λ n. ap (λ (xs : List ℕ). nth xs n) same-productions;
     same-existence = λ n. exists-alike n (productions g) ∙ ap (hasProduction g′ n) same-productions;
     same-nonterminal = λ n p e. same-b p;
     same-elements = λ n p e. same-elements p (nth-in (productions g) n p e);
     same-lexemes = λ c x.
-        found-same _ _ false _ _ (ap (λ (xs : List ℕ). nth xs c) same-classes)
-        (λ p e. ap (onFound (charactersOf x) false) (λ j cs. same-admitted cs (nth-in (classes g) c p e) j));
+        found-same _ _ false _ _ (same-plain c)
+        (λ p e. ap (onFound (charactersOf x) false) (λ j cs. same-admitted cs (nth-in (classes g) c p (plain-class-iff g c p .0 e .0)) j));
   }

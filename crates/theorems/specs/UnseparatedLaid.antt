@@ -14,9 +14,11 @@ use Rattle.rules.specs.Layout.{layoutFault, grammarLayout}
 use Rattle.laws.specs.Faults.{In, here, later}
 use Rattle.theorems.specs.Streams.{WellSized}
 use Rattle.theorems.specs.LaidOut.{InRow, no-thing, one-thing, Numbered, no-more, one-more, Padded, Tail, RangeAt, ClassAt, ElementHead, ElementAt, ProductionAt, GrammarLaid}
+use Rattle.theorems.specs.LaidOut.ClassAt.{a-plain, an-escaped}
 use Rattle.theorems.specs.LaidOut.ElementAt.{a-keyword, a-name, a-separated}
 use Rattle.theorems.specs.LayoutExactly.{grammar-laid-exactly}
-use Rattle.theorems.specs.Heads.{each-in-row, class-size, keyword-text, separator-text, element-size, production-size, productions-are}
+use Rattle.theorems.specs.Sizes.{each-in-row, class-size, keyword-text, separator-text, element-size, production-size}
+use Rattle.theorems.specs.Heads.{productions-are}
 use Rattle.theorems.specs.Unseparated.{ElementOf, Unseparated, same-bytes, three-or-four, DifferInForm, no-text, the-other-way}
 use Rattle.theorems.specs.Unseparated.{same-byte, same-kind, same-a, same-b, same-c, same-d, same-units}
 
@@ -65,11 +67,12 @@ module _ (g g′ : List ℕ) (d : DifferInForm g g′) where
   }
 
   class-too : (n p q : ℕ) → ClassAt g n p q → ClassAt g′ n p q
-  class-too n p q h = record {
-    kind = sym (same-kind g g′ d p) ∙ h .kind;
-    number = sym (same-a g g′ d p (same-unless-4 p (λ k. let z = h .kind in omega arith))) ∙ h .number;
-    ranges = subst (λ (m : ℕ). InRow (RangeAt g′) m (p + 1) q) (same-d g g′ d p) (each-in-row range-too (h .ranges));
-  }
+  class-too n p q (a-plain k a rs) =
+      a-plain (sym (same-kind g g′ d p) ∙ k) (sym (same-a g g′ d p (same-unless-4 p (λ z. omega arith))) ∙ a)
+      (subst (λ (m : ℕ). InRow (RangeAt g′) m (p + 1) q) (same-d g g′ d p) (each-in-row range-too rs))
+  class-too n p q (an-escaped k a b c e) =
+      an-escaped (sym (same-kind g g′ d p) ∙ k) (sym (same-a g g′ d p (same-unless-4 p (λ z. omega arith))) ∙ a)
+      (sym (same-c g g′ d p) ∙ b) (sym (same-d g g′ d p) ∙ c) e
 
   head-too : {e : ℕ} → ElementHead g e → ElementHead g′ e
   head-too {e} h = record { kind = sym (same-kind g g′ d e) ∙ h .kind; unused-d = sym (same-d g g′ d e) ∙ h .unused-d }

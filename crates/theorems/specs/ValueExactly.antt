@@ -16,7 +16,7 @@ use Rattle.rules.specs.Value.{children, asText, asYesNo, asList, asRecord, valu
 use Rattle.rules.specs.Limits.{deepest, valueLimits}
 use Rattle.rules.specs.Typing.{Typed, typed, hasForm, hasType, paired, typedOf, typedBelow, mistyped, declaredType, valueTyping}
 use Rattle.laws.specs.Faults.{In, here, later, in-map, exists-iff, onFound-true, onFound-none, eqb-iff, at-none, Below, itself, under, tree-in}
-use Rattle.theorems.specs.Lexemes.{lexeme-exactly}
+use Rattle.theorems.specs.Lexemes.{plain-lexeme-exactly}
 use Rattle.theorems.specs.Finds.{of-kind, kind-of}
 use Rattle.theorems.specs.Judgement.{OfType, of-text, of-yes-no, of-list, of-record, AllOf, none-left, one-of, EachOf, no-field, a-field, Declared}
 use Rattle.theorems.specs.OwnRule.{OfForm, a-text, a-yes-no, a-list, a-record, ChildValue, list-item, record-field, ShouldBe, the-whole, inside}
@@ -35,7 +35,7 @@ unfolding hasForm asText asYesNo asList asRecord
 form-right g t v (text c) ty w f e =
     let a = onFound-true (asText v w) _ .0 e in
     let k = of-kind v w 1 (textOf v (fieldB v w) w) (a .0) (a .1) in
-    a-text c f (k .0) (rw (k .1) (lexeme-exactly g c (a .0) .0 (a .2)))
+    a-text c f (k .0) (rw (k .1) (plain-lexeme-exactly g c (a .0) .0 (a .2)))
 form-right g t v yes-no ty w f e = let a = exists-iff (asYesNo v w) .0 e in a-yes-no f (of-kind v w 2 _ (a .0) (a .1) .0)
 form-right g t v (list item) ty w f e = let a = exists-iff (asList v w) .0 e in a-list item f (of-kind v w 3 _ (a .0) (a .1) .0)
 form-right g t v (fields tys) ty w f e =
@@ -46,7 +46,7 @@ form-right g t v no-type ty w f e = absurd (false≢true e)
 
 right-form : {g t v : List ℕ} {ty w : ℕ} → OfForm g t v ty w → hasType g t v (typed ty w) ≡ true
 unfolding hasType hasForm typed asText asYesNo asList asRecord onFound exists
-right-form {g} {v = v} {w = w} (a-text c f k l) = rw (f, kind-of v w 1 (textOf v (fieldB v w) w) k) (lexeme-exactly g c _ .1 l)
+right-form {g} {v = v} {w = w} (a-text c f k l) = rw (f, kind-of v w 1 (textOf v (fieldB v w) w) k) (plain-lexeme-exactly g c _ .1 l)
 right-form {v = v} {w = w} (a-yes-no f k) = rw (f, kind-of v w 2 _ k)
 right-form {v = v} {w = w} (a-list item f k) = rw (f, kind-of v w 3 (children v w) k)
 right-form {v = v} {w = w} (a-record tys f k l) = rw (f, kind-of v w 4 (children v w) k) (eqb-iff _ _ .1 l)

@@ -24,6 +24,7 @@ use Rattle.laws.specs.Faults.{In, here, later}
 use Rattle.theorems.specs.Children.{Asks, asks-class, asks-nonterminal, asks-repetition, asks-nothing, ChildFor, this-child, past-keyword, past-child}
 use Rattle.theorems.specs.Ends.{reached-done}
 use Rattle.theorems.specs.Finds.{Finds, text-is, yes-is, no-is, finds-exactly, finds-all-exactly}
+use Rattle.theorems.specs.Places.{place-text}
 use Rattle.theorems.specs.Handed.{IsFor, a-for as is-a-for, no-for, is-for, filled-by, listed-is, for-visited, brings-items}
 use Rattle.theorems.specs.Levels.{NodeAfter, first-node, later-node, ItemAfter, by-node, by-turn, filling}
 use Rattle.theorems.specs.Levels.{Under, a-child, a-body, on-yes, on-no, a-turn, an-item, a-for, Levels, root-body, one-deeper}
@@ -80,6 +81,9 @@ node-in (later-node b m n cs h j) = later b cs (node-in j)
 
 if-no-for : {f : Form} → f ≡ If → f ≡ For → ⊥
 if-no-for e h = let z : _≡_ {A = ℕ} 0 1 = cc in omega arith
+
+pub place-no-for : {f : Form} → f ≡ Place → f ≡ For → ⊥
+place-no-for e h = let z : _≡_ {A = ℕ} 0 1 = cc in omega arith
 
 module _ (i : Input) where
   open Input i using (grammar as g, templates as t, value as v)
@@ -214,13 +218,19 @@ module _ (i : Input) (fuel room : ℕ) (R : State → End → End → Type 0) (k
         one : R s (visitIn i below (filling p m x) env n c s) (visitIn (limitedBy i fuel room) below′ (filling p m x) env n c s)
         one = node-both f r q (subst (NodeAfter t v env c (nodes t p)) (add-zero n) (h c 0 (first-node cs))) s
 
+    -- a place has an element's position: items are asked of a for only
+    place-both : (a′ : Asked) → a ≡ a′ → formOf t p ≡ Place → Both (visitForm i Place below a′ p env) (visitForm (limitedBy i fuel room) Place below′ a′ p env)
+    unfolding visitForm
+    place-both (piece el) r f s = path-both s λ w e. found-both _ _ _ s λ x b. let k = text-is v w x .0 b in
+        kept .writing _ at shallow (text-found w el _ f r e (k .0) (place-text g el (k .1))) s
+    place-both (items h n) r f s = absurd (place-no-for f (for-level i (subst (λ (z : Asked). LevelsOf i d z p env) r at) (omega arith) .2))
+
     form-both : (f : Form) → formOf t p ≡ f → Both (visitForm i f below a p env) (visitForm (limitedBy i fuel room) f below′ a p env)
     unfolding visitForm
     form-both Build f s = found-both _ _ _ s λ q e.
         pieces-both _ _ _ _ _ _ (λ x j. kept .writing x at shallow (a-keyword q x f e j)) (λ e′ c j. deeper _ c env (a-child q c e′ f e j)) s
     form-both Literal f s = kept .writing _ at shallow (its-text f) s
-    form-both Place f s = path-both s λ w e. found-both _ _ _ s λ x b. let k = text-is v w x .0 b in
-        kept .writing x at shallow (subst (WritesOf i a p env) (k .1) (text-found w f e (k .0))) s
+    form-both Place f s = place-both a refl f s
     form-both Expand f s = found-both _ _ _ s λ q e. found-both _ _ _ s λ ws b. deeper _ _ ws (a-body q ws f e (finds-all-exactly t v env _ ws .0 b)) s
     form-both If f s = path-both s λ w e. found-both _ _ _ s λ yes? b. branch-both w yes? f e b s
     form-both For f s = for-both a refl f s

@@ -11,11 +11,12 @@ use lib.Seq.{getD-take, getD-drop, getD-set-same, take-set-le, drop-set-add, dro
 use lib.Dec.{eqb, ltb}
 use borrow.Author.Tests.{eq-eqb, ne-eqb, eqb-true, ltb-true, ltb-false}
 use Rattle.rules.specs.Blocks.{streamLength}
-use Rattle.rules.specs.Records.{base, byteOf, kindOf, fieldA, fieldD, heads, after, things, ofKind, nth, recordCount}
+use Rattle.rules.specs.Records.{base, byteOf, kindOf, fieldA, fieldD, heads, after, things, those, ofKind, nth, recordCount}
 use Rattle.rules.specs.Grammar.{elementSize, productionSize, grammarSize, grammarThings, productions, elementHeads}
 use Rattle.laws.specs.Lists.{nth-some, nth-within}
 use Rattle.laws.specs.Reads.{whole-blocks}
 use Rattle.laws.specs.Rows.{heads-done, heads-more, length-heads}
+use Rattle.laws.specs.Sorts.{no-class}
 use Rattle.typing.specs.Asked.{askedAmong, askedOf, AskedRow, AskedFilled, RowPut}
 use Rattle.typing.proofs.AnswerLaws.{one-more}
 
@@ -146,7 +147,8 @@ row-ends g p k =
     let a = after-grows (elementSize g) (size-some g) (fieldD g p) (p + 1) in
     let b = among-fewer g (heads (elementSize g) (fieldD g p) (p + 1)) in
     let c = length-heads (elementSize g) (fieldD g p) (p + 1) in
-    rw (k) (omega (arith, a, b, c))
+    let n = no-class g p (λ e. omega (arith, k)) (λ e. omega (arith, k)) in
+    rw (n) (omega (arith, a, b, c))
 
 none-found : {A : Type 0} {q : ℕ} (k : ℕ) → nth [] k ≡ some q → A
 unfolding nth
@@ -157,14 +159,14 @@ abbrev oneMore : Bool → Bool → ℕ → List ℕ → List ℕ
 oneMore last is p ps = elim last [ true ↦ [] | false ↦ elim is [ true ↦ p ∷ ps | false ↦ ps ] ]
 
 abbrev productionsFrom : List ℕ → ℕ → ℕ → List ℕ
-productionsFrom g n p = ofKind g 3 (things g (grammarSize g) n p)
+productionsFrom g n p = those (ofKind g 3) (things g (grammarSize g) n p)
 
 productions-more : (g : List ℕ) (n p : ℕ)
     → productionsFrom g (suc n) p ≡ oneMore (eqb (kindOf g p) 0) (eqb (kindOf g p) 3) p (productionsFrom g n (p + grammarSize g p))
-unfolding things ofKind
+unfolding things those
 productions-more g n p = go (eqb (kindOf g p) 0)
   where
-    go : (b : Bool) → ofKind g 3 (elim b [ true ↦ [] | false ↦ p ∷ things g (grammarSize g) n (p + grammarSize g p) ])
+    go : (b : Bool) → those (ofKind g 3) (elim b [ true ↦ [] | false ↦ p ∷ things g (grammarSize g) n (p + grammarSize g p) ])
         ≡ oneMore b (eqb (kindOf g p) 3) p (productionsFrom g n (p + grammarSize g p))
     go true = refl
     go false = refl
@@ -179,7 +181,7 @@ more-here g p p′ ps false true e h f (suc k) q m = let w = f k q m in (omega (
 more-here g p p′ ps false false e h f k q m = let w = f k q m in (omega (arith, w .0), w .1)
 
 from-here : (g : List ℕ) (n p : ℕ) → (k q : ℕ) → nth (productionsFrom g n p) k ≡ some q → (p ≤ q) × (kindOf g q ≡ 3)
-unfolding things ofKind
+unfolding things those
 from-here g zero p k q m = none-found k m
 from-here g (suc n) p k q m =
     more-here g p (p + grammarSize g p) (productionsFrom g n (p + grammarSize g p)) (eqb (kindOf g p) 0) (eqb (kindOf g p) 3) refl (omega arith)
@@ -211,7 +213,7 @@ more-apart g p ps false true e f h (suc i) (suc j) a b m k l = h i j a b m k (le
 more-apart g p ps false false e f h i j a b m k l = h i j a b m k l
 
 apart-from : (g : List ℕ) (n p : ℕ) → Apart g (productionsFrom g n p)
-unfolding things ofKind
+unfolding things those
 apart-from g zero p i j a b m k l = none-found i m
 apart-from g (suc n) p i j a b m k l =
     more-apart g p (productionsFrom g n (p + grammarSize g p)) (eqb (kindOf g p) 0) (eqb (kindOf g p) 3) refl

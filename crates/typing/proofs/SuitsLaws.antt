@@ -14,7 +14,7 @@ use Rattle.rules.specs.Faults.{onFound, exists}
 use Rattle.rules.specs.Records.{fieldB, fieldC, fieldD, textOf, heads, row, nth}
 use Rattle.rules.specs.Lexeme.{isLexeme}
 use Rattle.rules.specs.Limits.{loopsBelow}
-use Rattle.rules.specs.Grammar.{productions, production}
+use Rattle.rules.specs.Grammar.{plainOf, productions, production}
 use Rattle.rules.specs.Templates.{TypeForm, no-type, typeOf, formOf, nodes, path, first, second, nodesOf}
 use Rattle.rules.specs.Typing.{Site, site, asksClass, asksNonterminal, asksRepetition, asksItem, textClass, isYesNo, itemType, pathType, suitsForm, sites, sitesOf}
 use Rattle.rules.specs.declared.Form.{Form}
@@ -189,9 +189,9 @@ module _ (g t : List ℕ) (x : Site) where
     unfolding path
     finds-in h e = ap h finds ∙ through h e (pathType t (x .vars) (x .node + 1)) (typeOf t)
 
-    pub place-is : (c : ℕ) → asksClass (x .position) ≡ some c → onFound (textClass F) false (eqb c) ≡ suitsForm g t Place x
+    pub place-is : (c : ℕ) → asksClass (x .position) ≡ some c → onFound (textClass F) false (eqb (plainOf g c)) ≡ suitsForm g t Place x
     unfolding suitsForm onFound textClass
-    place-is c h = finds-in (λ G. onFound (textClass G) false (eqb c)) refl ∙ sym (on-some false _ h)
+    place-is c h = finds-in (λ G. onFound (textClass G) false (eqb (plainOf g c))) refl ∙ sym (on-some false _ h)
 
     module _ (n : ℕ) (asks : asksNonterminal (x .position) ≡ some n) where
       if-form : suitsForm g t If x ≡ isYesNo F

@@ -11,7 +11,7 @@ use lib.Dec.{eqb}
 use borrow.Author.Tests.{eq-eqb, ne-eqb, eqb-true}
 use Rattle.rules.specs.Faults.{every, onFound, onlyIf, at}
 use Rattle.rules.specs.Records.{kindOf, fieldB, fieldD, textOf, heads, row}
-use Rattle.rules.specs.Lexeme.{isLexeme}
+use Rattle.rules.specs.Lexeme.{isPlainLexeme}
 use Rattle.rules.specs.Templates.{list, fields, typeOf}
 use Rattle.rules.specs.Value.{valueSize, children, asText, asYesNo, asList, asRecord}
 use Rattle.rules.specs.Limits.{deepest}
@@ -28,6 +28,8 @@ use Rattle.stream.proofs.BlockLaws.{found, unfound}
 use Rattle.stream.specs.declared.record.Record.{Record}
 use Rattle.stream.specs.declared.text.Text.{Text as StreamText}
 use Rattle.records.specs.Sizes.{ValueSize}
+use Rattle.lexeme.specs.Sources.{admitted}
+use Rattle.lexeme.proofs.SourceLaws.{admitted-plain}
 use Rattle.typing.specs.Answers.{kindForm, childCount, childType, rowOf, typedIn}
 use Rattle.typing.specs.declared.Kind.{Kind}
 use Rattle.typing.specs.declared.Kind.the-variants.{Text, YesNo, Items, Fields, Missing}
@@ -43,13 +45,14 @@ unfolding hasForm
 missing-is g v t w = refl
 
 module _ (g v t : List ℕ) (w : ℕ) (r : Record) (f : Fetched v w r) where
-  text-is : (c : ℕ) → r .kind ≡ 1 → isLexeme g c (textOf v (fieldB v w) w) ≡ hasForm g v (kindForm t (Text c)) w
+  text-is : (c : ℕ) → r .kind ≡ 1 → isPlainLexeme g c (textOf v (fieldB v w) w) ≡ hasForm g v (kindForm t (Text c)) w
   unfolding hasForm asText onFound onlyIf
   text-is c h = sym (rw (eq-eqb _ _ (sym (f .kind) ∙ h)))
 
-  -- the same of the text as it was read
-  pub text-read : (c : ℕ) (x : StreamText) {n : ℕ} → Begins v (textOf v (r .b) w) n x → r .kind ≡ 1 → isLexeme g c (textIn v x) ≡ hasForm g v (kindForm t (Text c)) w
-  text-read c x b h = ap (isLexeme g c) (b .text ∙ ap (λ (n : ℕ). textOf v n w) (f .b)) ∙ text-is c h
+  -- the same of the text as it was read, which comes from a plain class
+  pub text-read : (c : ℕ) (x : StreamText) {n : ℕ} → Begins v (textOf v (r .b) w) n x → r .kind ≡ 1
+      → admitted g (record { plain = c; escaped = false }) (textIn v x) ≡ hasForm g v (kindForm t (Text c)) w
+  text-read c x b h = admitted-plain g _ (textIn v x) refl ∙ ap (isPlainLexeme g c) (b .text ∙ ap (λ (n : ℕ). textOf v n w) (f .b)) ∙ text-is c h
 
   pub text-other : (c : ℕ) → (r .kind ≡ 1 → ⊥) → false ≡ hasForm g v (kindForm t (Text c)) w
   unfolding hasForm asText onFound onlyIf

@@ -4,6 +4,7 @@ ghost use mathlib.Core.List.{List, map};
 ghost use mathlib.Core.Option.{none};
 ghost use Prim.Native.Nat.{ℕ, _+_, _<_};
 ghost use Rattle.lexeme.specs.Sets.{LexemesReady};
+ghost use Rattle.lexeme.specs.Sources.{ClassesLent};
 ghost use lib.ListN.{take};
 ghost use Rattle.rules.specs.Blocks.{streamLength};
 ghost use Rattle.rules.specs.Records.{fieldB, row};
@@ -24,6 +25,7 @@ use crate::kinds::head;
 use crate::kinds::path_kind;
 use crate::kinds::path_type;
 use lexeme::is_lexeme;
+use lexeme::source_of;
 use records::node::form_of;
 use rules::Form;
 use rules::Position;
@@ -137,17 +139,24 @@ fn suits_literal(g: &[u8], t: &[u8], classes: &[u16], sets: &[u16], f: Frame) ->
     is_lexeme(g, classes, sets, c, t, f.node)
 }
 
-// A place: its path finds a text of that very class.
-fn suits_place(t: &[u8], types: &[u16], scope: &[u16; VARIABLES], f: Frame) -> bool
-    requires { ⌜ (RoomBelow 1 (f .node)) × (TypeTable (now t) (now types)) × (Scope (now scope) (f .count)) ⌝ }
-    ensures { λ r. ⌜ ((g : List ℕ) → r ≡ suitsForm g (now (t .entry)) Form.Place (siteOf (now (scope .entry)) f)) ⌝ }
+// A place: its path finds a text of that very class, or of the plain class that an escaped class names.
+fn suits_place(
+    g: &[u8],
+    t: &[u8],
+    classes: &[u16],
+    types: &[u16],
+    scope: &[u16; VARIABLES],
+    f: Frame,
+) -> bool
+    requires { ⌜ (ClassesLent (now g) (now classes)) × (RoomBelow 1 (f .node)) × (TypeTable (now t) (now types)) × (Scope (now scope) (f .count)) ⌝ }
+    ensures { λ r. ⌜ r ≡ suitsForm (now (g .entry)) (now (t .entry)) Form.Place (siteOf (now (scope .entry)) f) ⌝ }
 {
     let position = f.position;
     let Sought::Number(c) = asks_class(position) else {
         return false;
     };
     match path_kind(t, types, scope, f.count, f.node + 1) {
-        Kind::Text(d) => c == d,
+        Kind::Text(d) => source_of(g, classes, c).plain == d,
         Kind::YesNo => false,
         Kind::Items(_) => false,
         Kind::Fields(_, _) => false,
@@ -295,7 +304,7 @@ pub fn own_test(
     match form_of(r) {
         Form::Build => suits_build(g, productions, asked, f, r),
         Form::Literal => leaf(suits_literal(g, t, classes, sets, f)),
-        Form::Place => leaf(suits_place(t, types, scope, f)),
+        Form::Place => leaf(suits_place(g, t, classes, types, scope, f)),
         Form::Expand => leaf(suits_expand(t, templates, types, scope, f, r)),
         Form::If => suits_if(t, types, scope, f),
         Form::For => suits_for(t, types, scope, f),

@@ -17,6 +17,7 @@ use crate::LEVELS;
 use crate::Sought;
 use crate::kinds::type_of;
 use crate::templates::declared_type;
+use lexeme::Source;
 use lexeme::admits;
 use records::value::size_of;
 use stream::Fault;
@@ -40,7 +41,11 @@ fn has_form(
     match kind {
         Kind::Text(c) => {
             if r.kind == 1 {
-                admits(g, classes, sets, c, v, text_after(v, w, r.b as usize))
+                let source = Source {
+                    plain: c,
+                    escaped: false,
+                };
+                admits(g, classes, sets, source, v, text_after(v, w, r.b as usize))
             } else {
                 false
             }

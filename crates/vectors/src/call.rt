@@ -50,6 +50,7 @@ fn dispatch(
         12 => pack(kind, first, out),
         13 => unpack(kind, first, out),
         14 => evaluate(first, second, third, number, out, scratch),
+        15 => unescape(first, out),
         _ => text(b" no call"),
     }
 }
@@ -77,6 +78,11 @@ fn pack(kind: u8, payload: &[u8], out: &mut [u8]) {
 
 fn unpack(kind: u8, stream: &[u8], out: &mut [u8]) {
     let a = feed::unpack(kind, stream, out);
+    written(a, out);
+}
+
+fn unescape(escaped: &[u8], out: &mut [u8]) {
+    let a = feed::unescape(escaped, out);
     written(a, out);
 }
 

@@ -12,7 +12,7 @@ use Rattle.rules.specs.Faults.{onFound}
 use Rattle.rules.specs.Records.{fieldA, fieldB, fieldC, textOf}
 use Rattle.rules.specs.Grammar.{nonterminal, textLength, elementNumbered, elementAt}
 use Rattle.rules.specs.Templates.{formOf}
-use Rattle.rules.specs.Walk.{Input, State, End, stuck, Asked, piece, filledBy, visitForm, reached, visit}
+use Rattle.rules.specs.Walk.{Input, State, End, stuck, Asked, piece, filledBy, writtenFor, visitForm, reached, visit}
 use Rattle.rules.specs.declared.Form.{Form}
 use Rattle.rules.specs.declared.Form.the-variants.{Build, Literal, Place, Expand, If, For, Sequence, Unknown}
 use Rattle.stream.specs.Record.{Fetched}
@@ -36,7 +36,7 @@ reached-same false p next next′ s h = refl
 module _ (i : Input) (n m : ℕ) where
   form-any : (form : Form) (self : Asked → ℕ → List ℕ → State → End) → ((p : ℕ) (env : List ℕ) (s : State) → self (piece (nonterminal n)) p env s ≡ self (piece (nonterminal m)) p env s)
       → (p : ℕ) (env : List ℕ) (s : State) → visitForm i form self (piece (nonterminal n)) p env s ≡ visitForm i form self (piece (nonterminal m)) p env s
-  unfolding visitForm filledBy
+  unfolding visitForm filledBy writtenFor
   form-any Build self h p env s = refl
   form-any Literal self h p env s = refl
   form-any Place self h p env s = refl

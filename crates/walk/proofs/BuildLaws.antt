@@ -8,8 +8,8 @@ use native.Mathlib.Omega.{arith}
 use lib.ListN.{length}
 use lib.Dec.{eqb, ltb}
 use borrow.Author.Tests.{lt-ltb, le-ltb, eq-eqb, ne-eqb}
-use Rattle.rules.specs.Records.{fieldA, fieldB, fieldC, textOf, nth}
-use Rattle.rules.specs.Grammar.{elementAt}
+use Rattle.rules.specs.Records.{fieldA, fieldB, fieldC, textOf}
+use Rattle.rules.specs.Grammar.{elementAt, production}
 use Rattle.rules.specs.Value.{children}
 use Rattle.rules.specs.Walk.{State, End, stuck, write, piece}
 use Rattle.rules.specs.declared.Form.the-variants.{Build}
@@ -43,7 +43,7 @@ pub record InBuild (s : Sources) (at : At) (out₀ s₀ : List ℕ) (place count
   pub going : Going (buildLeft s at out₀ s₀ (count - taken) element (children - used) child) (formAt Build (s .grammar) (s .templates) (s .value) at out₀ s₀) at out₀ s₀ (endedAt 0 here) out sc
 
 module _ {s : Sources} {at : At} {out₀ s₀ : List ℕ} (formed : Formed Build s at out₀ s₀) where
-  pub build-start : {head first : Record} → Fetched (s .templates) (at .node) head → (place : ℕ) → nth (s .production-heads) (head .b) ≡ some place → place < 65536 → Fetched (s .grammar) place first
+  pub build-start : {head first : Record} → Fetched (s .templates) (at .node) head → (place : ℕ) → production (s .grammar) (head .b) ≡ some place → place < 65536 → Fetched (s .grammar) place first
       → InBuild s at out₀ s₀ place (first .d) (head .d) out₀ s₀ (place + 1) (at .node + 1) 0 at 0
   build-start {head} {first} f place hq l h =
       let a : first .d - 0 ≡ first .d = omega arith in
@@ -59,7 +59,7 @@ module _ {s : Sources} {at : At} {out₀ s₀ : List ℕ} (formed : Formed Build
         going = going-start refl (formed .visitable .room)
             (ap (λ (m : ℕ). buildLeft s at out₀ s₀ m (place + 1) (head .d - 0) (at .node + 1) (stateOf (at .steps) (at .bytes) out₀)) a
             ∙ ap (λ (m : ℕ). buildLeft s at out₀ s₀ (first .d) (place + 1) m (at .node + 1) (stateOf (at .steps) (at .bytes) out₀)) b
-            ∙ build-is (s .grammar) (s .templates) (s .value) (at .fuel) out₀ _ _ (at .node) _ _ (s .production-heads) (head .b) place (first .d) (head .d) (formed .visitable .lent .productions-are) (f .b) hq (h .d) (f .d));
+            ∙ build-is (s .grammar) (s .templates) (s .value) (at .fuel) out₀ _ _ (at .node) _ _ (head .b) place (first .d) (head .d) (f .b) hq (h .d) (f .d));
       }
 
   module _ {place count kids : ℕ} {out sc : List ℕ} {element child used : ℕ} {here : At} {taken : ℕ} (inv : InBuild s at out₀ s₀ place count kids out sc element child used here taken) where

@@ -10,11 +10,12 @@ use lib.ListN.{length}
 use lib.Dec.{eqb, ltb}
 use borrow.Author.Tests.{eq-eqb, ne-eqb, eqb-true, eqb-false, lt-ltb, le-ltb, ltb-true, ltb-false}
 use Rattle.rules.specs.Records.{kindOf, fieldA, fieldB, fieldC, fieldD, textOf, heads, row, nth}
-use Rattle.rules.specs.Grammar.{productions, production, Element, nonterminal, elementNumbered, elementAt, elementHeads, elementSize, elements}
+use Rattle.rules.specs.Grammar.{production, Element, nonterminal, elementNumbered, elementAt, elementHeads, elementSize, elements}
+use Rattle.rules.specs.Escape.{escape}
 use Rattle.rules.specs.Templates.{templates, template, body, formOf, isFor, nodes, paths, path, first, second}
 use Rattle.rules.specs.Value.{children, asText, asYesNo, asList}
 use Rattle.rules.specs.Answers.{input}
-use Rattle.rules.specs.Walk.{State, End, done, stuck, andThen, write, pathValue, pathValues, withChild, pieces, Filled, Asked, piece, items, filledBy, visitItem, inOrder, listed, itemsOf, visitIn, visitForm, counted, reached, visit}
+use Rattle.rules.specs.Walk.{State, End, done, stuck, andThen, write, pathValue, pathValues, withChild, pieces, Filled, Asked, piece, items, filledBy, visitItem, inOrder, listed, itemsOf, visitIn, writtenFor, visitForm, counted, reached, visit}
 use Rattle.rules.specs.declared.Form.{Form}
 use Rattle.rules.specs.declared.Form.the-variants.{Build, Literal, Place, Expand, If, For, Sequence, Unknown}
 use Rattle.laws.specs.Faults.{on-some, on-none, only-yes, only-no}
@@ -22,25 +23,34 @@ use Rattle.laws.specs.Rows.{heads-done, heads-more}
 use Rattle.walk.specs.declared.at.At.{At}
 use Rattle.walk.specs.Frames.{frame}
 use Rattle.walk.specs.Run.{stateOf, endNumbered}
-use Rattle.walk.specs.Nodes.{formAt, writeAt, placeAt}
+use Rattle.walk.specs.Nodes.{elementFor, formAt, writeAt, placeAt}
+use Rattle.walk.specs.Marks.{PlaceText}
 
 -- a place
 
-module _ (t v : List ℕ) (at : At) (out scratch : List ℕ) where
-  pub place-lost : pathValue t v (frame (at .base) (at .vars) scratch) (at .node + 1) ≡ none → placeAt t v at out scratch ≡ stuck
+module _ (g t v : List ℕ) (at : At) (out scratch : List ℕ) where
+  pub place-lost : pathValue t v (frame (at .base) (at .vars) scratch) (at .node + 1) ≡ none → placeAt g t v at out scratch ≡ stuck
   unfolding placeAt path
   place-lost h = on-none stuck _ h
 
   module _ (w : ℕ) (h : pathValue t v (frame (at .base) (at .vars) scratch) (at .node + 1) ≡ some w) (k : ℕ) (hk : k ≡ kindOf v w) where
-    pub place-other : (k ≡ 1 → ⊥) → placeAt t v at out scratch ≡ stuck
+    pub place-other : (k ≡ 1 → ⊥) → placeAt g t v at out scratch ≡ stuck
     unfolding placeAt path asText
     place-other o = on-some stuck _ h ∙ on-none stuck _ (only-no _ _ (ne-eqb _ _ (λ e. o (hk ∙ e))))
 
-    pub place-text : k ≡ 1 → (n : ℕ) → n ≡ fieldB v w → writeAt at (textOf v n w) out ≡ placeAt t v at out scratch
-    unfolding placeAt path asText
-    place-text e n hn = rw hn (sym (on-some stuck _ h ∙ on-some stuck _ (only-yes _ (textOf v (fieldB v w) w) (eq-eqb _ _ (sym hk ∙ e)))))
+    module _ (e : k ≡ 1) (n : ℕ) (hn : n ≡ fieldB v w) where
+      place-writes : (y : List ℕ) → writtenFor g (piece (elementFor g (at .element))) (textOf v n w) ≡ y → writeAt at y out ≡ placeAt g t v at out scratch
+      unfolding placeAt path asText
+      place-writes y p =
+          rw (← p, hn) (sym (on-some stuck _ h ∙ on-some stuck _ (only-yes _ (textOf v (fieldB v w) w) (eq-eqb _ _ (sym hk ∙ e)))))
 
-pub place-is : (g t v : List ℕ) (at : At) (out scratch : List ℕ) → placeAt t v at out scratch ≡ formAt Place g t v at out scratch
+      pub place-text : {b : Bool} → PlaceText g (at .element) (textOf v n w) b → b ≡ true → writeAt at (textOf v n w) out ≡ placeAt g t v at out scratch
+      place-text p b = place-writes _ (p .is ∙ rw b)
+
+      pub place-escaped : {b : Bool} → PlaceText g (at .element) (textOf v n w) b → b ≡ false → writeAt at (escape (textOf v n w)) out ≡ placeAt g t v at out scratch
+      place-escaped p b = place-writes _ (p .is ∙ rw b)
+
+pub place-is : (g t v : List ℕ) (at : At) (out scratch : List ℕ) → placeAt g t v at out scratch ≡ formAt Place g t v at out scratch
 unfolding placeAt visitForm input
 place-is g t v at out scratch = refl
 
@@ -115,14 +125,14 @@ module _ (g t v : List ℕ) (fuel : ℕ) (out : List ℕ) (self : Asked → ℕ 
   unknown-is = refl
 
   -- a build: q is the production's place
-  pub build-none : (ps : List ℕ) (n : ℕ) → ps ≡ productions g → n ≡ fieldB t p → nth ps n ≡ none → visitForm (input g t v fuel out) Build self a p env s ≡ stuck
-  unfolding visitForm input production
-  build-none ps n e h l = on-none stuck _ (rw (← e, ← h) l)
+  pub build-none : (n : ℕ) → n ≡ fieldB t p → production g n ≡ none → visitForm (input g t v fuel out) Build self a p env s ≡ stuck
+  unfolding visitForm input
+  build-none n h l = on-none stuck _ (rw (← h) l)
 
-  pub build-is : (ps : List ℕ) (n q d m : ℕ) → ps ≡ productions g → n ≡ fieldB t p → nth ps n ≡ some q → d ≡ fieldD g q → m ≡ fieldD t p
+  pub build-is : (n q d m : ℕ) → n ≡ fieldB t p → production g n ≡ some q → d ≡ fieldD g q → m ≡ fieldD t p
       → piecesLeft (write (length out) p) (λ e c. self (piece e) c env) g t d (q + 1) m (p + 1) s ≡ visitForm (input g t v fuel out) Build self a p env s
-  unfolding visitForm input production piecesLeft elements elementHeads nodes
-  build-is ps n q d m e h hq hd hm = sym (on-some {a = q} stuck _ (rw (← e, ← h) hq) ∙ rw (hd, hm))
+  unfolding visitForm input piecesLeft elements elementHeads nodes
+  build-is n q d m h hq hd hm = sym (on-some {a = q} stuck _ (rw (← h) hq) ∙ rw (hd, hm))
 
   -- what the path finds
   module _ (lost : pathValue t v env (p + 1) ≡ none) where

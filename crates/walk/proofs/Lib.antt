@@ -3,6 +3,7 @@ pub mod FrameLaws
 pub mod RunLaws
 pub mod BodyLaws
 pub mod AskedLaws
+pub mod MarkLaws
 pub mod FormLaws
 pub mod SeparatorLaws
 pub mod LoopLaws

@@ -1,6 +1,6 @@
 -- Laws of variables, fields and paths, in step with the code. Assumes nothing.
 use Prim.Native.Nat.{ℕ, _+_, _≤_, _<_}
-use mathlib.Core.Path.{_≡_, refl, sym, ap, _∙_}
+use mathlib.Core.Path.{_≡_, sym, ap, _∙_}
 use mathlib.Core.List.{List, [], _∷_, _++_}
 use mathlib.Core.Option.{Option, none, some, Option·none-ne-some, Option·some-injective}
 use native.Mathlib.Omega.{arith}
@@ -9,8 +9,8 @@ use lib.Seq.{getD-drop}
 use borrow.Author.Tests.{eq-eqb, ne-eqb, le-leb}
 use Rattle.rules.specs.Faults.{onFound}
 use Rattle.rules.specs.Blocks.{streamLength}
-use Rattle.rules.specs.Records.{kindOf, fieldA, fieldD, heads, nth}
-use Rattle.rules.specs.Templates.{variable, fieldNumbers}
+use Rattle.rules.specs.Records.{kindOf, fieldA, fieldD, nth}
+use Rattle.rules.specs.Templates.{variable}
 use Rattle.rules.specs.Value.{valueSize, children, valuesBelow, asRecord}
 use Rattle.rules.specs.Walk.{valueAlong, pathValue}
 use Rattle.laws.specs.Faults.{on-some, on-none, only-yes, only-no}

@@ -8,8 +8,8 @@ use native.Mathlib.Nat.{le-refl, le-trans}
 use native.Mathlib.Numerals.{add-one}
 use lib.ListN.{length, take, drop, set, replicate, length-append, length-take, length-drop, length-set, take-append-drop, replicate-append-replicate}
 use lib.Seq.{take-suc-set, take-all, take-at, drop-at, drop-drop, length-take-le}
-use lib.Dec.{eqb}
-use borrow.Author.Tests.{eq-eqb, ne-eqb, le-leb, lt-leb}
+use lib.Dec.{eqb, ltb}
+use borrow.Author.Tests.{eq-eqb, ne-eqb, le-leb, lt-leb, ltb-true, ltb-false}
 use borrow.Rule.Slice.PartMut.{putMid}
 use Rattle.rules.specs.Walk.{State, fuel-spent, too-deep, output-full, End, done, ended, stuck, andThen, write}
 use Rattle.stream.specs.Text.{withText, Copied}
@@ -17,7 +17,7 @@ use Rattle.stream.proofs.TextCopyLaws.{lent-rest}
 use Rattle.walk.specs.declared.at.At.{At}
 use Rattle.walk.specs.declared.state.Run.{Run}
 use Rattle.walk.specs.Run.{stateOf, runOf, endNumbered, view, Grown, Ran, Visited, RanFrom, VisitedFrom}
-use Rattle.walk.specs.Nodes.{afterAt, endedAt, writeAt}
+use Rattle.walk.specs.Nodes.{afterAt, endedAt, writeAt, writtenAt}
 
 -- the ends that runs stand for
 
@@ -138,6 +138,16 @@ module _ (x out last : List ℕ) (at : At) (bytes n : ℕ) {text : List ℕ} (sa
         meets = ap (λ (y : List ℕ). done (record { steps = at .steps; text = y })) (put-take out x bytes f);
         grown = record { steps-grow = le-refl _; bytes-grow = omega arith; inside = f; rest = put-drop out x bytes f };
       })
+
+  -- either way
+  pub wrote : (r : Run) → r ≡ writtenAt at (length out - bytes) n → RanFrom (writeAt at x out) at r out (putMid bytes (length out - bytes) out last)
+  unfolding writtenAt
+  wrote r w = go (ltb (length out - bytes) n) refl w
+    where
+      go : (b : Bool) → ltb (length out - bytes) n ≡ b → r ≡ cond b (endedAt 12 at) (runOf 0 (at .node) (at .steps) (at .bytes + n))
+          → RanFrom (writeAt at x out) at r out (putMid bytes (length out - bytes) out last)
+      go true e w = wrote-none (ltb-true _ _ e) r w
+      go false e w = wrote-whole (ltb-false _ _ e) r (w ∙ ap (λ (m : ℕ). runOf 0 (at .node) (at .steps) (m + n)) (sym is))
 
 -- loops of visits: what is left to do from here on comes to the whole's end
 

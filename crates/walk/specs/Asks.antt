@@ -5,7 +5,6 @@ use mathlib.Core.List.{List}
 use mathlib.Core.Option.{none, some}
 use lib.ListN.{length}
 use Rattle.rules.specs.Blocks.{streamLength}
-use Rattle.rules.specs.Grammar.{productions}
 use Rattle.rules.specs.Records.{kindOf, fieldD}
 use Rattle.rules.specs.Templates.{templates, formOf, path}
 use Rattle.rules.specs.Walk.{pathValue}
@@ -14,9 +13,10 @@ use Rattle.rules.specs.declared.Form.{Form}
 use Rattle.records.specs.Children.{Stands, Children}
 use Rattle.walk.specs.declared.at.At.{At}
 use Rattle.walk.specs.Frames.{frame, Held}
+use Rattle.walk.specs.Marks.{ProductionHeads}
 use Rattle.walk.specs.Bodies.{FewPaths, InBody}
 
--- what a walk reads: the three streams, and the tables of productions, of templates, and of the value's children
+-- what a walk reads: the three streams, and the tables of productions (with the marks of escaped classes), of templates, and of the value's children
 pub record Sources : Type 0 where
   pub grammar : List ℕ
   pub templates : List ℕ
@@ -37,7 +37,7 @@ pub record ValueLent (v firsts places : List ℕ) : Type 0 where
 
 -- the tables hold the heads by their numbers, all streams are whole blocks, no expand has too many paths
 pub record WalkLent (s : Sources) : Type 0 where
-  pub productions-are : s .production-heads ≡ productions (s .grammar)
+  pub productions-are : ProductionHeads (s .grammar) (s .production-heads)
   pub templates-are : s .template-heads ≡ templates (s .templates)
   pub grammar-sized : streamLength (s .grammar) ≡ none
   pub templates-sized : streamLength (s .templates) ≡ none

@@ -4,14 +4,14 @@ use mathlib.Core.List.{List}
 use mathlib.Core.Path.{_≡_}
 use mathlib.Core.Bool.{Bool, false, not, cond}
 use lib.ListN.{length}
-use lib.Dec.{eqb}
+use lib.Dec.{eqb, ltb}
 use Rattle.rules.specs.Faults.{onFound}
 use Rattle.rules.specs.Records.{fieldB, textOf}
 use Rattle.rules.specs.Grammar.{Element, nonterminal, elementAt}
 use Rattle.rules.specs.Templates.{path}
 use Rattle.rules.specs.Value.{asText}
 use Rattle.rules.specs.Answers.{input}
-use Rattle.rules.specs.Walk.{End, stuck, pathValue, write, Filled, Asked, piece, items, separate, visitForm, visit}
+use Rattle.rules.specs.Walk.{End, stuck, pathValue, write, Filled, Asked, piece, items, separate, writtenFor, visitForm, visit}
 use Rattle.rules.specs.declared.Form.{Form}
 use Rattle.rules.specs.declared.Form.the-variants.{For}
 use Rattle.stream.specs.declared.record.Record.{Record}
@@ -92,12 +92,15 @@ separateAt g x before at out = separate (length out) (filledAt g x) before (stat
 abbrev pub turnsAt : List ℕ → List ℕ → List ℕ → Separator → ℕ → At → List ℕ → List ℕ → End
 turnsAt g t v x before at out scratch = formAskedAt For (items (filledAt g x) before) g t v at out scratch
 
--- a text written there; what a place does, which needs no grammar
+-- a text written there; the run after it, where so many bytes are left; what a place does
 abbrev pub writeAt : At → List ℕ → List ℕ → End
 writeAt at x out = write (length out) (at .node) x (stateOf (at .steps) (at .bytes) out)
 
-unfoldable pub placeAt : List ℕ → List ℕ → At → List ℕ → List ℕ → End
-placeAt t v at out scratch =
+unfoldable pub writtenAt : At → ℕ → ℕ → Run
+writtenAt at left long = cond (ltb left long) (endedAt 12 at) (runOf 0 (at .node) (at .steps) (at .bytes + long))
+
+unfoldable pub placeAt : List ℕ → List ℕ → List ℕ → At → List ℕ → List ℕ → End
+placeAt g t v at out scratch =
     onFound (pathValue t v (frame (at .base) (at .vars) scratch) (path (at .node))) stuck λ w.
     onFound (asText v w) stuck λ x.
-    writeAt at x out
+    writeAt at (writtenFor g (piece (elementFor g (at .element))) x) out

@@ -20,6 +20,7 @@ use at::stuck;
 use state::Run;
 use tables::Lookup;
 use tables::head_at;
+pub use tables::mark;
 use variables::bind;
 use visits::body_of;
 use visits::visit;

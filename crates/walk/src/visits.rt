@@ -31,6 +31,7 @@ use crate::state::turned;
 use crate::tables::Lookup;
 use crate::tables::child_at;
 use crate::tables::head_at;
+use crate::tables::production_at;
 use crate::variables::bind;
 use crate::writer::place;
 use crate::writer::write;
@@ -242,7 +243,7 @@ fn build_items(
     requires { ⌜ (Formed Form.Build (sources (now g) (now t) (now v) (now ps) (now ts) (now firsts) (now places)) at (now out) (now scratch)) × (Fetched (now t) (at .node) head) ⌝ }
     ensures { λ r. ⌜ VisitedFrom (formAt Form.Build (now (g .entry)) (now (t .entry)) (now (v .entry)) at (now (out .entry)) (now (scratch .entry))) at r (now (out .entry)) (now (out .exit)) (now (scratch .entry)) (now (scratch .exit)) ⌝ }
 {
-    let Lookup::Found(production) = head_at(ps, head.b) else {
+    let Lookup::Found(production) = production_at(ps, head.b) else {
         return stuck(at);
     };
     let count = fetch(g, production as usize).d;
@@ -382,7 +383,7 @@ pub fn visit(
     match form_of(head) {
         Form::Build => build_items(here, head, g, t, ps, out, v, firsts, places, scratch, ts),
         Form::Literal => write(t, here.node, head.b, out, here),
-        Form::Place => place(t, v, firsts, places, out, scratch, here),
+        Form::Place => place(g, ps, t, v, firsts, places, out, scratch, here),
         Form::Expand => expand_body(here, head, g, t, ps, out, v, firsts, places, scratch, ts),
         Form::If => if_branch(here, g, t, ps, out, v, firsts, places, scratch, ts),
         Form::For => stuck(here),

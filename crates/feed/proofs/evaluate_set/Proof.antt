@@ -1,5 +1,6 @@
 use Rattle.feed.proofs.OrderLaws.{refuses, passes, three-laid, judged-set, evaluate-refused, evaluate-scratch, none-refuses}
 use Rattle.feed.proofs.SetLaws.{evaluate-judges, walk-asks}
+use Rattle.feed.proofs.MarkLaws.{mark-asks}
 use Rattle.feed.proofs.EndLaws.{evaluate-walks, answered}
 use borrow.Author.Needs.{needs}
 use Rattle.feed.proofs.evaluate_set.Statement.{statement}
@@ -35,8 +36,29 @@ same-length-2 c = search needs
 returns-2 : tie.Need-returns-2
 returns-2 c = answered _ _ _ _ _ (c .refused2 .ensures) (evaluate-scratch _ _ _ _ _ _ (c .before .before .before .before .before .before .before .before .before .before .before .before .before .before .before .before .before .before .pre .passed) (passes _ _ (c .before .before .before .before .before .before .before .judge .ensures .is) (c .before .before .enum-told .given .1)) (c .before .if1 .taken))
 
+mul-ts : tie.Need-mul-ts
+mul-ts c = search needs
+
+sub-ts : tie.Need-sub-ts
+sub-ts c = search needs
+
+part-ts-start : tie.Need-part-ts-start
+part-ts-start c = search needs
+
+part-ts-end : tie.Need-part-ts-end
+part-ts-end c = search needs
+
+slice-aggregate-mark-heads : tie.Need-slice-aggregate-mark-heads
+slice-aggregate-mark-heads c = search needs
+
+mark-heads-requires : tie.Need-mark-heads-requires
+mark-heads-requires c κs = mark-asks (c .before .before .before .before .before .before .before .before .before .judge .ensures) (search needs)
+
 slice-aggregate-all : tie.Need-slice-aggregate-all
 slice-aggregate-all c = search needs
+
+add-ps : tie.Need-add-ps
+add-ps c = search needs
 
 mul-ps : tie.Need-mul-ps
 mul-ps c = search needs
@@ -50,20 +72,8 @@ part-ps-start c = search needs
 part-ps-end : tie.Need-part-ps-end
 part-ps-end c = search needs
 
-mul-ts : tie.Need-mul-ts
-mul-ts c = search needs
-
-sub-ts : tie.Need-sub-ts
-sub-ts c = search needs
-
-part-ts-start : tie.Need-part-ts-start
-part-ts-start c = search needs
-
-part-ts-end : tie.Need-part-ts-end
-part-ts-end c = search needs
-
 run-requires : tie.Need-run-requires
-run-requires c κs = walk-asks _ _ _ _ _ _ _ _ _ _ (c .before .before .before .before .before .before .before .before .before .before .before .before .judge .ensures .tabled) (judged-set _ _ _ (passes _ _ (c .before .before .before .before .before .before .before .before .before .before .before .before .judge .ensures .is) (c .before .before .before .before .before .before .before .enum-told .given .1)) .0) (judged-set _ _ _ (passes _ _ (c .before .before .before .before .before .before .before .before .before .before .before .before .judge .ensures .is) (c .before .before .before .before .before .before .before .enum-told .given .1)) .1) (three-laid _ _ _ (c .before .before .before .before .before .before .before .before .before .before .before .before .before .before .before .before .before .before .before .before .before .before .before .pre .passed) .2) (c .before .before .before .before .before .before .before .before .before .before .before .before .before .before .before .before .before .before .before .before .before .before .before .pre .children) (c .before .before .before .before .before .before .if1 .left)
+run-requires c κs = walk-asks _ _ _ _ _ _ _ _ _ _ _ (c .before .before .before .before .before .before .before .before .before .before .before .before .before .before .before .judge .ensures .tabled) (c .before .before .before .before .before .mark-heads .ensures .table) (judged-set _ _ _ (passes _ _ (c .before .before .before .before .before .before .before .before .before .before .before .before .before .before .before .judge .ensures .is) (c .before .before .before .before .before .before .before .before .before .before .enum-told .given .1)) .0) (judged-set _ _ _ (passes _ _ (c .before .before .before .before .before .before .before .before .before .before .before .before .before .before .before .judge .ensures .is) (c .before .before .before .before .before .before .before .before .before .before .enum-told .given .1)) .1) (three-laid _ _ _ (c .before .before .before .before .before .before .before .before .before .before .before .before .before .before .before .before .before .before .before .before .before .before .before .before .before .before .pre .passed) .2) (c .before .before .before .before .before .before .before .before .before .before .before .before .before .before .before .before .before .before .before .before .before .before .before .before .before .before .pre .children) (c .before .before .before .before .before .before .before .before .before .if1 .left)
 
 ended-requires : tie.Need-ended-requires
 ended-requires c κs = search needs
@@ -78,7 +88,7 @@ same-length-5 : tie.Need-same-length-5
 same-length-5 c = search needs
 
 returns-3 : tie.Need-returns-3
-returns-3 c = answered _ _ _ _ _ (c .ended .ensures) (evaluate-walks _ _ _ _ _ _ _ _ _ (none-refuses _ _ _ _ (c .before .before .before .before .before .before .before .before .before .before .before .before .before .before .before .before .before .before .before .before .before .before .before .before .before .before .before .before .before .pre .passed) (passes _ _ (c .before .before .before .before .before .before .before .before .before .before .before .before .before .before .before .before .before .before .judge .ensures .is) (c .before .before .before .before .before .before .before .before .before .before .before .before .before .enum-told .given .1)) (c .before .before .before .before .before .before .before .before .before .before .before .before .if1 .left)) (search needs) (c .before .before .before .before .before .run .ensures))
+returns-3 c = answered _ _ _ _ _ (c .ended .ensures) (evaluate-walks _ _ _ _ _ _ _ _ _ (none-refuses _ _ _ _ (c .before .before .before .before .before .before .before .before .before .before .before .before .before .before .before .before .before .before .before .before .before .before .before .before .before .before .before .before .before .before .before .before .pre .passed) (passes _ _ (c .before .before .before .before .before .before .before .before .before .before .before .before .before .before .before .before .before .before .before .before .before .judge .ensures .is) (c .before .before .before .before .before .before .before .before .before .before .before .before .before .before .before .before .enum-told .given .1)) (c .before .before .before .before .before .before .before .before .before .before .before .before .before .before .before .if1 .left)) (search needs) (c .before .before .before .before .before .run .ensures))
 
 pub evaluate-set-spec : {M : Type 1} → statement M
 evaluate-set-spec =
@@ -94,15 +104,18 @@ evaluate-set-spec =
     refused-requires-2
     same-length-2
     returns-2
-    slice-aggregate-all
-    mul-ps
-    sub-ps
-    part-ps-start
-    part-ps-end
     mul-ts
     sub-ts
     part-ts-start
     part-ts-end
+    slice-aggregate-mark-heads
+    mark-heads-requires
+    slice-aggregate-all
+    add-ps
+    mul-ps
+    sub-ps
+    part-ps-start
+    part-ps-end
     run-requires
     ended-requires
     same-length-3

@@ -74,7 +74,7 @@ same-length-2 c = search needs
 
 returns-5 : tie.Need-returns-5
 unfolding setJudgement accept
-returns-5 c = judged-passed _ _ _ _ _ (went-on 7 _ accept (placed-none 2 _ (unfound _ _ (c .before .before .templates-typing .ensures) (c .enum-told4 .given .1))) ∙ went-on 6 _ _ (placed-none 1 _ (unfound _ _ (c .before .before .before .before .before .before .before .before .before .before .grammar-classes .ensures) (c .before .before .before .before .before .before .before .before .enum-told3 .given .1))) ∙ went-on 5 _ _ (offends-not _ _ (c .before .before .before .before .before .before .before .before .before .before .before .before .before .judge-names .ensures) (c .before .before .before .before .before .before .before .before .before .before .before .enum-told2 .given .1)) ∙ went-on 4 _ _ (offends-not _ _ (c .before .before .before .before .before .before .before .before .before .before .before .before .before .before .before .before .first .ensures ∙ firsts _ _ _ _ _ _ refl (c .before .before .before .before .before .before .before .before .before .before .before .before .before .before .before .before .before .templates-limits .ensures) refl) (c .before .before .before .before .before .before .before .before .before .before .before .before .before .before .enum-told .given .1))) (record { heads = c .before .before .before .before .before .before .before .before .before .before .before .before .before .before .before .before .before .before .before .before .before .before .before .before .before .pre .tabled .classes-are; sets = c .before .before .before .before .before .before .class-sets .ensures })
+returns-5 c = judged-passed _ _ _ _ _ (went-on 7 _ accept (placed-none 2 _ (unfound _ _ (c .before .before .templates-typing .ensures) (c .enum-told4 .given .1))) ∙ went-on 6 _ _ (placed-none 1 _ (unfound _ _ (c .before .before .before .before .before .before .before .before .before .before .grammar-classes .ensures) (c .before .before .before .before .before .before .before .before .enum-told3 .given .1))) ∙ went-on 5 _ _ (offends-not _ _ (c .before .before .before .before .before .before .before .before .before .before .before .before .before .judge-names .ensures) (c .before .before .before .before .before .before .before .before .before .before .before .enum-told2 .given .1)) ∙ went-on 4 _ _ (offends-not _ _ (c .before .before .before .before .before .before .before .before .before .before .before .before .before .before .before .before .first .ensures ∙ firsts _ _ _ _ _ _ refl (c .before .before .before .before .before .before .before .before .before .before .before .before .before .before .before .before .before .templates-limits .ensures) refl) (c .before .before .before .before .before .before .before .before .before .before .before .before .before .before .enum-told .given .1))) (record { grammar-sized = c .before .before .before .before .before .before .before .before .before .before .before .before .before .before .before .before .before .before .before .before .before .before .before .before .before .pre .tabled .grammar-sized; heads = c .before .before .before .before .before .before .before .before .before .before .before .before .before .before .before .before .before .before .before .before .before .before .before .before .before .pre .tabled .classes-are; sets = c .before .before .before .before .before .before .class-sets .ensures })
 
 pub judge-set-spec : {M : Type 1} → statement M
 judge-set-spec =

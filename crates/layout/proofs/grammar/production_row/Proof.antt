@@ -1,15 +1,14 @@
 use Prim.Native.Nat.{_-_}
-use borrow.Author.Needs.{needs}
 use native.Mathlib.Omega.{arith}
-use Rattle.rules.specs.Records.{recordCount}
-use Rattle.rules.specs.Layout.{whileKind, productionEnd}
-use Rattle.layout.proofs.GrammarLaws.{ThingsLeft, left-start, left-stop, left-go, left-broken, kind-here, kind-other, near, inside, production-number, production-over, production-elements, elements-grow, got, lost}
+use Rattle.rules.specs.Records.{recordCount, ofKind}
+use Rattle.rules.specs.Layout.{whileIs, productionEnd}
+use Rattle.layout.proofs.GrammarLaws.{ThingsLeft, left-start, left-stop, left-go, left-broken, kind-here, of-another, kind-stands, near, inside, production-number, production-over, production-elements, elements-grow, got, lost}
 use borrow.Author.Needs.{needs}
 use Rattle.layout.proofs.grammar.production_row.Statement.{statement}
 use Rattle.layout.proofs.grammar.production_row.Tie as tie
 
 abbrev Inv-loop : tie.InvT-loop
-Inv-loop g start p₀ n₀ p n = ThingsLeft g 3 (productionEnd g) (whileKind g 3 (productionEnd g) (recordCount g) 0 start) n p
+Inv-loop g start p₀ n₀ p n = ThingsLeft g (ofKind g 3) (productionEnd g) (whileIs (ofKind g 3) (productionEnd g) (recordCount g) 0 start) n p
 
 abbrev μ-loop : tie.MeasureT-loop
 μ-loop g start p₀ n₀ p n = recordCount g - p
@@ -21,16 +20,16 @@ fetch-requires : tie.Need-fetch-requires Inv-loop μ-loop
 fetch-requires c κs = search needs
 
 returns : tie.Need-returns Inv-loop μ-loop
-returns c = left-stop (kind-other (c .before .before .fetch .ensures) 3 (c .if1 .taken)) (c .before .before .before .loop .inv)
+returns c = left-stop (of-another (c .before .before .fetch .ensures) 3 (c .if1 .taken)) (c .before .before .before .loop .inv)
 
 cast-if2 : tie.Need-cast-if2 Inv-loop μ-loop
 cast-if2 c = search needs
 
 returns-2 : tie.Need-returns-2 Inv-loop μ-loop
-returns-2 c = left-broken (c .before .before .before .before .before .before .before .pre) (kind-here (c .before .before .before .before .fetch .ensures) 3 (c .before .before .if1 .left)) (c .before .before .before .before .before .loop .inv) (production-number (c .before .before .before .before .fetch .ensures) _ (c .if2 .taken))
+returns-2 c = left-broken (kind-stands (c .before .before .before .before .fetch .ensures) (c .before .before .before .before .before .before .before .pre) 2 (c .before .before .if1 .left)) (c .before .before .before .before .before .loop .inv) (production-number (c .before .before .before .before .fetch .ensures) _ (c .if2 .taken))
 
 returns-3 : tie.Need-returns-3 Inv-loop μ-loop
-returns-3 c = left-broken (c .before .before .before .before .before .before .before .before .before .pre) (kind-here (c .before .before .before .before .before .before .fetch .ensures) 3 (c .before .before .before .before .if1 .left)) (c .before .before .before .before .before .before .before .loop .inv) (production-over (c .before .before .before .before .before .before .fetch .ensures) _ (c .before .before .if2 .left) (c .if3 .taken))
+returns-3 c = left-broken (kind-stands (c .before .before .before .before .before .before .fetch .ensures) (c .before .before .before .before .before .before .before .before .before .pre) 2 (c .before .before .before .before .if1 .left)) (c .before .before .before .before .before .before .before .loop .inv) (production-over (c .before .before .before .before .before .before .fetch .ensures) _ (c .before .before .if2 .left) (c .if3 .taken))
 
 add-elements-end : tie.Need-add-elements-end Inv-loop μ-loop
 add-elements-end c = omega (arith, near (c .before .before .before .before .before .before .fetch .ensures) (c .before .before .before .before .before .before .before .before .before .pre) 2 (c .before .before .before .before .if1 .left))
@@ -48,7 +47,7 @@ enum-told : tie.Need-enum-told Inv-loop μ-loop
 enum-told c = search needs
 
 returns-4 : tie.Need-returns-4 Inv-loop μ-loop
-returns-4 c = left-broken (c .before .before .before .before .before .before .before .before .before .before .before .before .before .pre) (kind-here (c .before .before .before .before .before .before .before .before .before .before .fetch .ensures) 3 (c .before .before .before .before .before .before .before .before .if1 .left)) (c .before .before .before .before .before .before .before .before .before .before .before .loop .inv) (production-elements (c .before .before .before .before .before .before .before .before .before .before .fetch .ensures) _ _ (c .before .before .before .before .before .before .if2 .left) (c .before .before .before .before .if3 .left) (lost (c .before .before .elements-end .ensures) (c .enum-told .given .1)))
+returns-4 c = left-broken (kind-stands (c .before .before .before .before .before .before .before .before .before .before .fetch .ensures) (c .before .before .before .before .before .before .before .before .before .before .before .before .before .pre) 2 (c .before .before .before .before .before .before .before .before .if1 .left)) (c .before .before .before .before .before .before .before .before .before .before .before .loop .inv) (production-elements (c .before .before .before .before .before .before .before .before .before .before .fetch .ensures) _ _ (c .before .before .before .before .before .before .if2 .left) (c .before .before .before .before .if3 .left) (lost (c .before .before .elements-end .ensures) (c .enum-told .given .1)))
 
 add-n : tie.Need-add-n Inv-loop μ-loop
 add-n c = search needs
@@ -57,7 +56,7 @@ loop-less : tie.Need-loop-less Inv-loop μ-loop
 loop-less c = omega (arith, inside _ (c .before .before .before .before .before .before .before .before .before .before .before .before .before .before .pre) _ 2 (kind-here (c .before .before .before .before .before .before .before .before .before .before .before .fetch .ensures) 3 (c .before .before .before .before .before .before .before .before .before .if1 .left)), elements-grow _ _ _ _ (got (c .before .before .before .elements-end .ensures) (c .before .next .given .1)))
 
 loop-again : tie.Need-loop-again Inv-loop μ-loop
-loop-again c = left-go (c .before .before .before .before .before .before .before .before .before .before .before .before .before .before .pre) (kind-here (c .before .before .before .before .before .before .before .before .before .before .before .fetch .ensures) 3 (c .before .before .before .before .before .before .before .before .before .if1 .left)) (c .before .before .before .before .before .before .before .before .before .before .before .before .loop .inv) _ (production-elements (c .before .before .before .before .before .before .before .before .before .before .before .fetch .ensures) _ _ (c .before .before .before .before .before .before .before .if2 .left) (c .before .before .before .before .before .if3 .left) (got (c .before .before .before .elements-end .ensures) (c .before .next .given .1))) (elements-grow _ _ _ _ (got (c .before .before .before .elements-end .ensures) (c .before .next .given .1)))
+loop-again c = left-go (kind-stands (c .before .before .before .before .before .before .before .before .before .before .before .fetch .ensures) (c .before .before .before .before .before .before .before .before .before .before .before .before .before .before .pre) 2 (c .before .before .before .before .before .before .before .before .before .if1 .left)) (c .before .before .before .before .before .before .before .before .before .before .before .before .loop .inv) _ (production-elements (c .before .before .before .before .before .before .before .before .before .before .before .fetch .ensures) _ _ (c .before .before .before .before .before .before .before .if2 .left) (c .before .before .before .before .before .if3 .left) (got (c .before .before .before .elements-end .ensures) (c .before .next .given .1))) (elements-grow _ _ _ _ (got (c .before .before .before .elements-end .ensures) (c .before .next .given .1)))
 
 pub production-row-spec : {M : Type 1} → statement M
 production-row-spec =

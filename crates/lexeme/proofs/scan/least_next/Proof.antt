@@ -1,5 +1,5 @@
 use borrow.Author.Tests.{ne-eqb}
-use Rattle.lexeme.specs.Scan.{leastNext}
+use Rattle.laws.specs.FirstBytes.{leastNext}
 use Rattle.lexeme.proofs.scan.least_next.Statement.{statement}
 use Rattle.lexeme.proofs.scan.least_next.Tie as tie
 

@@ -1,5 +1,5 @@
 use borrow.Author.Tests.{ne-eqb}
-use Rattle.lexeme.specs.Scan.{mostNext}
+use Rattle.laws.specs.FirstBytes.{mostNext}
 use Rattle.lexeme.proofs.scan.most_next.Statement.{statement}
 use Rattle.lexeme.proofs.scan.most_next.Tie as tie
 

@@ -8,7 +8,7 @@ use Rattle.limits.proofs.names.templates_names.Statement.{statement}
 use Rattle.limits.proofs.names.templates_names.Tie as tie
 
 types-named-requires : tie.Need-types-named-requires
-types-named-requires c κs = record { sized = c .before .before .before .before .before .before .pre .sized; classes-are = ap length (c .before .before .before .before .before .before .pre .classes-are); productions-are = ap length (c .before .before .before .before .before .before .pre .productions-are); types-are = ap length (c .before .before .before .before .before .before .pre .types-are); templates-are = ap length (c .before .before .before .before .before .before .pre .templates-are) }
+types-named-requires c κs = record { grammar-sized = c .before .before .before .before .before .before .pre .grammar-sized; sized = c .before .before .before .before .before .before .pre .sized; classes-are = c .before .before .before .before .before .before .pre .classes-are; types-are = ap length (c .before .before .before .before .before .before .pre .types-are) }
 
 enum-known-fault : tie.Need-enum-known-fault
 enum-known-fault c = search needs
@@ -20,7 +20,7 @@ enum-told : tie.Need-enum-told
 enum-told c = search needs
 
 templates-named-requires : tie.Need-templates-named-requires
-templates-named-requires c κs = record { counted = record { sized = c .before .before .before .before .before .before .before .before .before .pre .sized; classes-are = ap length (c .before .before .before .before .before .before .before .before .before .pre .classes-are); productions-are = ap length (c .before .before .before .before .before .before .before .before .before .pre .productions-are); types-are = ap length (c .before .before .before .before .before .before .before .before .before .pre .types-are); templates-are = ap length (c .before .before .before .before .before .before .before .before .before .pre .templates-are) }; nonterminals-are = c .before .before .before .before .before .before .before .before .before .pre .nonterminals-are }
+templates-named-requires c κs = record { counted = record { sized = c .before .before .before .before .before .before .before .before .before .pre .sized; productions-are = ap length (c .before .before .before .before .before .before .before .before .before .pre .productions-are); types-are = ap length (c .before .before .before .before .before .before .before .before .before .pre .types-are); templates-are = ap length (c .before .before .before .before .before .before .before .before .before .pre .templates-are) }; nonterminals-are = c .before .before .before .before .before .before .before .before .before .pre .nonterminals-are }
 
 returns-2 : tie.Need-returns-2
 returns-2 c = c .templates-named .ensures ∙ set-templates _ _ _ _ (c .before .before .before .before .before .before .before .before .before .before .pre .types-are) (c .before .before .before .before .before .before .before .before .before .before .pre .templates-are) (unfound _ _ (c .before .before .before .types-named .ensures) (c .before .enum-told .given .1))

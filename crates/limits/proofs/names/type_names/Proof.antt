@@ -7,7 +7,7 @@ use Rattle.limits.proofs.names.type_names.Statement.{statement}
 use Rattle.limits.proofs.names.type_names.Tie as tie
 
 type-named-requires : tie.Need-type-named-requires
-type-named-requires c κs = record { sized = c .before .before .pre .sized; classes-are = c .before .before .pre .classes-are; types-are = c .before .before .pre .types-are }
+type-named-requires c κs = search needs
 
 returns : tie.Need-returns
 returns c = type-wrong _ _ _ _ _ (c .before .type-named .ensures) (not-true _ (c .if1 .taken))

@@ -15,10 +15,10 @@ use Rattle.limits.proofs.names.types_named.Statement.{statement}
 use Rattle.limits.proofs.names.types_named.Tie as tie
 
 abbrev Inv-loop : tie.InvT-loop
-Inv-loop g t types counts n₀ n = (n ≤ length types) × (every (typeNames g t) (numbered n (drop n types)) ≡ typesNamed g t types)
+Inv-loop g t classes types n₀ n = (n ≤ length types) × (every (typeNames g t) (numbered n (drop n types)) ≡ typesNamed g t types)
 
 abbrev μ-loop : tie.MeasureT-loop
-μ-loop g t types counts n₀ n = length types - n
+μ-loop g t classes types n₀ n = length types - n
 
 loop-holds : tie.Need-loop-holds Inv-loop μ-loop
 unfolding typesNamed

@@ -3,7 +3,7 @@ use mathlib.Core.Path.{_≡_, refl}
 use mathlib.Core.List.{_++_}
 use native.Mathlib.Omega.{arith}
 use lib.ListN.{length, take, drop, length-set}
-use Rattle.stream.proofs.TextCopyLaws.{copy-more, copy-all}
+use Rattle.laws.specs.Writes.{copy-more, copy-all}
 use borrow.Author.Needs.{needs}
 use Rattle.stream.proofs.copy.copy_into.Statement.{statement}
 use Rattle.stream.proofs.copy.copy_into.Tie as tie

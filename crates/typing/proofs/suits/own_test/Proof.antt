@@ -2,6 +2,7 @@ use mathlib.Core.Path.{refl}
 use Rattle.records.proofs.NodeLaws.{form-is}
 use Rattle.typing.proofs.SuitsLaws.{unsuited, by-form, literal-leaf, place-leaf, expand-leaf}
 use Rattle.rules.specs.Typing.{suitsForm}
+use Rattle.lexeme.proofs.SourceLaws.{lent}
 use borrow.Author.Needs.{needs}
 use Rattle.typing.proofs.suits.own_test.Statement.{statement}
 use Rattle.typing.proofs.suits.own_test.Tie as tie
@@ -28,7 +29,7 @@ enum-told-3 : tie.Need-enum-told-3
 enum-told-3 c = search needs
 
 suits-place-requires : tie.Need-suits-place-requires
-suits-place-requires c κs = (c .before .before .before .before .before .before .before .before .before .before .pre .1, c .before .before .before .before .before .before .before .before .before .before .pre .0 .types, c .before .before .before .before .before .before .before .before .before .before .pre .2)
+suits-place-requires c κs = (lent _ _ _ (c .before .before .before .before .before .before .before .before .before .before .pre .0 .lexemes), c .before .before .before .before .before .before .before .before .before .before .pre .1, c .before .before .before .before .before .before .before .before .before .before .pre .0 .types, c .before .before .before .before .before .before .before .before .before .before .pre .2)
 
 leaf-requires-2 : tie.Need-leaf-requires-2
 leaf-requires-2 c κs = search needs
@@ -70,7 +71,7 @@ returns-2 : tie.Need-returns-2
 returns-2 c = by-form (form-is _ _ _ (c .before .before .before .before .before .before .before .before .before .before .before .before .pre .3) _ (c .before .before .before .before .form-of .ensures)) (c .before .before .enum-told2 .given .1) (literal-leaf (c .leaf .ensures) (c .before .suits-literal .ensures _))
 
 returns-3 : tie.Need-returns-3
-returns-3 c = by-form (form-is _ _ _ (c .before .before .before .before .before .before .before .before .before .before .before .before .pre .3) _ (c .before .before .before .before .form-of .ensures)) (c .before .before .enum-told3 .given .1) (place-leaf (c .leaf2 .ensures) (c .before .suits-place .ensures _))
+returns-3 c = by-form (form-is _ _ _ (c .before .before .before .before .before .before .before .before .before .before .before .before .pre .3) _ (c .before .before .before .before .form-of .ensures)) (c .before .before .enum-told3 .given .1) (place-leaf (c .leaf2 .ensures) (c .before .suits-place .ensures))
 
 returns-4 : tie.Need-returns-4
 returns-4 c = by-form (form-is _ _ _ (c .before .before .before .before .before .before .before .before .before .before .before .before .pre .3) _ (c .before .before .before .before .form-of .ensures)) (c .before .before .enum-told4 .given .1) (expand-leaf (c .leaf3 .ensures) (c .before .suits-expand .ensures _))

@@ -19,16 +19,19 @@ enum-told : tie.Need-enum-told
 enum-told c = search needs
 
 returns : tie.Need-returns
-returns c = λ g. place-nothing g _ _ (lost (c .before .before .asks-class .ensures) (c .enum-told .given .1))
+returns c = place-nothing _ _ _ (lost (c .before .before .asks-class .ensures) (c .enum-told .given .1))
 
 add-path-kind : tie.Need-add-path-kind
-add-path-kind c = record { fits = omega (arith, c .before .before .before .before .before .before .before .pre .0) }
+add-path-kind c = record { fits = omega (arith, c .before .before .before .before .before .before .before .before .before .pre .1) }
 
 path-kind-requires : tie.Need-path-kind-requires
-path-kind-requires c κs = (c .before .before .before .before .before .before .before .pre .1, c .before .before .before .before .before .before .before .pre .2)
+path-kind-requires c κs = (c .before .before .before .before .before .before .before .before .before .pre .2, c .before .before .before .before .before .before .before .before .before .pre .3)
 
 enum-known-d : tie.Need-enum-known-d
 enum-known-d c = search needs
+
+source-of-requires : tie.Need-source-of-requires
+source-of-requires c κs = c .before .before .before .before .before .before .before .before .before .before .before .before .before .pre .0
 
 enum-told-2 : tie.Need-enum-told-2
 enum-told-2 c = search needs
@@ -44,23 +47,23 @@ enum-told-5 c = search needs
 
 returns-2 : tie.Need-returns-2
 unfolding textClass onFound
-returns-2 c = λ g. place-is g _ _ _ (sym (kind-is _ (c .before .before .before .path-kind .ensures) (c .before .d .given .1))) _ (got (c .before .before .before .before .before .before .before .before .asks-class .ensures) (c .before .before .before .before .before .before .c .given .1))
+returns-2 c = rw (c .before .source-of .ensures .plain) (place-is _ _ _ _ (sym (kind-is _ (c .before .before .before .before .before .path-kind .ensures) (c .before .before .before .d .given .1))) _ (got (c .before .before .before .before .before .before .before .before .before .before .asks-class .ensures) (c .before .before .before .before .before .before .before .before .c .given .1)))
 
 returns-3 : tie.Need-returns-3
 unfolding textClass onFound
-returns-3 c = λ g. place-is g _ _ _ (sym (kind-is _ (c .before .before .path-kind .ensures) (c .enum-told2 .given .1))) _ (got (c .before .before .before .before .before .before .before .asks-class .ensures) (c .before .before .before .before .before .c .given .1))
+returns-3 c = place-is _ _ _ _ (sym (kind-is _ (c .before .before .path-kind .ensures) (c .enum-told2 .given .1))) _ (got (c .before .before .before .before .before .before .before .asks-class .ensures) (c .before .before .before .before .before .c .given .1))
 
 returns-4 : tie.Need-returns-4
 unfolding textClass onFound
-returns-4 c = λ g. place-is g _ _ _ (sym (kind-is _ (c .before .before .path-kind .ensures) (c .enum-told3 .given .1))) _ (got (c .before .before .before .before .before .before .before .asks-class .ensures) (c .before .before .before .before .before .c .given .1))
+returns-4 c = place-is _ _ _ _ (sym (kind-is _ (c .before .before .path-kind .ensures) (c .enum-told3 .given .1))) _ (got (c .before .before .before .before .before .before .before .asks-class .ensures) (c .before .before .before .before .before .c .given .1))
 
 returns-5 : tie.Need-returns-5
 unfolding textClass onFound
-returns-5 c = λ g. place-is g _ _ _ (sym (kind-is _ (c .before .before .path-kind .ensures) (c .enum-told4 .given .1))) _ (got (c .before .before .before .before .before .before .before .asks-class .ensures) (c .before .before .before .before .before .c .given .1))
+returns-5 c = place-is _ _ _ _ (sym (kind-is _ (c .before .before .path-kind .ensures) (c .enum-told4 .given .1))) _ (got (c .before .before .before .before .before .before .before .asks-class .ensures) (c .before .before .before .before .before .c .given .1))
 
 returns-6 : tie.Need-returns-6
 unfolding textClass onFound
-returns-6 c = λ g. place-is g _ _ _ (sym (kind-is _ (c .before .before .path-kind .ensures) (c .enum-told5 .given .1))) _ (got (c .before .before .before .before .before .before .before .asks-class .ensures) (c .before .before .before .before .before .c .given .1))
+returns-6 c = place-is _ _ _ _ (sym (kind-is _ (c .before .before .path-kind .ensures) (c .enum-told5 .given .1))) _ (got (c .before .before .before .before .before .before .before .asks-class .ensures) (c .before .before .before .before .before .c .given .1))
 
 pub suits-place-spec : {M : Type 1} → statement M
 suits-place-spec =
@@ -73,6 +76,7 @@ suits-place-spec =
     add-path-kind
     path-kind-requires
     enum-known-d
+    source-of-requires
     enum-told-2
     enum-told-3
     enum-told-4

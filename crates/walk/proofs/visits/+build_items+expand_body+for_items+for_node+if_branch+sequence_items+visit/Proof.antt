@@ -8,6 +8,7 @@ use Rattle.walk.specs.Asks.{sources}
 use Rattle.walk.specs.Nodes.{afterAt, endedAt}
 use Rattle.walk.proofs.PathLaws.{got, lost}
 use Rattle.walk.proofs.RunLaws.{visited-stuck}
+use Rattle.walk.proofs.MarkLaws.{heads-some}
 use Rattle.walk.proofs.FormLaws.{literal-is, place-is, unknown-is, build-none, if-lost, if-other, if-is, for-piece, listed-none, listed-other, for-none}
 use Rattle.walk.proofs.SeparatorLaws.{Apart, due-later}
 use Rattle.walk.proofs.LoopLaws.{follows, vars-inside, after-level, below-falls, InSequence, sequence-lost, sequence-start, sequence-end, items-few}
@@ -65,6 +66,7 @@ use Rattle.walk.proofs.separator.separator_of.Reads as separator-of-rea
 use Rattle.walk.proofs.state.turned.Reads as turned-reads
 use Rattle.walk.proofs.tables.child_at.Reads as child-at-reads
 use Rattle.walk.proofs.tables.head_at.Reads as head-at-reads
+use Rattle.walk.proofs.tables.production_at.Reads as production-at-reads
 use Rattle.walk.proofs.variables.bind.Reads as bind-reads
 use Rattle.walk.proofs.visits.body_of.Reads as body-of-reads
 use Rattle.walk.proofs.visits.branch_of.Reads as branch-of-reads
@@ -158,7 +160,7 @@ abbrev visit-below : ℕ → In 9 visit-kinds.ps
 visit-below t = and 9 visit-kinds.ps (falls 9 visit-kinds.ps _<_ μ-visit t) visit.Pre
 
 abbrev build-items-claims : (t : ℕ) → build-items-lts.Claims
-build-items-claims t = (head-at-reads.Asked, head-at-reads.Learnt, stuck-reads.Asked, stuck-reads.Learnt, fetch-reads.Asked, fetch-reads.Learnt, write-reads.Asked, write-reads.Learnt, after-reads.Asked, after-reads.Learnt, size-of-reads.Asked, size-of-reads.Learnt, below-reads.Asked, below-reads.Learnt, visit-below t, visit.Post, size-at-reads.Asked, size-at-reads.Learnt, going-reads.Asked, going-reads.Learnt)
+build-items-claims t = (production-at-reads.Asked, production-at-reads.Learnt, stuck-reads.Asked, stuck-reads.Learnt, fetch-reads.Asked, fetch-reads.Learnt, write-reads.Asked, write-reads.Learnt, after-reads.Asked, after-reads.Learnt, size-of-reads.Asked, size-of-reads.Learnt, below-reads.Asked, below-reads.Learnt, visit-below t, visit.Post, size-at-reads.Asked, size-at-reads.Learnt, going-reads.Asked, going-reads.Learnt)
 
 abbrev expand-body-claims : (t : ℕ) → expand-body-lts.Claims
 expand-body-claims t = (head-at-reads.Asked, head-at-reads.Learnt, stuck-reads.Asked, stuck-reads.Learnt, body-of-reads.Asked, body-of-reads.Learnt, pass-reads.Asked, pass-reads.Learnt, below-reads.Asked, below-reads.Learnt, framed-reads.Asked, framed-reads.Learnt, visit-below t, visit.Post)
@@ -184,8 +186,8 @@ build-items-Inv-loop head g t ps out₀ v firsts places scratch₀ ts production
 abbrev build-items-μ-loop : build-items-lts.MeasureT-loop
 build-items-μ-loop head g t ps out₀ v firsts places scratch₀ ts production count element₀ child₀ used₀ here₀ taken₀ out scratch element child used here taken = count - taken
 
-build-items-head-at-requires : (t : ℕ) → build-items-lts.Need-head-at-requires (build-items-claims t) (build-items-at t) build-items.Post build-items-Inv-loop build-items-μ-loop
-build-items-head-at-requires t c κs = search needs
+build-items-production-at-requires : (t : ℕ) → build-items-lts.Need-production-at-requires (build-items-claims t) (build-items-at t) build-items.Post build-items-Inv-loop build-items-μ-loop
+build-items-production-at-requires t c κs = heads-some (c .before .before .before .before .before .before .before .before .before .pre .1 .0 .visitable .lent .productions-are)
 
 build-items-enum-known-production : (t : ℕ) → build-items-lts.Need-enum-known-production (build-items-claims t) (build-items-at t) build-items.Post build-items-Inv-loop build-items-μ-loop
 build-items-enum-known-production t c = search needs
@@ -197,7 +199,7 @@ build-items-stuck-requires : (t : ℕ) → build-items-lts.Need-stuck-requires (
 build-items-stuck-requires t c κs = search needs
 
 build-items-returns : (t : ℕ) → build-items-lts.Need-returns (build-items-claims t) (build-items-at t) build-items.Post build-items-Inv-loop build-items-μ-loop
-build-items-returns t c = visited-stuck (c .before .before .before .before .before .before .before .before .before .before .before .before .before .args .at) (c .before .before .before .before .before .before .before .before .before .before .before .before .before .pre .1 .0 .visitable .room) (c .stuck .ensures) (build-none _ _ _ _ _ _ _ _ _ _ _ _ (c .before .before .before .before .before .before .before .before .before .before .before .before .before .pre .1 .0 .visitable .lent .productions-are) (c .before .before .before .before .before .before .before .before .before .before .before .before .before .pre .1 .1 .b) (lost (c .before .before .before .head-at .ensures) (c .before .enum-told .given .1)))
+build-items-returns t c = visited-stuck (c .before .before .before .before .before .before .before .before .before .before .before .before .before .args .at) (c .before .before .before .before .before .before .before .before .before .before .before .before .before .pre .1 .0 .visitable .room) (c .stuck .ensures) (build-none _ _ _ _ _ _ _ _ _ _ _ (c .before .before .before .before .before .before .before .before .before .before .before .before .before .pre .1 .1 .b) (lost (c .before .before .before .production-at .ensures _ (c .before .before .before .before .before .before .before .before .before .before .before .before .before .pre .1 .0 .visitable .lent .productions-are)) (c .before .enum-told .given .1)))
 
 build-items-cast-fetch : (t : ℕ) → build-items-lts.Need-cast-fetch (build-items-claims t) (build-items-at t) build-items.Post build-items-Inv-loop build-items-μ-loop
 build-items-cast-fetch t c = search needs
@@ -215,7 +217,7 @@ build-items-add-child : (t : ℕ) → build-items-lts.Need-add-child (build-item
 build-items-add-child t c = record { fits = omega (arith, c .before .before .before .before .before .before .before .before .before .before .before .before .before .before .before .pre .1 .0 .visitable .near) }
 
 build-items-loop-holds : (t : ℕ) → build-items-lts.Need-loop-holds (build-items-claims t) (build-items-at t) build-items.Post build-items-Inv-loop build-items-μ-loop
-build-items-loop-holds t c = build-start (c .before .before .before .before .before .before .before .before .before .before .before .before .before .before .before .pre .1 .0) (c .before .before .before .before .before .before .before .before .before .before .before .before .before .before .before .pre .1 .1) _ (got (c .before .before .before .before .before .head-at .ensures) (c .before .before .before .production .given .1)) (omega arith) (c .before .fetch .ensures)
+build-items-loop-holds t c = build-start (c .before .before .before .before .before .before .before .before .before .before .before .before .before .before .before .pre .1 .0) (c .before .before .before .before .before .before .before .before .before .before .before .before .before .before .before .pre .1 .1) _ (got (c .before .before .before .before .before .production-at .ensures _ (c .before .before .before .before .before .before .before .before .before .before .before .before .before .before .before .pre .1 .0 .visitable .lent .productions-are)) (c .before .before .before .production .given .1)) (omega arith) (c .before .fetch .ensures)
 
 build-items-fetch-requires-2 : (t : ℕ) → build-items-lts.Need-fetch-requires-2 (build-items-claims t) (build-items-at t) build-items.Post build-items-Inv-loop build-items-μ-loop
 build-items-fetch-requires-2 t c κs = c .before .before .before .before .before .before .before .before .before .before .before .before .before .before .before .before .before .pre .1 .0 .visitable .lent .grammar-sized
@@ -776,7 +778,7 @@ visit-enum-told-3 : (t : ℕ) → visit-lts.Need-enum-told-3 (visit-claims t) (v
 visit-enum-told-3 t c = search needs
 
 visit-place-requires : (t : ℕ) → visit-lts.Need-place-requires (visit-claims t) (visit-at t) visit.Post
-visit-place-requires t c κs = let f = form-formed (c .before .before .before .before .before .before .before .before .before .before .before .before .before .before .before .before .before .before .before .before .pre .1) (leb-false _ _ (sym (c .before .before .before .before .before .before .before .before .before .before .spent .ensures) ∙ c .before .before .before .before .before .before .before .before .before .if1 .left)) (c .before .before .before .before .before .before .before .before .counted .ensures) (c .before .before .before .before .before .before .if2 .left) (form-here (c .before .before .before .before .before .before .before .before .before .before .before .before .before .before .before .before .before .before .before .before .pre .1) (leb-false _ _ (sym (c .before .before .before .before .before .before .before .before .before .before .spent .ensures) ∙ c .before .before .before .before .before .before .before .before .before .if1 .left)) (c .before .before .before .before .before .before .before .before .counted .ensures) (c .before .before .before .before .before .fetch .ensures) _ (c .before .before .before .before .form-of .ensures) ∙ c .before .before .enum-told3 .given .1) in (follows f, omega (arith, f .level, f .visitable .near), f .visitable .room)
+visit-place-requires t c κs = let f = form-formed (c .before .before .before .before .before .before .before .before .before .before .before .before .before .before .before .before .before .before .before .before .pre .1) (leb-false _ _ (sym (c .before .before .before .before .before .before .before .before .before .before .spent .ensures) ∙ c .before .before .before .before .before .before .before .before .before .if1 .left)) (c .before .before .before .before .before .before .before .before .counted .ensures) (c .before .before .before .before .before .before .if2 .left) (form-here (c .before .before .before .before .before .before .before .before .before .before .before .before .before .before .before .before .before .before .before .before .pre .1) (leb-false _ _ (sym (c .before .before .before .before .before .before .before .before .before .before .spent .ensures) ∙ c .before .before .before .before .before .before .before .before .before .if1 .left)) (c .before .before .before .before .before .before .before .before .counted .ensures) (c .before .before .before .before .before .fetch .ensures) _ (c .before .before .before .before .form-of .ensures) ∙ c .before .before .enum-told3 .given .1) in (follows f, omega (arith, f .level, f .visitable .near), f .visitable .room, f .visitable .lent .grammar-sized, f .visitable .lent .productions-are, heads-some (f .visitable .lent .productions-are))
 
 visit-enum-told-4 : (t : ℕ) → visit-lts.Need-enum-told-4 (visit-claims t) (visit-at t) visit.Post
 visit-enum-told-4 t c = search needs
@@ -824,7 +826,7 @@ visit-returns-4 : (t : ℕ) → visit-lts.Need-returns-4 (visit-claims t) (visit
 visit-returns-4 t c = form-ran (c .before .before .before .before .before .before .before .before .before .before .before .before .before .before .before .before .before .before .before .before .before .before .pre .1) (leb-false _ _ (sym (c .before .before .before .before .before .before .before .before .before .before .before .before .spent .ensures) ∙ c .before .before .before .before .before .before .before .before .before .before .before .if1 .left)) (c .before .before .before .before .before .before .before .before .before .before .counted .ensures) (c .before .before .before .before .before .before .before .before .if2 .left) (form-here (c .before .before .before .before .before .before .before .before .before .before .before .before .before .before .before .before .before .before .before .before .before .before .pre .1) (leb-false _ _ (sym (c .before .before .before .before .before .before .before .before .before .before .before .before .spent .ensures) ∙ c .before .before .before .before .before .before .before .before .before .before .before .if1 .left)) (c .before .before .before .before .before .before .before .before .before .before .counted .ensures) (c .before .before .before .before .before .before .before .fetch .ensures) _ (c .before .before .before .before .before .before .form-of .ensures) ∙ c .before .before .before .before .enum-told2 .given .1) (literal-is _ _ _ _ _ _ _ _ _ _ _ (c .before .before .before .before .before .before .before .fetch .ensures .b)) (c .before .before .write .ensures)
 
 visit-same-length-4 : (t : ℕ) → visit-lts.Need-same-length-4 (visit-claims t) (visit-at t) visit.Post
-visit-same-length-4 t c = c .before .before .place .kept .1 .1 .1 .1 .0
+visit-same-length-4 t c = c .before .before .place .kept .1 .1 .1 .1 .1 .1 .0
 
 visit-same-length-5 : (t : ℕ) → visit-lts.Need-same-length-5 (visit-claims t) (visit-at t) visit.Post
 visit-same-length-5 t c = refl
@@ -881,7 +883,7 @@ pub +build-items+expand-body+for-items+for-node+if-branch+sequence-items+visit-s
     build-items.Post
     build-items-Inv-loop
     build-items-μ-loop
-    (build-items-head-at-requires t)
+    (build-items-production-at-requires t)
     (build-items-enum-known-production t)
     (build-items-enum-told t)
     (build-items-stuck-requires t)

@@ -1,6 +1,6 @@
 use Rattle.walk.proofs.PathLaws.{got, lost}
 use Rattle.walk.proofs.RunLaws.{ran-is, ran-stuck}
-use Rattle.walk.proofs.FormLaws.{place-lost, place-other, place-text}
+use Rattle.walk.proofs.FormLaws.{place-lost, place-other, place-text, place-escaped}
 use borrow.Author.Needs.{needs}
 use Rattle.walk.proofs.writer.place.Statement.{statement}
 use Rattle.walk.proofs.writer.place.Tie as tie
@@ -21,7 +21,7 @@ stuck-requires : tie.Need-stuck-requires
 stuck-requires c κs = search needs
 
 returns : tie.Need-returns
-returns c = ran-stuck (c .before .before .before .before .before .before .before .before .before .before .before .args .at) (c .before .before .before .before .before .before .before .before .before .before .before .pre .2) (c .stuck .ensures) (place-lost _ _ _ _ _ (lost (c .before .before .before .path-value .ensures .is) (c .before .enum-told .given .1)))
+returns c = ran-stuck (c .before .before .before .before .before .before .before .before .before .before .before .before .before .args .at) (c .before .before .before .before .before .before .before .before .before .before .before .before .before .pre .2) (c .stuck .ensures) (place-lost _ _ _ _ _ _ (lost (c .before .before .before .path-value .ensures .is) (c .before .enum-told .given .1)))
 
 cast-i : tie.Need-cast-i
 cast-i c = search needs
@@ -33,16 +33,28 @@ stuck-requires-2 : tie.Need-stuck-requires-2
 stuck-requires-2 c κs = search needs
 
 returns-2 : tie.Need-returns-2
-returns-2 c = ran-stuck (c .before .before .before .before .before .before .before .before .before .before .before .before .before .before .before .args .at) (c .before .before .before .before .before .before .before .before .before .before .before .before .before .before .before .pre .2) (c .stuck2 .ensures) (place-other _ _ _ _ _ _ (got (c .before .before .before .before .before .before .before .path-value .ensures .is) (c .before .before .before .before .before .w .given .1)) _ (c .before .before .before .fetch .ensures .kind) (c .before .if1 .taken))
+returns-2 c = ran-stuck (c .before .before .before .before .before .before .before .before .before .before .before .before .before .before .before .before .before .args .at) (c .before .before .before .before .before .before .before .before .before .before .before .before .before .before .before .before .before .pre .2) (c .stuck2 .ensures) (place-other _ _ _ _ _ _ _ (got (c .before .before .before .before .before .before .before .path-value .ensures .is) (c .before .before .before .before .before .w .given .1)) _ (c .before .before .before .fetch .ensures .kind) (c .before .if1 .taken))
+
+as-it-stands-requires : tie.Need-as-it-stands-requires
+as-it-stands-requires c κs = search needs
 
 write-requires : tie.Need-write-requires
-write-requires c κs = search needs
+write-requires c κs = c .before .before .before .before .before .before .before .before .before .before .before .before .before .before .before .before .before .before .before .pre .2
 
 same-length : tie.Need-same-length
 same-length c = search needs
 
 returns-3 : tie.Need-returns-3
-returns-3 c = ran-is (place-text _ _ _ _ _ _ (got (c .before .before .before .before .before .before .before .before .before .before .path-value .ensures .is) (c .before .before .before .before .before .before .before .before .w .given .1)) _ (c .before .before .before .before .before .before .fetch .ensures .kind) (c .before .before .before .before .if1 .left) _ (c .before .before .before .before .before .before .fetch .ensures .b)) (c .before .before .write .ensures)
+returns-3 c = ran-is (place-text _ _ _ _ _ _ _ (got (c .before .before .before .before .before .before .before .before .before .before .before .before .path-value .ensures .is) (c .before .before .before .before .before .before .before .before .before .before .w .given .1)) _ (c .before .before .before .before .before .before .before .before .fetch .ensures .kind) (c .before .before .before .before .before .before .if1 .left) _ (c .before .before .before .before .before .before .before .before .fetch .ensures .b) (c .before .before .before .before .before .as-it-stands .ensures) (c .before .before .before .before .if2 .taken)) (c .before .before .write .ensures)
+
+write-escaped-requires : tie.Need-write-escaped-requires
+write-escaped-requires c κs = c .before .before .before .before .before .before .before .before .before .before .before .before .before .before .before .before .before .before .before .pre .2
+
+same-length-2 : tie.Need-same-length-2
+same-length-2 c = search needs
+
+returns-4 : tie.Need-returns-4
+returns-4 c = ran-is (place-escaped _ _ _ _ _ _ _ (got (c .before .before .before .before .before .before .before .before .before .before .before .before .path-value .ensures .is) (c .before .before .before .before .before .before .before .before .before .before .w .given .1)) _ (c .before .before .before .before .before .before .before .before .fetch .ensures .kind) (c .before .before .before .before .before .before .if1 .left) _ (c .before .before .before .before .before .before .before .before .fetch .ensures .b) (c .before .before .before .before .before .as-it-stands .ensures) (c .before .before .before .before .if2 .left)) (c .before .before .write-escaped .ensures)
 
 pub place-spec : {M : Type 1} → statement M
 place-spec =
@@ -58,6 +70,10 @@ place-spec =
     fetch-requires
     stuck-requires-2
     returns-2
+    as-it-stands-requires
     write-requires
     same-length
-    returns-3)
+    returns-3
+    write-escaped-requires
+    same-length-2
+    returns-4)

@@ -1,5 +1,5 @@
 use mathlib.Core.Path.{refl}
-use Rattle.walk.proofs.RunLaws.{wrote-none, wrote-whole}
+use Rattle.walk.proofs.RunLaws.{wrote}
 use borrow.Author.Needs.{needs}
 use Rattle.walk.proofs.writer.write.Statement.{statement}
 use Rattle.walk.proofs.writer.write.Tie as tie
@@ -22,23 +22,14 @@ part-copy-text-end c = search needs
 copy-text-requires : tie.Need-copy-text-requires
 copy-text-requires c κs = search needs
 
-ended-requires : tie.Need-ended-requires
-ended-requires c κs = search needs
+written-requires : tie.Need-written-requires
+written-requires c κs = search needs
 
 same-length : tie.Need-same-length
 same-length c = search needs
 
 returns : tie.Need-returns
-returns c = wrote-none _ _ _ (c .before .before .before .before .before .before .before .before .before .args .at) _ _ (c .before .before .before .before .before .before .text-after .ensures .text) refl (c .before .before .before .before .before .before .before .before .before .pre) (c .before .before .before .before .copy-text .ensures) (c .before .if1 .taken) _ (c .ended .ensures)
-
-add-t9 : tie.Need-add-t9
-add-t9 c = search needs
-
-same-length-2 : tie.Need-same-length-2
-same-length-2 c = search needs
-
-returns-2 : tie.Need-returns-2
-returns-2 c = wrote-whole _ _ _ (c .before .before .before .before .before .before .before .before .args .at) _ _ (c .before .before .before .before .before .text-after .ensures .text) refl (c .before .before .before .before .before .before .before .before .pre) (c .before .before .before .copy-text .ensures) (c .if1 .left) _ refl
+returns c = wrote _ _ _ (c .before .before .before .before .before .before .before .before .args .at) _ _ (c .before .before .before .before .before .text-after .ensures .text) refl (c .before .before .before .before .before .before .before .before .pre) (c .before .before .before .copy-text .ensures) _ (c .written .ensures)
 
 pub write-spec : {M : Type 1} → statement M
 write-spec =
@@ -50,9 +41,6 @@ write-spec =
     part-copy-text-start
     part-copy-text-end
     copy-text-requires
-    ended-requires
+    written-requires
     same-length
-    returns
-    add-t9
-    same-length-2
-    returns-2)
+    returns)
