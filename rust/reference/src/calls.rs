@@ -83,11 +83,11 @@ fn layout_of(kind: Kind) -> impl Fn(Broken) -> Refusal {
 }
 
 /// Refusals 5 to 7, and the classes made ready for texts.
-fn judge_set(grammar: &Grammar<'_>, templates: &Templates<'_>) -> Result<Vec<Lexemes>, Refusal> {
+fn judge_set(grammar: &Grammar<'_>, templates: &Templates<'_>) -> Result<Lexemes, Refusal> {
     names::judge_grammar(grammar)?;
     names::judge_templates(grammar, templates)?;
     classes::judge(grammar)?;
-    let lexemes: Vec<Lexemes> = grammar.classes.iter().map(Lexemes::of).collect();
+    let lexemes = Lexemes::of(grammar);
     typing::judge_templates(grammar, &lexemes, templates)?;
     Ok(lexemes)
 }

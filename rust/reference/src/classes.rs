@@ -3,14 +3,19 @@
 use std::ops::RangeInclusive;
 
 use crate::answer::{Kind, Refusal};
-use crate::grammar::{Class, Grammar};
+use crate::escape::unescaped;
+use crate::grammar::{Class, Grammar, PlainClass};
 
 const LAST_CODE_POINT: u32 = 0x10_FFFF;
 const ASCII: usize = 128;
 
-/// The first class or range of a grammar that is upside down or passes U+10FFFF.
+/// The first class or range of a grammar that is upside down or passes U+10FFFF. An escaped class has
+/// neither bounds nor ranges.
 pub(crate) fn judge(grammar: &Grammar<'_>) -> Result<(), Refusal> {
     for class in &grammar.classes {
+        let Class::Plain(class) = class else {
+            continue;
+        };
         if class.least > class.most {
             return Err(Refusal::at(6, Kind::Grammar, class.place));
         }
@@ -23,16 +28,49 @@ pub(crate) fn judge(grammar: &Grammar<'_>) -> Result<(), Refusal> {
     Ok(())
 }
 
-/// The lexemes of a class, made ready for many texts.
+/// The lexemes of all classes, made ready for many texts.
 pub(crate) struct Lexemes {
+    classes: Vec<Lexeme>,
+}
+
+/// What a lexeme of one class is.
+enum Lexeme {
+    Plain(PlainLexeme),
+    /// An escaped lexeme of the plain class with this number.
+    Escaped(u16),
+}
+
+impl Lexemes {
+    pub(crate) fn of(grammar: &Grammar<'_>) -> Self {
+        let lexeme = |class: &Class| match class {
+            Class::Plain(plain) => Lexeme::Plain(PlainLexeme::of(plain)),
+            Class::Escaped(escaped) => Lexeme::Escaped(escaped.plain),
+        };
+        let classes = grammar.classes.iter().map(lexeme).collect();
+        Lexemes { classes }
+    }
+
+    /// Whether a text is a lexeme of the class with this number.
+    pub(crate) fn contain(&self, class: u16, text: &[u8]) -> bool {
+        match &self.classes[usize::from(class)] {
+            Lexeme::Plain(lexeme) => lexeme.is(text),
+            Lexeme::Escaped(plain) => {
+                unescaped(text).is_some_and(|text| self.contain(*plain, &text))
+            }
+        }
+    }
+}
+
+/// The lexemes of a plain class.
+struct PlainLexeme {
     counts: RangeInclusive<usize>,
     ascii: [bool; ASCII],
     /// In order, and none touching the next.
     ranges: Vec<RangeInclusive<u32>>,
 }
 
-impl Lexemes {
-    pub(crate) fn of(class: &Class) -> Self {
+impl PlainLexeme {
+    fn of(class: &PlainClass) -> Self {
         let ranges = merged(class);
         let mut ascii = [false; ASCII];
         for range in &ranges {
@@ -41,7 +79,7 @@ impl Lexemes {
                 part.fill(true);
             }
         }
-        Lexemes {
+        PlainLexeme {
             counts: class.least.into()..=class.most.into(),
             ascii,
             ranges,
@@ -50,7 +88,7 @@ impl Lexemes {
 
     /// A lexeme is well-formed UTF-8 with a character count from least to most, each character in
     /// some range. Counts are of characters, never bytes.
-    pub(crate) fn contains(&self, text: &[u8]) -> bool {
+    fn is(&self, text: &[u8]) -> bool {
         if text.is_ascii() {
             let admitted = text.iter().all(|&byte| self.ascii[usize::from(byte)]);
             return self.counts.contains(&text.len()) && admitted;
@@ -90,7 +128,7 @@ impl Lexemes {
 }
 
 /// The ranges of a class in order, those that meet put together.
-fn merged(class: &Class) -> Vec<RangeInclusive<u32>> {
+fn merged(class: &PlainClass) -> Vec<RangeInclusive<u32>> {
     let mut pairs: Vec<(u32, u32)> = class
         .ranges
         .iter()
@@ -112,13 +150,13 @@ mod tests {
     use super::*;
     use crate::grammar::CodeRange;
 
-    fn class(least: u16, most: u16, ranges: &[(u32, u32)]) -> Lexemes {
+    fn class(least: u16, most: u16, ranges: &[(u32, u32)]) -> PlainLexeme {
         let ranges = ranges.iter().map(|&(lowest, highest)| CodeRange {
             place: 0,
             lowest,
             highest,
         });
-        Lexemes::of(&Class {
+        PlainLexeme::of(&PlainClass {
             place: 0,
             least,
             most,
@@ -128,18 +166,18 @@ mod tests {
 
     #[test]
     fn counts_are_of_characters() {
-        let lexemes = class(1, 4, &[(0x370, 0x3FF), (0x61, 0x7A)]);
-        assert!(lexemes.contains("αβγδ".as_bytes()));
-        assert!(!lexemes.contains("αβγδε".as_bytes()));
-        assert!(lexemes.contains(b"abcd"));
-        assert!(!lexemes.contains(b""));
-        assert!(!lexemes.contains(b"AB"));
-        assert!(!lexemes.contains(&[0xC0, 0x80]));
+        let lexeme = class(1, 4, &[(0x370, 0x3FF), (0x61, 0x7A)]);
+        assert!(lexeme.is("αβγδ".as_bytes()));
+        assert!(!lexeme.is("αβγδε".as_bytes()));
+        assert!(lexeme.is(b"abcd"));
+        assert!(!lexeme.is(b""));
+        assert!(!lexeme.is(b"AB"));
+        assert!(!lexeme.is(&[0xC0, 0x80]));
     }
 
     #[test]
     fn ranges_may_overlap_touch_and_hold_surrogates() {
-        let lexemes = class(
+        let lexeme = class(
             0,
             9,
             &[
@@ -149,17 +187,17 @@ mod tests {
                 (0x101, 0x102),
             ],
         );
-        assert!(lexemes.contains("".as_bytes()));
-        assert!(lexemes.contains("\u{7F}\u{80}\u{100}\u{101}\u{D7FF}".as_bytes()));
-        assert!(!lexemes.contains(&[0xED, 0xA0, 0x80]));
-        assert!(!lexemes.contains("\u{103}".as_bytes()));
-        assert!(!lexemes.contains("\u{7E}".as_bytes()));
+        assert!(lexeme.is("".as_bytes()));
+        assert!(lexeme.is("\u{7F}\u{80}\u{100}\u{101}\u{D7FF}".as_bytes()));
+        assert!(!lexeme.is(&[0xED, 0xA0, 0x80]));
+        assert!(!lexeme.is("\u{103}".as_bytes()));
+        assert!(!lexeme.is("\u{7E}".as_bytes()));
     }
 
     #[test]
     fn a_class_without_ranges_has_at_most_the_empty_lexeme() {
-        assert!(class(0, 3, &[]).contains(b""));
-        assert!(!class(1, 3, &[]).contains(b""));
-        assert!(!class(0, 3, &[]).contains(b"a"));
+        assert!(class(0, 3, &[]).is(b""));
+        assert!(!class(1, 3, &[]).is(b""));
+        assert!(!class(0, 3, &[]).is(b"a"));
     }
 }

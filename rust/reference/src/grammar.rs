@@ -1,4 +1,4 @@
-//! The grammar stream: classes with their ranges, then productions with their elements.
+//! The grammar stream: plain and escaped classes in one row, then productions with their elements.
 
 use std::collections::HashSet;
 
@@ -11,12 +11,25 @@ pub(crate) struct Grammar<'a> {
     nonterminals: HashSet<u16>,
 }
 
+/// A class of the common row.
+pub(crate) enum Class {
+    Plain(PlainClass),
+    Escaped(EscapedClass),
+}
+
 /// A class record with its ranges.
-pub(crate) struct Class {
+pub(crate) struct PlainClass {
     pub(crate) place: usize,
     pub(crate) least: u16,
     pub(crate) most: u16,
     pub(crate) ranges: Vec<CodeRange>,
+}
+
+/// An escaped class: its lexemes are those of a plain class, escaped.
+pub(crate) struct EscapedClass {
+    pub(crate) place: usize,
+    /// The number of the plain class.
+    pub(crate) plain: u16,
 }
 
 /// A range of code points, both ends included.
@@ -54,8 +67,11 @@ impl<'a> Grammar<'a> {
     pub(crate) fn read(records: &'a Records) -> Result<Self, Broken> {
         let mut reader = records.reader();
         let mut classes = Vec::new();
-        while reader.next_kind() == Some(1) {
-            classes.push(read_class(&mut reader, classes.len())?);
+        while let Some(kind @ (1 | 5)) = reader.next_kind() {
+            classes.push(match kind {
+                1 => Class::Plain(read_plain_class(&mut reader, classes.len())?),
+                _ => Class::Escaped(read_escaped_class(&mut reader, classes.len())?),
+            });
         }
         let mut productions = Vec::new();
         while reader.next_kind() == Some(3) {
@@ -70,13 +86,28 @@ impl<'a> Grammar<'a> {
         })
     }
 
+    /// Whether a number is that of a plain class.
+    pub(crate) fn has_plain_class(&self, number: u16) -> bool {
+        let class = self.classes.get(usize::from(number));
+        matches!(class, Some(Class::Plain(_)))
+    }
+
+    /// The class whose texts a place takes in the position of a class: of an escaped one the plain
+    /// one that it names.
+    pub(crate) fn plain_class(&self, number: u16) -> u16 {
+        match &self.classes[usize::from(number)] {
+            Class::Plain(_) => number,
+            Class::Escaped(class) => class.plain,
+        }
+    }
+
     /// A nonterminal exists if it has a production.
     pub(crate) fn has_nonterminal(&self, nonterminal: u16) -> bool {
         self.nonterminals.contains(&nonterminal)
     }
 }
 
-fn read_class(reader: &mut Reader<'_>, number: usize) -> Result<Class, Broken> {
+fn read_plain_class(reader: &mut Reader<'_>, number: usize) -> Result<PlainClass, Broken> {
     let place = reader.place();
     let head = reader.record_of(1)?;
     ask(usize::from(head.a()) == number)?;
@@ -84,12 +115,20 @@ fn read_class(reader: &mut Reader<'_>, number: usize) -> Result<Class, Broken> {
     for _ in 0..head.d() {
         ranges.push(read_range(reader)?);
     }
-    Ok(Class {
+    Ok(PlainClass {
         place,
         least: head.b(),
         most: head.c(),
         ranges,
     })
+}
+
+fn read_escaped_class(reader: &mut Reader<'_>, number: usize) -> Result<EscapedClass, Broken> {
+    let place = reader.place();
+    let head = reader.record_of(5)?;
+    ask(usize::from(head.a()) == number && head.c() == 0 && head.d() == 0)?;
+    let plain = head.b();
+    Ok(EscapedClass { place, plain })
 }
 
 fn read_range(reader: &mut Reader<'_>) -> Result<CodeRange, Broken> {

@@ -1,5 +1,6 @@
 //! The page machine in plain Rust, written from document 01 and the requests of 02 that have landed
-//! (a: separators; b: checks that start from the block before), and from nothing else.
+//! (a: separators; b: checks that start from the block before; c: escaped classes), and from nothing
+//! else.
 //!
 //! A grammar, a template set and a value go in as streams of 512-byte blocks; a text that the
 //! grammar derives, or one numbered refusal, comes out. This crate exists to be compared with the
@@ -14,6 +15,7 @@
 //! | `limits` | refusal 4 |
 //! | `names` | refusal 5 |
 //! | `classes` | refusal 6, and lexemes |
+//! | `escape` | 02 c: the five entities; the unescape call |
 //! | `typing` | Typing; refusals 7 and 8 |
 //! | `walk` | Walk; refusals 10 to 12 |
 //! | `calls` | What stops a run: the order of the checks |
@@ -29,6 +31,7 @@ mod answer;
 mod blocks;
 mod calls;
 mod classes;
+mod escape;
 mod grammar;
 mod limits;
 mod names;
@@ -41,3 +44,4 @@ mod walk;
 pub use answer::Answer;
 pub use blocks::{block_payload, fnv1a, fnv1a_from, pack, unpack, START};
 pub use calls::{check, evaluate, SCRATCH};
+pub use escape::unescape;

@@ -1,11 +1,21 @@
-//! Refusal 5: what is named must exist, and a field names an earlier type.
+//! Refusal 5: what is named must exist; a field names an earlier type, an escaped class an earlier
+//! plain class, and a text type a plain class.
 
 use crate::answer::{Kind, Refusal};
-use crate::grammar::{Grammar, Symbol};
+use crate::grammar::{Class, Grammar, Symbol};
 use crate::templates::{Form, Shape, Template, Templates};
 
-/// The first element of a grammar that names nothing.
+/// The first escaped class of a grammar that names no earlier plain class, or else the first element
+/// that names nothing.
 pub(crate) fn judge_grammar(grammar: &Grammar<'_>) -> Result<(), Refusal> {
+    for (number, class) in grammar.classes.iter().enumerate() {
+        if let Class::Escaped(escaped) = class {
+            let earlier = usize::from(escaped.plain) < number;
+            if !(earlier && grammar.has_plain_class(escaped.plain)) {
+                return Err(Refusal::at(5, Kind::Grammar, escaped.place));
+            }
+        }
+    }
     for element in grammar.productions.iter().flat_map(|p| &p.elements) {
         let exists = match element.symbol {
             Symbol::Keyword(_) => true,
@@ -31,7 +41,7 @@ pub(crate) fn judge_templates(grammar: &Grammar<'_>, set: &Templates<'_>) -> Res
 fn judge_types(grammar: &Grammar<'_>, set: &Templates<'_>) -> Result<(), Refusal> {
     for (number, kind) in set.types.iter().enumerate() {
         match &kind.shape {
-            Shape::Text(class) => named(*class, grammar.classes.len(), kind.place)?,
+            Shape::Text(class) => ask(grammar.has_plain_class(*class), kind.place)?,
             Shape::YesNo => {}
             Shape::List(item) => named(*item, set.types.len(), kind.place)?,
             Shape::Record(fields) => {
@@ -67,9 +77,11 @@ fn judge_template(
 
 /// A number of the templates stream names one of so many.
 fn named(number: u16, count: usize, place: usize) -> Result<(), Refusal> {
-    if usize::from(number) < count {
-        Ok(())
-    } else {
-        Err(Refusal::at(5, Kind::Templates, place))
-    }
+    ask(usize::from(number) < count, place)
+}
+
+/// `Ok` if a record of the templates stream names what it may.
+fn ask(holds: bool, place: usize) -> Result<(), Refusal> {
+    let refusal = Refusal::at(5, Kind::Templates, place);
+    holds.then_some(()).ok_or(refusal)
 }

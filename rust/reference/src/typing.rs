@@ -19,7 +19,7 @@ enum Position {
 /// The first node that doesn't suit its position or holds a path that isn't there.
 pub(crate) fn judge_templates(
     grammar: &Grammar<'_>,
-    lexemes: &[Lexemes],
+    lexemes: &Lexemes,
     set: &Templates<'_>,
 ) -> Result<(), Refusal> {
     if set.templates.first().map(|root| root.parameters.len()) != Some(1) {
@@ -43,7 +43,7 @@ pub(crate) fn judge_templates(
 /// parameters, then the loops from outside in.
 struct Body<'a> {
     grammar: &'a Grammar<'a>,
-    lexemes: &'a [Lexemes],
+    lexemes: &'a Lexemes,
     set: &'a Templates<'a>,
     variables: Vec<u16>,
 }
@@ -58,11 +58,12 @@ impl Body<'_> {
         let node = &set.nodes[index];
         match (&node.form, position) {
             (Form::Literal(text), Position::Class(class)) => {
-                let holds = self.lexemes[usize::from(class)].contains(text);
+                let holds = self.lexemes.contain(class, text);
                 holds.then_some(()).ok_or(node.place)
             }
             (Form::Place(path), Position::Class(class)) => {
-                let fits = matches!(self.shape_of(path), Some(Shape::Text(c)) if *c == class);
+                let taken = self.grammar.plain_class(class);
+                let fits = matches!(self.shape_of(path), Some(Shape::Text(c)) if *c == taken);
                 fits.then_some(()).ok_or(node.place)
             }
             (Form::Sequence, Position::Repetition(n)) => set
@@ -157,7 +158,7 @@ fn asks(symbol: Symbol<'_>) -> Option<Position> {
 
 /// The first value that isn't of the type it should have.
 pub(crate) fn judge_value(
-    lexemes: &[Lexemes],
+    lexemes: &Lexemes,
     set: &Templates<'_>,
     value: &Value<'_>,
 ) -> Result<(), Refusal> {
@@ -173,7 +174,7 @@ pub(crate) fn judge_value(
 }
 
 struct Typed<'a> {
-    lexemes: &'a [Lexemes],
+    lexemes: &'a Lexemes,
     set: &'a Templates<'a>,
     value: &'a Value<'a>,
 }
@@ -183,9 +184,7 @@ impl Typed<'_> {
     fn judge(&self, index: usize, number: u16) -> Judged {
         let item = &self.value.items[index];
         match (&self.set.types[usize::from(number)].shape, item.content) {
-            (Shape::Text(class), Content::Text(text))
-                if self.lexemes[usize::from(*class)].contains(text) =>
-            {
+            (Shape::Text(class), Content::Text(text)) if self.lexemes.contain(*class, text) => {
                 Ok(())
             }
             (Shape::YesNo, Content::YesNo(_)) => Ok(()),

@@ -1,7 +1,8 @@
 //! The walk: nodes are visited in record order, and the first of 10 to 12 ends it.
 
 use crate::answer::{Answer, Kind};
-use crate::grammar::{Grammar, Symbol};
+use crate::escape::escaped;
+use crate::grammar::{Class, Grammar, Symbol};
 use crate::limits::DEPTH;
 use crate::templates::{Form, Path, Templates};
 use crate::value::{Content, Value};
@@ -72,11 +73,6 @@ impl Walk<'_> {
         self.count_step(node.place, depth)?;
         match &node.form {
             Form::Build { production } => self.build(index, *production, depth, base),
-            Form::Literal(text) => self.write(text, node.place),
-            Form::Place(path) => match self.value.items[self.find(path, base)].content {
-                Content::Text(text) => self.write(text, node.place),
-                _ => unreachable!("a place's path finds a text"),
-            },
             Form::Expand { template, paths } => {
                 let body = set.templates[usize::from(*template)].body;
                 self.expand(body, paths, depth, base)
@@ -86,6 +82,7 @@ impl Walk<'_> {
                 Content::YesNo(false) => self.visit(set.nodes[index + 1].next, depth + 1, base),
                 _ => unreachable!("an if's path finds a yes/no"),
             },
+            Form::Literal(_) | Form::Place(_) => unreachable!("it stands for a class of a build"),
             Form::Sequence => unreachable!("a sequence stands for a repetition of a build"),
             Form::For(_) => unreachable!("a for stands in a sequence"),
         }
@@ -121,11 +118,31 @@ impl Walk<'_> {
                 Symbol::Repetition(_, separator) => {
                     self.sequence(child, separator, depth + 1, base)?;
                 }
-                Symbol::Class(_) | Symbol::Nonterminal(_) => self.visit(child, depth + 1, base)?,
+                Symbol::Class(class) => self.lexeme(child, class, depth + 1, base)?,
+                Symbol::Nonterminal(_) => self.visit(child, depth + 1, base)?,
             }
             child = self.set.nodes[child].next;
         }
         Ok(())
+    }
+
+    /// Visits a node in the position of a class. A literal is a lexeme already; a place finds a text
+    /// of the plain class, which it escapes where the class is an escaped one.
+    fn lexeme(&mut self, index: usize, class: u16, depth: usize, base: usize) -> Result<(), Stop> {
+        let node = &self.set.nodes[index];
+        self.count_step(node.place, depth)?;
+        let path = match &node.form {
+            Form::Literal(text) => return self.write(text, node.place),
+            Form::Place(path) => path,
+            _ => unreachable!("a literal or a place stands for a class"),
+        };
+        let Content::Text(text) = self.value.items[self.find(path, base)].content else {
+            unreachable!("a place's path finds a text")
+        };
+        match self.grammar.classes[usize::from(class)] {
+            Class::Plain(_) => self.write(text, node.place),
+            Class::Escaped(_) => self.write(&escaped(text), node.place),
+        }
     }
 
     /// Visits a sequence and its items, with the separator of its repetition between them.
