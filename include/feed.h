@@ -23,7 +23,8 @@
  * Every call but feed_block_payload writes all five numbers of `answer`, at the
  * indexes FEED_NUMBER to FEED_BYTES, whatever they held before:
  *
- *   number   0 finished (or accepted, packed, unpacked), else the refusal
+ *   number   0 finished (or accepted, packed, unpacked, unescaped), else the
+ *            refusal
  *   kind     the stream that the refusal is about: 1 grammar, 2 templates,
  *            3 value; 0 where it is about none
  *   place    the record or the block that the refusal is about, counted from 0
@@ -51,7 +52,8 @@
  *        stand around a node
  *    5   a class, nonterminal, production, template or       1, 2     the record
  *        type that is named doesn't exist, or a field                 that names
- *        names no earlier type
+ *        names no earlier type, an escaped class no earlier
+ *        plain class, or a text type an escaped class
  *    6   a class has least above most, or a range has        1        the class or
  *        lowest above highest or passes U+10FFFF                      the range
  *    7   a typing rule fails, or a path names a variable     2        the node; 0
@@ -67,8 +69,8 @@
  *        the output                                                   separator the
  *                                                                     sequence
  *
- * feed_pack and feed_unpack answer 0, 1, 2 and 12 of their own, as said there,
- * always with kind 0 and steps 0.
+ * feed_pack and feed_unpack answer 0, 1, 2 and 12 of their own, and feed_unescape
+ * 0, 8 and 12, as said there, always with kind 0 and steps 0.
  */
 #ifndef FEED_H
 #define FEED_H
@@ -178,6 +180,24 @@ void feed_unpack(uint8_t kind,
                  const uint8_t *stream, size_t stream_length,
                  uint8_t *output, size_t output_length,
                  uint64_t answer[5]);
+
+/*
+ * feed_unescape: an escaped text into the plain one, for an editor.
+ *
+ * Lent:      the text, any bytes of any length, only read; and the output.
+ * Comes back: 0 with the bytes of the plain text, in which &amp; &lt; &gt; &quot;
+ *            and &apos; are the characters that they stand for. Else, with all
+ *            other fields 0: 8 if escaping makes the text of no well-formed
+ *            UTF-8 (it has a bare one of the five characters, another reference,
+ *            a numeric one too, or is no UTF-8), then 12 if the plain text
+ *            doesn't fit the output. The plain text is never longer than the
+ *            escaped one. No class is looked at.
+ * Afterwards: refused, nothing is written; else only the bytes counted are. What
+ *            follows in the output is as it was.
+ */
+void feed_unescape(const uint8_t *text, size_t text_length,
+                   uint8_t *output, size_t output_length,
+                   uint64_t answer[5]);
 
 /*
  * feed_block_payload: the payload of a single block, where it lies.

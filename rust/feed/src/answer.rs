@@ -6,7 +6,7 @@ use std::fmt;
 /// What a call answers: five numbers.
 #[derive(Clone, Copy, Debug, PartialEq, Eq, Hash)]
 pub struct Answer {
-    /// 0 if the call finished (accepted, packed, unpacked), else the refusal's number.
+    /// 0 if the call finished (accepted, packed, unpacked, unescaped), else the refusal's number.
     pub number: u64,
     /// The stream that a refusal is about: 1 grammar, 2 templates, 3 value; 0 for none.
     pub kind: u64,
@@ -62,7 +62,8 @@ pub enum Refusal {
         /// The node, value or template that is over the limit.
         record: u64,
     },
-    /// 5: a thing that is named doesn't exist, or a field names no earlier type.
+    /// 5: a thing that is named doesn't exist, or a field names no earlier type, an escaped class no
+    /// earlier plain class, or a text type an escaped class.
     Name {
         /// The grammar or the templates.
         stream: Stream,
@@ -74,7 +75,8 @@ pub enum Refusal {
         /// The class or the range, in the grammar.
         record: u64,
     },
-    /// 7: a typing rule fails, or a path names a variable or field that isn't there.
+    /// 7: a typing rule fails, or a path names a variable or field that isn't there. In the position of an
+    /// escaped class a literal is an escaped text itself, and a place has a text of the plain class.
     Typing {
         /// The node, in the templates; 0 if template 0 is missing or hasn't exactly one parameter.
         node: u64,
@@ -84,6 +86,8 @@ pub enum Refusal {
         /// The first record of the value that fails its own rule.
         record: u64,
     },
+    /// 8 of [`unescape`](crate::unescape): escaping makes the text of no well-formed UTF-8.
+    NotEscaped,
     /// 9: the scratch has fewer than 4,800 numbers.
     ScratchTooShort,
     /// 10: a node is reached with all fuel used.
@@ -96,12 +100,13 @@ pub enum Refusal {
         /// The node, in the templates.
         node: u64,
     },
-    /// 12: a keyword, lexeme or separator passes the end of the output.
+    /// 12: a keyword, lexeme (an escaped one with its entities) or separator passes the end of the output.
     OutputFull {
         /// The node that writes it, in the templates; of a separator the sequence.
         node: u64,
     },
-    /// 12 of [`pack`](crate::pack) and [`unpack`](crate::unpack): what they would write doesn't fit.
+    /// 12 of [`pack`](crate::pack), [`unpack`](crate::unpack) and [`unescape`](crate::unescape): what they
+    /// would write doesn't fit.
     NoRoom,
     /// A number that this wrapper doesn't know.
     Unknown {
@@ -165,6 +170,7 @@ impl Answer {
             5 => Some(Refusal::Name { stream, record }),
             6 => Some(Refusal::Class { record }),
             7 => Some(Refusal::Typing { node: record }),
+            8 if stream == Stream::Lent => Some(Refusal::NotEscaped),
             8 => Some(Refusal::ValueType { record }),
             9 => Some(Refusal::ScratchTooShort),
             10 => Some(Refusal::FuelSpent { node: record }),
@@ -242,7 +248,7 @@ impl Refusal {
             Self::Name { .. } => 5,
             Self::Class { .. } => 6,
             Self::Typing { .. } => 7,
-            Self::ValueType { .. } => 8,
+            Self::ValueType { .. } | Self::NotEscaped => 8,
             Self::ScratchTooShort => 9,
             Self::FuelSpent { .. } => 10,
             Self::TooDeep { .. } => 11,
@@ -267,10 +273,12 @@ impl Refusal {
                 "a template node is over 200 deep, or a template has over 8 parameters, \
                  or over 16 loops stand around a node"
             }
-            Self::Name { stream: Stream::Grammar, .. } => "a class or nonterminal named doesn't exist",
+            Self::Name { stream: Stream::Grammar, .. } => {
+                "a class or nonterminal named doesn't exist, or an escaped class names no earlier plain class"
+            }
             Self::Name { .. } => {
                 "a class, nonterminal, production, template or type named doesn't exist, \
-                 or a field names no earlier type"
+                 or a field names no earlier type, or a text type names an escaped class"
             }
             Self::Class { .. } => {
                 "a class has least above most, or a range has lowest above highest or passes U+10FFFF"
@@ -280,6 +288,10 @@ impl Refusal {
                 "a typing rule fails, or a path names a variable or field that isn't there"
             }
             Self::ValueType { .. } => "the value isn't of its declared type",
+            Self::NotEscaped => {
+                "the text is no escaped one: it has a bare & < > \" or ', a reference other than \
+                 &amp; &lt; &gt; &quot; &apos;, or bytes that are no well-formed UTF-8"
+            }
             Self::ScratchTooShort => "the scratch has fewer than 4,800 16-bit numbers",
             Self::FuelSpent { .. } => "a node is reached with all fuel used",
             Self::TooDeep { .. } => "a node is reached at depth 201",
@@ -304,7 +316,7 @@ impl Refusal {
             | Self::TooDeep { .. }
             | Self::OutputFull { .. } => Some(Stream::Templates),
             Self::ValueType { .. } => Some(Stream::Value),
-            Self::ScratchTooShort | Self::NoRoom | Self::Unknown { .. } => None,
+            Self::ScratchTooShort | Self::NotEscaped | Self::NoRoom | Self::Unknown { .. } => None,
         }
     }
 
@@ -407,6 +419,11 @@ mod tests {
         assert_eq!(
             said([8, 3, 1, 0, 0]),
             "the value, record 1: the value isn't of its declared type (refusal 8)"
+        );
+        assert_eq!(
+            said([8, 0, 0, 0, 0]),
+            "the text is no escaped one: it has a bare & < > \" or ', a reference other than \
+             &amp; &lt; &gt; &quot; &apos;, or bytes that are no well-formed UTF-8 (refusal 8)"
         );
         assert_eq!(
             said([7, 2, 0, 0, 0]),

@@ -1,4 +1,4 @@
-//! The five calls. This is the only file with `unsafe` code, and each call of the library stands alone
+//! The six calls. This is the only file with `unsafe` code, and each call of the library stands alone
 //! in its block.
 //!
 //! What all of them rely on: a slice's pointer is never null and is aligned, also where the slice is
@@ -44,6 +44,13 @@ mod library {
             kind: u8,
             stream: *const u8,
             stream_length: usize,
+            output: *mut u8,
+            output_length: usize,
+            answer: *mut u64,
+        );
+        pub fn feed_unescape(
+            text: *const u8,
+            text_length: usize,
             output: *mut u8,
             output_length: usize,
             answer: *mut u64,
@@ -204,6 +211,45 @@ pub fn unpack(kind: u8, stream: &[u8], output: &mut [u8]) -> Answer {
             kind,
             stream.as_ptr(),
             stream.len(),
+            output.as_mut_ptr(),
+            output.len(),
+            answer.as_mut_ptr(),
+        );
+    }
+    Answer::from_fields(answer)
+}
+
+/// Gives an editor back the plain text that an escaped one was made of: the inverse of what a place in
+/// the position of an escaped class writes.
+///
+/// `&amp;`, `&lt;`, `&gt;`, `&quot;` and `&apos;` become the characters that they stand for. Any bytes of
+/// any length may be lent; the call knows no class. Tried are 8 (escaping makes the text of no
+/// well-formed UTF-8: it has a bare one of the five characters, another reference, such as `&#38;`, or
+/// bytes that are no UTF-8) and 12 (the plain text doesn't fit the output). Refused, nothing is written,
+/// else only the bytes counted. The plain text is never longer than the escaped one.
+///
+/// ```
+/// let mut plain = [b'.'; 16];
+/// let answer = feed::unescape(b"Salt &amp; Rope", &mut plain);
+/// assert_eq!(answer.fields(), [0, 0, 0, 0, 11]);
+/// assert_eq!(plain, *b"Salt & Rope.....");
+///
+/// for text in ["Salt & Rope", "Salt &#38; Rope", "Salt &amp Rope"] {
+///     let refusal = feed::unescape(text.as_bytes(), &mut plain).finished().unwrap_err();
+///     assert_eq!(refusal, feed::Refusal::NotEscaped);
+/// }
+/// let answer = feed::unescape(b"Salt &amp; Rope", &mut plain[..10]);
+/// assert_eq!(answer.refusal(), Some(feed::Refusal::NoRoom));
+/// ```
+#[must_use]
+pub fn unescape(text: &[u8], output: &mut [u8]) -> Answer {
+    let mut answer = [0; 5];
+    // SAFETY: the text is a live slice with its own length, and is only read; the output is lent
+    // exclusively; `answer` is five numbers of this frame.
+    unsafe {
+        library::feed_unescape(
+            text.as_ptr(),
+            text.len(),
             output.as_mut_ptr(),
             output.len(),
             answer.as_mut_ptr(),

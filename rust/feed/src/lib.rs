@@ -11,9 +11,10 @@
 //! | [`check`] | judges a grammar and a template set |
 //! | [`evaluate`] | writes the text of a value into a lent output |
 //! | [`pack`], [`unpack`] | turn records into blocks and back |
+//! | [`unescape`] | gives back the plain text that an escaped one was made of |
 //! | [`block_payload`] | gives the payload of a single block, where it lies, if its check follows the block before |
 //!
-//! The first four give an [`Answer`]; [`Answer::finished`] turns it into a `Result` whose error is the
+//! All but the last give an [`Answer`]; [`Answer::finished`] turns it into a `Result` whose error is the
 //! [`Refusal`] in plain words.
 //!
 //! # Example
@@ -41,7 +42,7 @@ mod answer;
 mod calls;
 
 pub use answer::{Answer, Finished, Refusal, Stream};
-pub use calls::{block_payload, check, evaluate, pack, unpack};
+pub use calls::{block_payload, check, evaluate, pack, unescape, unpack};
 
 /// The bytes of a block.
 pub const BLOCK: usize = 512;

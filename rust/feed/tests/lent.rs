@@ -170,6 +170,80 @@ fn a_separator_comes_before_its_item_whole_or_not_at_all() {
     assert_eq!(answer.refusal(), Some(Refusal::OutputFull { node: 5 }));
 }
 
+/// The example with escaped titles: class 1 is the escaped form of class 0, which takes any ASCII.
+fn escaped(title: [u8; 8], length: u8) -> Set {
+    let grammar = packed(
+        1,
+        &[
+            [1, 0, 1, 0, 4, 0, 1, 0],
+            [2, 0x20, 0, 0, 0x7e, 0, 0, 0],
+            [5, 1, 0, 0, 0, 0, 0, 0],
+            [3, 0, 0, 0, 0, 0, 1, 0],
+            [4, 3, 1, 0, 0, 0, 0, 0],
+            [3, 1, 1, 0, 0, 0, 2, 0],
+            [4, 1, 1, 0, 0, 0, 0, 0],
+            [4, 0, 1, 0, 0, 0, 0, 0],
+            *b";\0\0\0\0\0\0\0",
+        ],
+    );
+    let list = [
+        [3, 0, 0, 0, 3, 0, 1, 0],
+        [1, 0, length, 0, 2, 0, 0, 0],
+        title,
+    ];
+    Set {
+        grammar,
+        ..with_value(&list)
+    }
+}
+
+#[test]
+fn a_place_writes_the_entities_whole_or_not_at_all() {
+    let set = escaped(*b"a&'\"\0\0\0\0", 4);
+    case(&set, 9, 19, [0, 0, 0, 5, 19], "a&amp;&apos;&quot;;");
+    case(&set, 9, 18, [12, 2, 8, 5, 18], "a&amp;&apos;&quot;");
+    for room in [0, 1, 4, 17] {
+        case(&set, 9, room, [12, 2, 9, 5, 0], "");
+    }
+    // Four plain characters are the most.
+    let set = escaped(*b"a&'\"&\0\0\0", 5);
+    case(&set, 9, 99, [8, 3, 1, 0, 0], "");
+}
+
+#[test]
+fn unescaping_writes_the_plain_text_or_nothing() {
+    let text = b"&lt;b&gt;Salt &amp; Rope&lt;/b&gt;";
+    let plain = b"<b>Salt & Rope</b>";
+    for room in 0..24 {
+        let mut output = [GUARD; 24];
+        let answer = feed::unescape(text, &mut output[..room]);
+        let written = if room < plain.len() { 0 } else { plain.len() };
+        let number = if room < plain.len() { 12 } else { 0 };
+        assert_eq!(answer.fields(), [number, 0, 0, 0, written as u64]);
+        assert_eq!(output[..written], plain[..written]);
+        assert!(output[written..].iter().all(|&byte| byte == GUARD));
+    }
+    let wrong: [&[u8]; 8] = [
+        b"&",
+        b"a<",
+        b"&#38;",
+        b"&amp",
+        b"&lt",
+        b"&AMP;",
+        b"&amp;\x80",
+        b"\xC0\xA6",
+    ];
+    for text in wrong {
+        for room in [0, 24] {
+            let mut output = vec![GUARD; room];
+            let answer = feed::unescape(text, &mut output);
+            assert_eq!(answer.fields(), [8, 0, 0, 0, 0]);
+            assert_eq!(answer.refusal(), Some(Refusal::NotEscaped));
+            assert!(output.iter().all(|&byte| byte == GUARD));
+        }
+    }
+}
+
 #[test]
 fn the_scratch_is_judged_after_the_value() {
     let short = |set: &Set| evaluate(set, 1_000_000, 100, SCRATCH - 1).0.fields();
@@ -201,6 +275,11 @@ fn empty_slices_are_lent_safely() {
     assert_eq!(feed::unpack(1, &[], &mut []).fields(), [1, 0, 0, 0, 0]);
     assert_eq!(
         feed::unpack(1, &grammar, &mut []).refusal(),
+        Some(Refusal::NoRoom)
+    );
+    assert_eq!(feed::unescape(&[], &mut []).fields(), [0; 5]);
+    assert_eq!(
+        feed::unescape(b"a", &mut []).refusal(),
         Some(Refusal::NoRoom)
     );
     assert!(feed::block_payload(&[], CHECK_START).is_empty());
