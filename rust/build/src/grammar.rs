@@ -1,4 +1,4 @@
-//! Grammars: classes with ranges, productions with elements.
+//! Grammars: plain and escaped classes, productions with elements.
 
 use crate::blocks::blocks;
 use crate::records::{record, text_units, word, Record};
@@ -15,7 +15,16 @@ pub struct Grammar {
 
 /// A class of lexemes.
 #[derive(Clone, Debug)]
-pub struct Class {
+pub enum Class {
+    /// One with its own characters.
+    Plain(PlainClass),
+    /// The lexemes of the plain class with this number, escaped.
+    Escaped(u16),
+}
+
+/// A class with its own characters.
+#[derive(Clone, Debug)]
+pub struct PlainClass {
     /// The least number of characters.
     pub least: u16,
     /// The greatest number of characters.
@@ -67,14 +76,44 @@ impl Grammar {
         Grammar::default()
     }
 
-    /// Adds a class and answers its number.
+    /// Adds a plain class and answers its number.
     pub fn class(&mut self, least: u16, most: u16, ranges: &[(u32, u32)]) -> u16 {
-        self.classes.push(Class {
+        self.add(Class::Plain(PlainClass {
             least,
             most,
             ranges: ranges.to_vec(),
-        });
+        }))
+    }
+
+    /// Adds an escaped class of a plain one and answers its number.
+    pub fn escaped(&mut self, plain: u16) -> u16 {
+        self.add(Class::Escaped(plain))
+    }
+
+    /// Adds a class of either kind and answers its number.
+    pub fn add(&mut self, class: Class) -> u16 {
+        self.classes.push(class);
         word(self.classes.len() - 1)
+    }
+
+    /// The plain class behind a class, with its number: of an escaped class the one that it names.
+    #[must_use]
+    pub fn plain(&self, class: u16) -> Option<(u16, &PlainClass)> {
+        let number = match self.classes.get(usize::from(class))? {
+            Class::Plain(_) => class,
+            Class::Escaped(plain) => *plain,
+        };
+        match self.classes.get(usize::from(number))? {
+            Class::Plain(plain) => Some((number, plain)),
+            Class::Escaped(_) => None,
+        }
+    }
+
+    /// The numbers of the plain classes.
+    #[must_use]
+    pub fn plain_classes(&self) -> Vec<u16> {
+        let is_plain = |&number: &u16| matches!(self.classes[usize::from(number)], Class::Plain(_));
+        (0..word(self.classes.len())).filter(is_plain).collect()
     }
 
     /// Adds a production of a nonterminal and answers the production's number.
@@ -98,9 +137,7 @@ impl Grammar {
     pub fn records(&self) -> Vec<Record> {
         let mut records = Vec::new();
         for (number, class) in self.classes.iter().enumerate() {
-            let ranges = word(class.ranges.len());
-            records.push(record(1, number as u8, class.least, class.most, ranges));
-            records.extend(class.ranges.iter().map(range));
+            push_class(&mut records, number as u8, class);
         }
         for (number, production) in self.productions.iter().enumerate() {
             let elements = word(production.elements.len());
@@ -119,6 +156,17 @@ impl Grammar {
     #[must_use]
     pub fn stream(&self) -> Vec<u8> {
         blocks(GRAMMAR, &self.records())
+    }
+}
+
+fn push_class(records: &mut Vec<Record>, number: u8, class: &Class) {
+    match class {
+        Class::Plain(class) => {
+            let ranges = word(class.ranges.len());
+            records.push(record(1, number, class.least, class.most, ranges));
+            records.extend(class.ranges.iter().map(range));
+        }
+        Class::Escaped(plain) => records.push(record(5, number, *plain, 0, 0)),
     }
 }
 

@@ -35,6 +35,7 @@
 //! ```
 
 mod blocks;
+mod escapes;
 mod grammar;
 mod records;
 mod templates;
@@ -44,7 +45,8 @@ pub use blocks::{
     blocks, check_of, due_check, due_start, fnv1a, fnv1a_from, mend, mend_each, mend_from, payload,
     set_check, start_of, with_check, BLOCK, CHECK_START, PAYLOAD,
 };
-pub use grammar::{Class, Element, Grammar, Production};
+pub use escapes::escaped;
+pub use grammar::{Class, Element, Grammar, PlainClass, Production};
 pub use records::{record, records_of, text_units, Record};
 pub use templates::{Node, Path, Template, Templates, Type};
 pub use value::Value;

@@ -154,41 +154,53 @@ pub fn check(
     same_fields(one, two, first, second, || "check".into())
 }
 
-/// Packing or unpacking.
+/// A call that makes bytes of bytes.
 #[derive(Clone, Copy, Debug, PartialEq, Eq)]
-pub enum Packing {
-    /// A payload into blocks.
-    Pack,
-    /// Blocks into a payload.
-    Unpack,
+pub enum Conversion {
+    /// A payload into blocks of a kind.
+    Pack(u8),
+    /// Blocks of a kind into a payload.
+    Unpack(u8),
+    /// An escaped text into the plain one.
+    Unescape,
 }
 
-/// Compares packing or unpacking into a buffer of `length` bytes.
+impl Conversion {
+    fn call(self, machine: &dyn Machine, input: &[u8], out: &mut [u8]) -> Fields {
+        match self {
+            Conversion::Pack(kind) => machine.pack(kind, input, out),
+            Conversion::Unpack(kind) => machine.unpack(kind, input, out),
+            Conversion::Unescape => machine.unescape(input, out),
+        }
+    }
+}
+
+/// Compares a conversion into a buffer of `length` bytes.
 ///
 /// # Errors
 /// The first difference.
-pub fn packing(
+pub fn conversion(
     one: &dyn Machine,
     two: &dyn Machine,
-    packing: Packing,
-    kind: u8,
+    conversion: Conversion,
     input: &[u8],
     length: usize,
 ) -> Result<Fields, Difference> {
     let call = |machine: &dyn Machine| {
         let mut out = bytes(length);
-        let fields = match packing {
-            Packing::Pack => machine.pack(kind, input, out.part()),
-            Packing::Unpack => machine.unpack(kind, input, out.part()),
-        };
+        let fields = conversion.call(machine, input, out.part());
         (fields, out)
     };
     let ((first, out), (second, other)) = (call(one), call(two));
-    let what = || format!("{packing:?} kind {kind}, {} into {length}", input.len());
+    let what = || format!("{conversion:?}, {} into {length}", input.len());
     for (machine, fields, out) in [(one, first, &out), (two, second, &other)] {
         if !out.guards_kept() || !out.kept_from(fields[4] as usize) {
             let (name, what) = (machine.name(), what());
             return Err(Difference(format!("{what}: {name} wrote too much")));
+        }
+        if (fields[1], fields[3]) != (0, 0) || (fields[0] != 0 && fields[4] != 0) {
+            let (name, what) = (machine.name(), what());
+            return Err(Difference(format!("{what}: {name} answers {fields:?}")));
         }
     }
     same_fields(one, two, first, second, what)?;

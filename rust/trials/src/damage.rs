@@ -2,6 +2,7 @@
 
 use build::{blocks, due_start, mend, mend_from, records_of, Record, BLOCK};
 
+use crate::faulty::classes;
 use crate::generate::Streams;
 use crate::random::Random;
 use crate::uploads;
@@ -11,7 +12,7 @@ pub fn damage(random: &mut Random, streams: &mut Streams, other: &Streams) {
     let index = random.below(3);
     let kind = index as u8 + 1;
     let stream = streams.part_mut(index);
-    match random.below(26) {
+    match random.below(28) {
         0..=7 => change_field(random, stream, kind),
         8 | 9 => move_records(random, stream, kind),
         10 | 11 => flip(random, stream),
@@ -25,6 +26,7 @@ pub fn damage(random: &mut Random, streams: &mut Streams, other: &Streams) {
         18 => *stream = other.parts()[index].to_vec(),
         19 | 20 => change_repetition(random, &mut streams.grammar),
         21..=24 => damage_chain(random, streams, other),
+        25 | 26 => change_escaped(random, &mut streams.grammar),
         _ => *stream = other.parts()[random.below(3)].to_vec(),
     }
 }
@@ -94,6 +96,26 @@ fn change_repetition(random: &mut Random, stream: &mut Vec<u8>) {
                 unit[byte] = odd_byte(random, unit[byte]);
             }
         }
+    }
+    *stream = blocks(1, &records);
+}
+
+/// Changes an escaped class of the grammar: its number, the class that it names, c, d, or its kind;
+/// the checks are mended.
+fn change_escaped(random: &mut Random, stream: &mut Vec<u8>) {
+    let mut records = records_of(stream);
+    let mut found = classes(&records);
+    found.retain(|&head| records[head][0] == 5);
+    if found.is_empty() {
+        return;
+    }
+    let record = &mut records[*random.pick(&found)];
+    match random.below(5) {
+        0 => record[1] = odd_byte(random, record[1]),
+        1 => record[2] = odd_byte(random, record[2]),
+        2 => record[random.between(4, 5)] = odd_byte(random, 0),
+        3 => record[random.between(6, 7)] = odd_byte(random, 0),
+        _ => record[0] = *random.pick(&[1, 2, 3, 4, 6]),
     }
     *stream = blocks(1, &records);
 }

@@ -1,13 +1,13 @@
-//! A walk over the records of an accepted set that goes wrong with separators in one way.
+//! A walk over the records of an accepted set that goes wrong with separators or entities in one way.
 //!
 //! Without a fault it answers as the reference does (a test says so), though it shares no code with
 //! it: it reads the records where they lie.
 
-use build::{records_of, Record};
+use build::{records_of, Record, PAYLOAD};
 
 use crate::machine::Fields;
 
-/// What is wrong with a walk's separators.
+/// What is wrong with a walk's separators, or with the entities of its escaped lexemes.
 #[derive(Clone, Copy, Debug, PartialEq, Eq)]
 pub enum Fault {
     /// Nothing.
@@ -38,11 +38,37 @@ pub enum Fault {
     CountsTheItem,
     /// Writes as much as fits.
     InPart,
+    /// Escapes nothing.
+    NeverEscapes,
+    /// Escapes the texts of plain classes, too.
+    EscapesPlainTexts,
+    /// Escapes literals, too, which are escaped already.
+    EscapesLiterals,
+    /// Leaves entities that stand in the plain text.
+    LeavesEntities,
+    /// Leaves apostrophes.
+    LeavesApostrophes,
+    /// Leaves all but the first of the five characters in a text.
+    EscapesTheFirst,
+    /// Leaves the first character of each block's payload.
+    LeavesBlockStarts,
+    /// Leaves the last byte of each block's payload.
+    LeavesBlockEnds,
+    /// Writes entities without their semicolon.
+    NoSemicolons,
+    /// Writes numeric references.
+    Numeric,
+    /// Writes as much of an escaped text as fits.
+    EscapedInPart,
+    /// Asks for six bytes of room for each byte of the plain text.
+    RoomForSixfold,
+    /// Counts the characters of the escaped text against most.
+    CountsEntities,
 }
 
 impl Fault {
     /// All that go wrong.
-    pub const ALL: [Fault; 13] = [
+    pub const ALL: [Fault; 26] = [
         Fault::Forgets,
         Fault::BeforeTheFirst,
         Fault::BehindEach,
@@ -56,6 +82,19 @@ impl Fault {
         Fault::PlaceOfTheItem,
         Fault::CountsTheItem,
         Fault::InPart,
+        Fault::NeverEscapes,
+        Fault::EscapesPlainTexts,
+        Fault::EscapesLiterals,
+        Fault::LeavesEntities,
+        Fault::LeavesApostrophes,
+        Fault::EscapesTheFirst,
+        Fault::LeavesBlockStarts,
+        Fault::LeavesBlockEnds,
+        Fault::NoSemicolons,
+        Fault::Numeric,
+        Fault::EscapedInPart,
+        Fault::RoomForSixfold,
+        Fault::CountsEntities,
     ];
 }
 
@@ -64,6 +103,7 @@ impl Fault {
 pub(crate) fn walk(streams: [&[u8]; 3], fuel: u32, out: &mut [u8], fault: Fault) -> Fields {
     let [grammar, templates, value] = streams.map(records_of);
     let mut walk = Walk {
+        classes: classes(&grammar),
         productions: productions(&grammar),
         bodies: bodies(&templates),
         grammar,
@@ -88,11 +128,11 @@ fn word(record: &Record, at: usize) -> usize {
     u16::from_le_bytes([record[at], record[at + 1]]).into()
 }
 
-fn b(record: &Record) -> usize {
+pub(crate) fn b(record: &Record) -> usize {
     word(record, 2)
 }
 
-fn c(record: &Record) -> usize {
+pub(crate) fn c(record: &Record) -> usize {
     word(record, 4)
 }
 
@@ -109,17 +149,28 @@ pub(crate) fn text_length(element: &Record) -> usize {
     }
 }
 
+/// The heads of the classes of both kinds.
+pub(crate) fn classes(grammar: &[Record]) -> Vec<usize> {
+    heads(grammar, [1, 5])
+}
+
 /// The heads of the productions.
 pub(crate) fn productions(grammar: &[Record]) -> Vec<usize> {
+    heads(grammar, [3, 3])
+}
+
+/// The heads of two kinds in a grammar.
+fn heads(grammar: &[Record], kinds: [u8; 2]) -> Vec<usize> {
     let (mut heads, mut at) = (Vec::new(), 0);
-    while let Some(head) = grammar.get(at).filter(|head| [1, 3, 4].contains(&head[0])) {
-        match head[0] {
-            1 => at += 1 + d(head),
-            3 => {
-                heads.push(at);
-                at += 1;
-            }
-            _ => at += 1 + text_length(head).div_ceil(8),
+    while let Some(head) = grammar.get(at) {
+        if kinds.contains(&head[0]) {
+            heads.push(at);
+        }
+        at += match head[0] {
+            1 => 1 + d(head),
+            3 | 5 => 1,
+            4 => 1 + text_length(head).div_ceil(8),
+            _ => break,
         }
     }
     heads
@@ -141,10 +192,89 @@ fn bodies(templates: &[Record]) -> Vec<usize> {
     bodies
 }
 
+/// The nodes of all bodies, in record order.
+pub(crate) fn nodes(templates: &[Record]) -> Vec<usize> {
+    let mut nodes = Vec::new();
+    for body in bodies(templates) {
+        let (mut at, end) = (body, body + c(&templates[body]));
+        while at < end {
+            nodes.push(at);
+            let head = templates[at];
+            at += match head[1] {
+                1 => 1 + b(&head).div_ceil(8),
+                2 | 4 | 5 => 2,
+                3 => 1 + d(&head),
+                _ => 1,
+            };
+        }
+    }
+    nodes
+}
+
+/// The elements of a production, by their records.
+fn elements(grammar: &[Record], production: usize) -> Vec<usize> {
+    in_a_row(production + 1, d(&grammar[production]), |at| {
+        1 + text_length(&grammar[at]).div_ceil(8)
+    })
+}
+
+/// The class whose position a node stands in, by its record.
+pub(crate) fn position(grammar: &[Record], templates: &[Record], node: usize) -> Option<usize> {
+    let productions = productions(grammar);
+    for build in nodes(templates) {
+        let head = templates[build];
+        if head[1] != 0 {
+            continue;
+        }
+        let children = in_a_row(build + 1, d(&head), |at| c(&templates[at]));
+        if let Some(number) = children.iter().position(|&child| child == node) {
+            let mut asked = elements(grammar, productions[b(&head)]);
+            asked.retain(|&at| grammar[at][1] != 0);
+            let element = grammar[*asked.get(number)?];
+            return (element[1] == 1).then(|| classes(grammar)[b(&element)]);
+        }
+    }
+    None
+}
+
+/// The text of a literal.
+pub(crate) fn literal(templates: &[Record], node: usize) -> Vec<u8> {
+    text(templates, node, b(&templates[node]))
+}
+
 /// The text behind a head.
 fn text(records: &[Record], head: usize, length: usize) -> Vec<u8> {
     let units = &records[head + 1..head + 1 + length.div_ceil(8)];
     units.as_flattened()[..length].to_vec()
+}
+
+/// A text with its entities, as a faulty machine writes them. The text begins at a byte of its stream's
+/// payloads.
+fn escaped_by(fault: Fault, plain: &[u8], start: usize) -> Vec<u8> {
+    let mut written = Vec::new();
+    let mut first = true;
+    for (at, byte) in plain.iter().enumerate() {
+        let entity = build::escaped(&[*byte]);
+        let escapes = entity.len() > 1;
+        let is_entity = |entity: &&[u8]| plain[at..].starts_with(entity);
+        let entities: [&[u8]; 5] = [b"&amp;", b"&lt;", b"&gt;", b"&quot;", b"&apos;"];
+        let left = match fault {
+            Fault::LeavesEntities => entities.iter().any(is_entity),
+            Fault::LeavesApostrophes => *byte == b'\'',
+            Fault::EscapesTheFirst => !first,
+            Fault::LeavesBlockStarts => (start + at).is_multiple_of(PAYLOAD),
+            Fault::LeavesBlockEnds => (start + at + 1).is_multiple_of(PAYLOAD),
+            _ => false,
+        };
+        match fault {
+            _ if left || !escapes => written.push(*byte),
+            Fault::NoSemicolons => written.extend(&entity[..entity.len() - 1]),
+            Fault::Numeric => written.extend(format!("&#{byte};").bytes()),
+            _ => written.extend(&entity),
+        }
+        first &= !escapes;
+    }
+    written
 }
 
 /// So many things in a row, from a record on.
@@ -162,6 +292,7 @@ struct Walk<'a> {
     grammar: Vec<Record>,
     templates: Vec<Record>,
     value: Vec<Record>,
+    classes: Vec<usize>,
     productions: Vec<usize>,
     bodies: Vec<usize>,
     fuel: u32,
@@ -199,11 +330,6 @@ impl Walk<'_> {
         let head = self.templates[node];
         match head[1] {
             0 => self.build(node, depth, variables),
-            1 => self.write(&text(&self.templates, node, b(&head)), node),
-            2 => {
-                let found = self.find(node + 1, variables);
-                self.write(&text(&self.value, found, b(&self.value[found])), node)
-            }
             3 => {
                 let paths = node + 1..node + 1 + d(&head);
                 let found: Vec<usize> = paths.map(|path| self.find(path, variables)).collect();
@@ -218,11 +344,8 @@ impl Walk<'_> {
 
     fn build(&mut self, node: usize, depth: usize, variables: &[usize]) -> Result<(), Stop> {
         let production = self.productions[b(&self.templates[node])];
-        let elements = in_a_row(production + 1, d(&self.grammar[production]), |at| {
-            1 + text_length(&self.grammar[at]).div_ceil(8)
-        });
         let mut child = node + 1;
-        for at in elements {
+        for at in elements(&self.grammar, production) {
             let element = self.grammar[at];
             let behind = text(&self.grammar, at, text_length(&element));
             match element[1] {
@@ -230,7 +353,11 @@ impl Walk<'_> {
                     self.write(&behind, node)?;
                     continue;
                 }
-                1 | 2 => self.visit(child, depth + 1, variables)?,
+                1 => {
+                    self.reach(child, depth + 1)?;
+                    self.lexeme(child, self.classes[b(&element)], variables)?;
+                }
+                2 => self.visit(child, depth + 1, variables)?,
                 _ => {
                     let around = self.items;
                     self.sequence(child, &behind, depth + 1, variables)?;
@@ -240,6 +367,56 @@ impl Walk<'_> {
             child += c(&self.templates[child]);
         }
         Ok(())
+    }
+
+    /// A literal, or the text that a place finds, in the position of a class.
+    fn lexeme(&mut self, node: usize, class: usize, variables: &[usize]) -> Result<(), Stop> {
+        let head = self.templates[node];
+        let escaped = self.grammar[class][0] == 5;
+        if head[1] == 1 {
+            let literal = literal(&self.templates, node);
+            let again = escaped && self.fault == Fault::EscapesLiterals;
+            return match again {
+                true => self.write(&build::escaped(&literal), node),
+                false => self.write(&literal, node),
+            };
+        }
+        let found = self.find(node + 1, variables);
+        let plain = text(&self.value, found, b(&self.value[found]));
+        let escapes = match self.fault {
+            Fault::NeverEscapes => false,
+            Fault::EscapesPlainTexts => true,
+            _ => escaped,
+        };
+        match escapes {
+            true => self.write_escaped(node, class, found, &plain),
+            false => self.write(&plain, node),
+        }
+    }
+
+    /// Writes a text of the value with entities; `class` is the escaped class.
+    fn write_escaped(
+        &mut self,
+        node: usize,
+        class: usize,
+        found: usize,
+        plain: &[u8],
+    ) -> Result<(), Stop> {
+        let written = escaped_by(self.fault, plain, (found + 1) * 8);
+        let room = self.out.len() - self.bytes;
+        match self.fault {
+            Fault::RoomForSixfold if 6 * plain.len() > room => return Err((12, node)),
+            Fault::EscapedInPart if written.len() > room => self.write(&written[..room], node)?,
+            Fault::CountsEntities => {
+                let named = self.classes[b(&self.grammar[class])];
+                let characters = String::from_utf8_lossy(&written).chars().count();
+                if characters > c(&self.grammar[named]) {
+                    return Err((8, node));
+                }
+            }
+            _ => {}
+        }
+        self.write(&written, node)
     }
 
     fn sequence(

@@ -7,14 +7,17 @@
 pub mod chains;
 pub mod compare;
 pub mod damage;
+mod escapes;
 pub mod faulty;
 pub mod generate;
+pub mod judging;
 pub mod machine;
 pub mod mutants;
 #[cfg(feature = "proved")]
 pub mod proved;
 pub mod random;
 pub mod run;
+pub mod unescaping;
 mod uploads;
 
 pub use machine::{Fields, Machine, Reference};

@@ -1,4 +1,4 @@
-//! What is compared: an implementation of the five calls.
+//! What is compared: an implementation of the six calls.
 
 /// Number, stream kind, place, steps and bytes of an answer.
 pub type Fields = [u64; 5];
@@ -25,6 +25,9 @@ pub trait Machine {
 
     /// Unpacking.
     fn unpack(&self, kind: u8, stream: &[u8], out: &mut [u8]) -> Fields;
+
+    /// The plain text that an escaped one was made of.
+    fn unescape(&self, text: &[u8], out: &mut [u8]) -> Fields;
 
     /// The payload of a single block whose check starts from a number, as a part of it, or an empty
     /// part.
@@ -72,6 +75,10 @@ impl Machine for Reference {
 
     fn unpack(&self, kind: u8, stream: &[u8], out: &mut [u8]) -> Fields {
         fields(reference::unpack(kind, stream, out))
+    }
+
+    fn unescape(&self, text: &[u8], out: &mut [u8]) -> Fields {
+        fields(reference::unescape(text, out))
     }
 
     fn block_payload<'a>(&self, block: &'a [u8], start: u32) -> &'a [u8] {

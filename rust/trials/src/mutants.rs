@@ -4,7 +4,9 @@ use build::{blocks, mend, records_of, Record, BLOCK, CHECK_START};
 
 use crate::chains::Chain;
 use crate::faulty::{productions, text_length, walk, Fault};
+use crate::judging::Judging;
 use crate::machine::{Fields, Machine, Reference};
+use crate::unescaping::Unescaping;
 
 /// A fault put on top of the reference.
 #[derive(Clone, Copy, Debug, PartialEq, Eq)]
@@ -55,8 +57,12 @@ pub enum Mutant {
     TakesFormFive,
     /// Doesn't look whether the nonterminal of a repetition with a separator exists.
     ForgivesSeparatedNames,
-    /// Walks with a fault in its separators.
-    Separates(Fault),
+    /// Walks with a fault in its separators or entities.
+    Walks(Fault),
+    /// Judges escaped classes and what stands for them with a fault.
+    JudgesEscaped(Judging),
+    /// Unescapes with a fault.
+    Unescapes(Unescaping),
     /// Judges the blocks of a set by another chain of checks.
     Judges(Chain),
     /// Unpacks by another chain of checks.
@@ -75,16 +81,18 @@ impl Mutant {
     /// All of them.
     #[must_use]
     pub fn all() -> Vec<Mutant> {
-        let separates = Fault::ALL.map(Mutant::Separates);
+        let walks = Fault::ALL.map(Mutant::Walks);
         let packs = Chain::OTHER.map(Mutant::Packs);
         let chains = Chain::OTHER.iter().chain(&Chain::LENIENT);
         let judges = chains.flat_map(|&chain| [Mutant::Judges(chain), Mutant::Unpacks(chain)]);
-        let mut all = [&Self::OTHERS[..], &separates, &packs].concat();
+        let escaped = Judging::ALL.map(Mutant::JudgesEscaped);
+        let unescapes = Unescaping::ALL.map(Mutant::Unescapes);
+        let mut all = [&Self::OTHERS[..], &walks, &packs, &escaped, &unescapes].concat();
         all.extend(judges);
         all
     }
 
-    /// All but those of a faulty walk or chain.
+    /// All but those with a fault of a kind that has its own module.
     const OTHERS: [Mutant; 26] = [
         Mutant::DepthBeforeFuel,
         Mutant::OneStepMore,
@@ -230,6 +238,9 @@ impl Machine for Mutant {
     }
 
     fn check(&self, grammar: &[u8], templates: &[u8]) -> Fields {
+        if let Mutant::JudgesEscaped(fault) = self {
+            return fault.check(grammar, templates);
+        }
         Reference.check(&self.taken(grammar), &self.taken(templates))
     }
 
@@ -257,7 +268,7 @@ impl Machine for Mutant {
                 }
                 fields
             }
-            Mutant::Separates(fault) => {
+            Mutant::Walks(fault) => {
                 let fields = Reference.evaluate(parts, fuel, &mut out.to_vec(), scratch);
                 match fields[0] {
                     1..=9 => fields,
@@ -289,6 +300,13 @@ impl Machine for Mutant {
             chain.rewritten(&mut taken, |_, _| {});
         }
         Reference.unpack(kind, &taken, out)
+    }
+
+    fn unescape(&self, text: &[u8], out: &mut [u8]) -> Fields {
+        match self {
+            Mutant::Unescapes(fault) => fault.call(text, out),
+            _ => Reference.unescape(text, out),
+        }
     }
 
     fn block_payload<'a>(&self, block: &'a [u8], start: u32) -> &'a [u8] {

@@ -36,6 +36,10 @@ impl Machine for Proved {
         feed::unpack(kind, stream, out).fields()
     }
 
+    fn unescape(&self, text: &[u8], out: &mut [u8]) -> Fields {
+        feed::unescape(text, out).fields()
+    }
+
     fn block_payload<'a>(&self, block: &'a [u8], start: u32) -> &'a [u8] {
         feed::block_payload(block, start)
     }

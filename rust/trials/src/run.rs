@@ -4,8 +4,9 @@ use std::fmt;
 
 use build::{due_start, mend_from, BLOCK, PAYLOAD};
 
-use crate::compare::{self, Call, Difference, Packing};
+use crate::compare::{self, Call, Conversion, Difference};
 use crate::damage::damage;
+use crate::escapes;
 use crate::generate::{self, Streams};
 use crate::machine::{Fields, Machine};
 use crate::random::Random;
@@ -22,6 +23,8 @@ pub struct Tally {
     pub check: [usize; 13],
     /// Packing and unpacking calls by number.
     pub packing: [usize; 13],
+    /// Unescape calls by number.
+    pub unescape: [usize; 13],
     /// Single blocks that were refused, and those whose payload was given back.
     pub blocks: [usize; 2],
     /// First evaluate calls and calls of unpacking that answered 2 at block 0, at 1 to 3, and at a
@@ -54,6 +57,7 @@ impl Tally {
             (&mut self.evaluate, &other.evaluate),
             (&mut self.check, &other.check),
             (&mut self.packing, &other.packing),
+            (&mut self.unescape, &other.unescape),
         ];
         for (mine, theirs) in rows {
             for (count, more) in mine.iter_mut().zip(theirs) {
@@ -73,11 +77,12 @@ impl fmt::Display for Tally {
         };
         writeln!(
             f,
-            "number   cases            evaluate         check            packing"
+            "number   cases            evaluate         check            packing          unescape"
         )?;
         for number in 0..13 {
             write!(f, "{number:>6}")?;
-            for row in [&self.cases, &self.evaluate, &self.check, &self.packing] {
+            let calls = [&self.evaluate, &self.check, &self.packing, &self.unescape];
+            for row in [&self.cases].into_iter().chain(calls) {
                 write!(f, "{:>8} {:>5.1} % ", row[number], share(row[number], row))?;
             }
             writeln!(f)?;
@@ -159,7 +164,7 @@ fn draw(random: &mut Random) -> Streams {
 const MUCH: u32 = 100_000;
 
 /// Compares two machines on these streams: a check call, some evaluate calls around the limits that
-/// the first one meets, and a call of packing or unpacking and of a single block.
+/// the first one meets, and a call each of packing or unpacking, unescape and a single block.
 ///
 /// # Errors
 /// The first difference.
@@ -187,6 +192,8 @@ pub fn try_streams(
         tally.evaluate[fields[0] as usize] += 1;
     }
     try_packing(one, two, random, streams, &mut tally)?;
+    let unescaped = try_unescape(one, two, random)?;
+    tally.unescape[unescaped[0] as usize] += 1;
     let stream = *random.pick(&parts);
     let given = try_single_block(one, two, random, stream)?;
     tally.blocks[usize::from(given > 0)] += 1;
@@ -214,9 +221,10 @@ fn more_calls(random: &mut Random, [number, _, _, steps, bytes]: Fields) -> Vec<
             5 if number != 10 => u32::MAX,
             _ => MUCH,
         },
-        out: match random.below(7) {
+        out: match random.below(8) {
             0 => 0,
             1 => bytes.saturating_sub(1),
+            6 => bytes.saturating_sub(random.between(2, 7)),
             2 => bytes,
             3 => bytes + 1,
             4 => random.below(bytes + 1),
@@ -245,30 +253,54 @@ fn try_packing(
         _ => own,
     };
     let (how, input) = match random.below(4) {
-        0 => (Packing::Unpack, stream.to_vec()),
-        1 => (Packing::Unpack, uploads::stream(random, own, stream)),
+        0 => (Conversion::Unpack(kind), stream.to_vec()),
+        1 => {
+            let stream = uploads::stream(random, own, stream);
+            (Conversion::Unpack(kind), stream)
+        }
         _ => {
             let length = payload_length(random);
             let payload = (0..length).map(|_| random.byte());
-            (Packing::Pack, payload.collect())
+            (Conversion::Pack(kind), payload.collect())
         }
     };
-    let needed = match how {
-        Packing::Unpack => input.len() / BLOCK * PAYLOAD,
-        Packing::Pack => input.len().div_ceil(PAYLOAD) * BLOCK,
+    let unpacks = how == Conversion::Unpack(kind);
+    let needed = match unpacks {
+        true => input.len() / BLOCK * PAYLOAD,
+        false => input.len().div_ceil(PAYLOAD) * BLOCK,
     };
-    let room = match random.below(5) {
+    let fields = compare::conversion(one, two, how, &input, room(random, needed))?;
+    tally.packing[fields[0] as usize] += 1;
+    if unpacks {
+        tally.count_place(fields);
+    }
+    Ok(())
+}
+
+/// Room for so many bytes, at times too little or too much.
+fn room(random: &mut Random, needed: usize) -> usize {
+    match random.below(5) {
         0 => needed.saturating_sub(1),
         1 => random.below(needed + 1),
         2 => needed + random.below(600),
         _ => needed,
-    };
-    let fields = compare::packing(one, two, how, kind, &input, room)?;
-    tally.packing[fields[0] as usize] += 1;
-    if how == Packing::Unpack {
-        tally.count_place(fields);
     }
-    Ok(())
+}
+
+/// An unescape call, around the room that the plain text takes.
+fn try_unescape(
+    one: &dyn Machine,
+    two: &dyn Machine,
+    random: &mut Random,
+) -> Result<Fields, Difference> {
+    let text = escapes::text(random);
+    let [.., needed] = one.unescape(&text, &mut vec![0; text.len()]);
+    let needed = match random.once_in(4) {
+        true => text.len(),
+        false => needed as usize,
+    };
+    let room = room(random, needed);
+    compare::conversion(one, two, Conversion::Unescape, &text, room)
 }
 
 /// A single block of a stream from the start that it has there, or from some other, which its check

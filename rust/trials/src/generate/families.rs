@@ -1,19 +1,19 @@
 //! Families of sets that stand at a limit: just under it, at it and past it.
 
 use build::{
-    blocks, record, Class, Element, Grammar, Node, Path, Record, Templates, Type, Value, TEMPLATES,
-    VALUE,
+    blocks, record, Element, Grammar, Node, Path, PlainClass, Record, Templates, Type, Value,
+    TEMPLATES, VALUE,
 };
 
 use super::grammars::draw_class;
 use super::lexemes::{lexeme, near_lexeme};
-use super::{separators, Streams};
+use super::{escapes, separators, Streams};
 use crate::random::Random;
 use crate::uploads;
 
 /// A set of one of the families.
 pub(super) fn set(random: &mut Random) -> Streams {
-    match random.below(23) {
+    match random.below(29) {
         0 => deep_body(random),
         1 => deep_value(random),
         2 => thousands_deep(random),
@@ -31,6 +31,7 @@ pub(super) fn set(random: &mut Random) -> Streams {
         15..=17 => words(random),
         18..=20 => separators::set(random),
         21 => chances(random),
+        22..=27 => escapes::set(random),
         _ => most_blocks(random),
     }
 }
@@ -158,8 +159,8 @@ fn nested_loops(random: &mut Random) -> Streams {
 fn words(random: &mut Random) -> Streams {
     let mut grammar = Grammar::new();
     draw_class(random, &mut grammar);
-    let class = grammar.classes[0].clone();
-    grammar.classes.push(class.clone());
+    grammar.add(grammar.classes[0].clone());
+    let class = grammar.plain(0).expect("a class").1.clone();
     grammar.production(0, [Element::Repetition(1)]);
     grammar.production(1, [Element::Class(0), Element::keyword(" ")]);
     let mut templates = Templates::new();
@@ -178,7 +179,7 @@ fn words(random: &mut Random) -> Streams {
 }
 
 /// Some lexemes of a class, and once in so many times one behind them that just misses it.
-fn row_of_words(random: &mut Random, class: &Class, times: usize) -> Vec<Vec<u8>> {
+fn row_of_words(random: &mut Random, class: &PlainClass, times: usize) -> Vec<Vec<u8>> {
     let count = random.below(8);
     let mut words: Vec<Vec<u8>> = (0..count).map(|_| lexeme(random, class)).collect();
     if random.once_in(times) {

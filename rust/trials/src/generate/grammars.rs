@@ -32,6 +32,10 @@ pub(super) fn grammar(random: &mut Random) -> Drawn {
     let mut grammar = Grammar::new();
     for _ in 0..random.between(1, 6) {
         draw_class(random, &mut grammar);
+        if random.once_in(3) {
+            let plain = *random.pick(&grammar.plain_classes());
+            grammar.escaped(plain);
+        }
     }
     let nonterminals = draw_nonterminals(random);
     for &nonterminal in &nonterminals {
@@ -76,7 +80,7 @@ pub(super) fn any_bytes(random: &mut Random, length: usize) -> Vec<u8> {
     (0..length).map(|_| random.byte()).collect()
 }
 
-/// A class that has a lexeme.
+/// A plain class that has a lexeme.
 pub(super) fn draw_class(random: &mut Random, grammar: &mut Grammar) {
     let mut ranges = Vec::new();
     for _ in 0..random.between(1, 3) {

@@ -1,7 +1,8 @@
 //! Texts of a class, and texts that just miss it.
 
-use build::Class;
+use build::{escaped, PlainClass};
 
+use crate::escapes;
 use crate::random::Random;
 
 /// Ranges of characters, among them those at the borders of UTF-8's lengths.
@@ -18,8 +19,13 @@ pub(super) const ALPHABETS: &[&[(u32, u32)]] = &[
     &[(0xD7FF, 0xE000)],
     &[(0x61, 0x63), (0x62, 0x64), (0x65, 0x65), (0x70, 0x70)],
     &[(0, 0x1F)],
+    FIVE,
+    FIVE,
     &[(0, 0x10FFFF)],
 ];
+
+/// The characters that are escaped.
+pub(super) const FIVE: &[(u32, u32)] = &[(0x22, 0x22), (0x26, 0x27), (0x3C, 0x3C), (0x3E, 0x3E)];
 
 /// Bytes that are no well-formed UTF-8.
 const ILL_FORMED: &[&[u8]] = &[
@@ -38,7 +44,7 @@ const ILL_FORMED: &[&[u8]] = &[
 ];
 
 /// A character of a class, if it has one that is no surrogate.
-fn character(random: &mut Random, class: &Class) -> Option<char> {
+fn character(random: &mut Random, class: &PlainClass) -> Option<char> {
     if class.ranges.is_empty() {
         return None;
     }
@@ -58,7 +64,7 @@ fn character(random: &mut Random, class: &Class) -> Option<char> {
 }
 
 /// So many characters of a class.
-fn characters(random: &mut Random, class: &Class, count: usize) -> Vec<u8> {
+fn characters(random: &mut Random, class: &PlainClass, count: usize) -> Vec<u8> {
     let text: String = (0..count)
         .filter_map(|_| character(random, class))
         .collect();
@@ -66,7 +72,7 @@ fn characters(random: &mut Random, class: &Class, count: usize) -> Vec<u8> {
 }
 
 /// A lexeme of a class that has one.
-pub(super) fn lexeme(random: &mut Random, class: &Class) -> Vec<u8> {
+pub(super) fn lexeme(random: &mut Random, class: &PlainClass) -> Vec<u8> {
     let (least, most) = (usize::from(class.least), usize::from(class.most));
     let extent = *random.pick(&[0, 1, 4, 12, 40, 400]);
     let count = random.between(least, most.min(least + extent).max(least));
@@ -74,7 +80,7 @@ pub(super) fn lexeme(random: &mut Random, class: &Class) -> Vec<u8> {
 }
 
 /// A character just outside a range of the class, or far from most.
-fn odd_character(random: &mut Random, class: &Class) -> char {
+fn odd_character(random: &mut Random, class: &PlainClass) -> char {
     let far = *random.pick(&['A', '\u{0}', 'ё', '\u{37E}', '\u{1F600}', '\u{10FFFF}']);
     if class.ranges.is_empty() || random.once_in(4) {
         return far;
@@ -85,7 +91,7 @@ fn odd_character(random: &mut Random, class: &Class) -> char {
 }
 
 /// A text that is mostly no lexeme of the class: by its count, a character or its bytes.
-pub(super) fn near_lexeme(random: &mut Random, class: &Class) -> Vec<u8> {
+pub(super) fn near_lexeme(random: &mut Random, class: &PlainClass) -> Vec<u8> {
     let (least, most) = (usize::from(class.least), usize::from(class.most));
     match random.below(4) {
         0 => characters(random, class, (most + 1).min(600)),
@@ -105,4 +111,22 @@ pub(super) fn near_lexeme(random: &mut Random, class: &Class) -> Vec<u8> {
             text
         }
     }
+}
+
+/// An escaped lexeme of a class that has one.
+pub(super) fn escaped_lexeme(random: &mut Random, class: &PlainClass) -> Vec<u8> {
+    escaped(&lexeme(random, class))
+}
+
+/// A text that is mostly no escaped lexeme of the class: one that isn't escaped, one that just misses
+/// the class, or one with another reference.
+pub(super) fn near_escaped(random: &mut Random, class: &PlainClass) -> Vec<u8> {
+    let mut text = escaped_lexeme(random, class);
+    match random.below(4) {
+        0 => return lexeme(random, class),
+        1 => return escaped(&near_lexeme(random, class)),
+        2 => text.extend_from_slice(b"&#38;"),
+        _ => escapes::damage(random, &mut text),
+    }
+    text
 }

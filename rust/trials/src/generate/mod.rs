@@ -1,5 +1,6 @@
 //! Sets to try: random ones of every form, and families that stand at the limits.
 
+mod escapes;
 mod families;
 mod grammars;
 mod lexemes;

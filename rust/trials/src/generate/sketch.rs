@@ -1,8 +1,8 @@
 //! Random template sets over a random grammar, and a value for them.
 
-use build::{Element, Grammar, Node, Path, Template, Templates, Type};
+use build::{Class, Element, Grammar, Node, Path, Template, Templates, Type};
 
-use super::lexemes::{lexeme, near_lexeme};
+use super::lexemes::{escaped_lexeme, lexeme, near_escaped, near_lexeme};
 use super::values::Values;
 use super::{grammars, Streams};
 use crate::random::Random;
@@ -46,9 +46,9 @@ struct Signature {
 
 fn draw_types(random: &mut Random, grammar: &Grammar) -> Vec<Type> {
     let mut types = vec![Type::YesNo];
-    for class in 0..grammar.classes.len() {
+    for class in grammar.plain_classes() {
         if !random.once_in(4) {
-            types.push(Type::Text(class as u16));
+            types.push(Type::Text(class));
         }
     }
     let total = types.len() + random.between(1, 7);
@@ -171,17 +171,21 @@ impl Sketch<'_> {
     }
 
     fn lexeme(&mut self, class: u16, scope: &Scope) -> Node {
-        let paths = self.paths(scope, |kind| *kind == Type::Text(class));
-        let table = &self.grammar.classes[usize::from(class)];
+        let (plain, table) = self.grammar.plain(class).expect("a class");
+        let paths = self.paths(scope, |kind| *kind == Type::Text(plain));
+        let [right, near] = match plain == class {
+            true => [lexeme, near_lexeme],
+            false => [escaped_lexeme, near_escaped],
+        };
         if self.slips() {
             return match self.random.below(3) {
                 0 => Node::place(self.odd_path(scope)),
                 1 => self.odd_node(scope),
-                _ => Node::literal(near_lexeme(self.random, table)),
+                _ => Node::literal(near(self.random, table)),
             };
         }
         if paths.is_empty() || self.random.once_in(4) {
-            return Node::literal(lexeme(self.random, table));
+            return Node::literal(right(self.random, table));
         }
         Node::place(self.random.pick(&paths).clone())
     }
@@ -351,39 +355,46 @@ struct Scope {
     variables: Vec<u16>,
 }
 
-/// Once in a while turns a class upside down or lets an element name nothing.
+/// Once in a while turns a class upside down, or lets an escaped class or an element name what it
+/// must not.
 fn slip_grammar(random: &mut Random, grammar: &mut Grammar) {
-    let class = random.below(grammar.classes.len());
-    let class = &mut grammar.classes[class];
-    match random.below(24) {
-        0 => class.least = class.most.saturating_add(1),
-        1 => class.ranges.push((0x42, 0x41)),
-        2 => class.ranges.insert(0, (0x10FFFF, 0x110000)),
-        3..=5 => {
-            let beyond = grammar.classes.len() as u16;
-            let nonterminal = random.number() as u16;
-            let odd = [
-                Element::Class(beyond),
-                Element::Class(beyond + 1),
-                Element::Nonterminal(nonterminal),
-                Element::Repetition(nonterminal),
-                Element::separated(nonterminal, ", "),
-            ];
-            let production = random.below(grammar.productions.len());
-            let odd = random.pick(&odd).clone();
-            grammar.productions[production].elements.push(odd);
-        }
-        _ => {}
+    let total = grammar.classes.len();
+    let number = random.below(total);
+    match &mut grammar.classes[number] {
+        Class::Plain(class) => match random.below(24) {
+            0 => class.least = class.most.saturating_add(1),
+            1 => class.ranges.push((0x42, 0x41)),
+            2 => class.ranges.insert(0, (0x10FFFF, 0x110000)),
+            _ => {}
+        },
+        // An earlier class, itself, a later one or none.
+        Class::Escaped(plain) if random.once_in(4) => *plain = random.below(total + 2) as u16,
+        Class::Escaped(_) => {}
+    }
+    if random.once_in(8) {
+        let beyond = total as u16;
+        let nonterminal = random.number() as u16;
+        let odd = [
+            Element::Class(beyond),
+            Element::Class(beyond + 1),
+            Element::Nonterminal(nonterminal),
+            Element::Repetition(nonterminal),
+            Element::separated(nonterminal, ", "),
+        ];
+        let production = random.below(grammar.productions.len());
+        let odd = random.pick(&odd).clone();
+        grammar.productions[production].elements.push(odd);
     }
 }
 
-/// Once in a while lets a type or field name nothing, or a field its own or a later type.
+/// Once in a while lets a type or field name nothing, a text any class, or a field its own or a later
+/// type.
 fn slip_types(random: &mut Random, types: &mut [Type], classes: usize) {
     let total = types.len();
     let number = random.below(total);
     let named = random.between(number, total) as u16;
     match &mut types[number] {
-        Type::Text(class) if random.once_in(10) => *class = classes as u16,
+        Type::Text(class) if random.once_in(5) => *class = random.below(classes + 1) as u16,
         Type::List(item) if random.once_in(10) => *item = total as u16,
         Type::Record(fields) if random.once_in(10) => fields.push(named),
         _ => {}

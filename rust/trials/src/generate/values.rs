@@ -25,7 +25,7 @@ impl Values<'_> {
         }
         match &self.types[usize::from(number)] {
             Type::Text(class) => {
-                let class = &self.grammar.classes[usize::from(*class)];
+                let (_, class) = self.grammar.plain(*class).expect("a class");
                 Value::text(lexeme(self.random, class))
             }
             Type::YesNo => Value::YesNo(self.random.once_in(2)),
@@ -52,7 +52,7 @@ impl Values<'_> {
     fn slipped(&mut self, number: u16) -> Value {
         match (&self.types[usize::from(number)], self.random.below(5)) {
             (Type::Text(class), 0..=2) => {
-                let class = &self.grammar.classes[usize::from(*class)];
+                let (_, class) = self.grammar.plain(*class).expect("a class");
                 Value::text(near_lexeme(self.random, class))
             }
             (_, 0) => Value::text("α"),
