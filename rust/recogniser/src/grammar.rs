@@ -10,12 +10,23 @@ pub struct Grammar {
     pub(crate) by_nonterminal: HashMap<u16, Vec<usize>>,
 }
 
-#[derive(Debug)]
+#[derive(Clone, Debug)]
 pub(crate) struct Class {
     pub(crate) least: u32,
     pub(crate) most: u32,
     pub(crate) ranges: Vec<(u32, u32)>,
+    /// Whether the five characters of [`ENTITIES`] are written as these.
+    pub(crate) escaped: bool,
 }
+
+/// The predefined entities of XML 1.0, and what they stand for.
+const ENTITIES: [(&str, char); 5] = [
+    ("&amp;", '&'),
+    ("&lt;", '<'),
+    ("&gt;", '>'),
+    ("&quot;", '"'),
+    ("&apos;", '\''),
+];
 
 #[derive(Debug)]
 pub(crate) struct Production {
@@ -74,6 +85,7 @@ impl Grammar {
                     least: word(record, 2).into(),
                     most: word(record, 4).into(),
                     ranges: Vec::new(),
+                    escaped: false,
                 }),
                 2 => {
                     let range = (code(&record[1..4]), code(&record[4..7]));
@@ -85,10 +97,22 @@ impl Grammar {
                     grammar.productions.last_mut()?.elements.push(element);
                     at += text;
                 }
+                5 => grammar.open_escaped(word(record, 2))?,
                 _ => return None,
             }
         }
         Some(grammar)
+    }
+
+    /// An escaped class has the counts and ranges of an earlier plain one.
+    fn open_escaped(&mut self, plain: u16) -> Option<()> {
+        let named = self.classes.get(usize::from(plain));
+        let class = named.filter(|class| !class.escaped)?.clone();
+        self.classes.push(Class {
+            escaped: true,
+            ..class
+        });
+        Some(())
     }
 
     fn open_production(&mut self, nonterminal: u16) {
@@ -127,21 +151,42 @@ impl Class {
 
     /// The bytes of the character that a text begins with, if the class holds it.
     pub(crate) fn character(&self, text: &[u8]) -> Option<usize> {
-        let length = match *text.first()? {
-            0x00..=0x7F => 1,
-            0xC2..=0xDF => 2,
-            0xE0..=0xEF => 3,
-            0xF0..=0xF4 => 4,
-            _ => return None,
+        let (character, length) = match self.escaped {
+            true => escaped_character(text)?,
+            false => plain_character(text)?,
         };
-        let character = std::str::from_utf8(text.get(..length)?)
-            .ok()?
-            .chars()
-            .next()?;
         let code = u32::from(character);
         let mut ranges = self.ranges.iter();
         ranges
             .any(|&(low, high)| low <= code && code <= high)
             .then_some(length)
     }
+}
+
+/// The character that a text begins with, and how many bytes it takes.
+fn plain_character(text: &[u8]) -> Option<(char, usize)> {
+    let length = match *text.first()? {
+        0x00..=0x7F => 1,
+        0xC2..=0xDF => 2,
+        0xE0..=0xEF => 3,
+        0xF0..=0xF4 => 4,
+        _ => return None,
+    };
+    let character = std::str::from_utf8(text.get(..length)?)
+        .ok()?
+        .chars()
+        .next()?;
+    Some((character, length))
+}
+
+/// The same where the five characters are written as their entities, and so never stand for
+/// themselves.
+fn escaped_character(text: &[u8]) -> Option<(char, usize)> {
+    for (entity, character) in ENTITIES {
+        if text.starts_with(entity.as_bytes()) {
+            return Some((character, entity.len()));
+        }
+    }
+    plain_character(text)
+        .filter(|(character, _)| ENTITIES.iter().all(|(_, five)| five != character))
 }

@@ -184,3 +184,47 @@ fn past_the_budget_there_is_no_verdict() {
     let grammar = recogniser::Grammar::read(&entries().stream()).expect("a grammar");
     assert_eq!(grammar.derives(0, b"[<ab>]", 5), None);
 }
+
+/// `<title>`, an escaped title of one to three characters, and `</title>`; nonterminal 1 has the
+/// plain title.
+fn titles() -> Grammar {
+    let mut grammar = Grammar::new();
+    grammar.class(0, 0, &[]);
+    let plain = grammar.class(1, 3, &[(0x20, 0x3C), (0x61, 0x7A), (0x370, 0x3FF)]);
+    let escaped = grammar.escaped(plain);
+    let [open, close] = ["<title>", "</title>"].map(keyword);
+    grammar.production(0, [open, Class(escaped), close]);
+    grammar.production(1, [Class(plain)]);
+    grammar
+}
+
+#[test]
+fn an_escaped_class_has_entities_for_five_characters() {
+    let grammar = titles();
+    for title in ["abc", "a&amp;b", "&lt;&quot;&apos;", "α&amp;β", ";", "amp"] {
+        let text = format!("<title>{title}</title>");
+        assert!(derives(&grammar, 0, text.as_bytes()), "{text}");
+    }
+    let counts = ["", "&amp;&amp;&amp;&amp;", "abcd"];
+    let raw = ["a&b", "&", "<", "\"", "'", "&amp", "&amp;;;;"];
+    let others = ["&#38;", "&#x26;", "&AMP;", "&nbsp;", "&;"];
+    // The class has no U+003E.
+    let outside = ["&gt;", "A", ">"];
+    for title in [&counts[..], &raw, &others, &outside].concat() {
+        let text = format!("<title>{title}</title>");
+        assert!(!derives(&grammar, 0, text.as_bytes()), "{text}");
+    }
+    // The plain class is as it was.
+    assert!(derives(&grammar, 1, b"a&b"));
+    assert!(!derives(&grammar, 1, b"a&amp;b"));
+}
+
+#[test]
+fn an_escaped_class_names_an_earlier_plain_one() {
+    for named in [0, 2, 3, 4] {
+        let mut grammar = titles();
+        grammar.escaped(named);
+        let read = recogniser::Grammar::read(&grammar.stream());
+        assert_eq!(read.is_some(), named == 0, "{named}");
+    }
+}
