@@ -1,7 +1,8 @@
 //! The shared vectors of the latest request that has landed, when they are there
 //! (`PAGE_MACHINE_VECTORS`, or `shared/vectors` beside the repository), held against both machines.
 //! A later request may change the answers of an earlier folder. Each folder has three streams, what
-//! the paper's program prints, and more calls; `vectors.txt` has checks, packing and unpacking.
+//! the paper's program prints, and more calls; `vectors.txt` has checks, packing, unpacking and
+//! unescaping.
 
 use std::fs;
 use std::path::{Path, PathBuf};
@@ -12,7 +13,7 @@ use trials::run::try_streams;
 use trials::{Fields, Machine, Random, Reference, SECOND};
 
 /// The folder of vectors: `base`, or the letter of the latest request that has landed.
-const STAGE: &str = "b";
+const STAGE: &str = "c";
 
 const MACHINES: [&dyn Machine; 2] = [&Reference, &SECOND];
 
@@ -188,6 +189,13 @@ fn answer_to(machine: &dyn Machine, call: &str, unpacked: &mut Vec<u8>) -> Strin
             let fields = machine.unpack(number_in(call, "expected") as u8, unpacked, &mut out);
             with_bytes(fields, &out)
         }
+        ("unescape", arguments) => {
+            let (hex, _) = arguments.split_once(' ').expect("a text and a room");
+            let mut out = vec![0x5A; number_in(call, "out")];
+            let fields = machine.unescape(&from_hex(hex), &mut out);
+            let plain = hex_of(written(fields, &out));
+            format!("{} {plain}", line_of(fields))
+        }
         ("block-payload", _) => {
             let payload = machine.block_payload(&unpacked[..512], build::CHECK_START);
             assert!(payload.is_empty() || *payload == unpacked[4..508]);
@@ -203,9 +211,15 @@ fn line_of(fields: Fields) -> String {
 }
 
 fn with_bytes(fields: Fields, out: &[u8]) -> String {
+    let hash = fnv1a(written(fields, out));
+    format!("{}  bytes-fnv={hash:08x}", line_of(fields))
+}
+
+/// The bytes that a call wrote; those past them are as they were.
+fn written(fields: Fields, out: &[u8]) -> &[u8] {
     let (written, rest) = out.split_at(fields[4] as usize);
     assert!(rest.iter().all(|&byte| byte == 0x5A), "bytes past those");
-    format!("{}  bytes-fnv={:08x}", line_of(fields), fnv1a(written))
+    written
 }
 
 /// The number behind `name=` in a call.
@@ -235,4 +249,12 @@ fn from_hex(hex: &str) -> Vec<u8> {
         .chunks(2)
         .map(|pair| digit(pair[0]) * 16 + digit(pair[1]))
         .collect()
+}
+
+/// Bytes in hex, or a dash for none.
+fn hex_of(bytes: &[u8]) -> String {
+    match bytes {
+        [] => "-".into(),
+        _ => bytes.iter().map(|byte| format!("{byte:02x}")).collect(),
+    }
 }
