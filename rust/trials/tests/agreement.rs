@@ -3,11 +3,12 @@
 use build::{mend, mend_each, with_check, BLOCK, CHECK_START, PAYLOAD};
 use build::{Element, Grammar, Node, Path, Templates, Value};
 use trials::chains::Chain;
-use trials::compare::{self, Call, Packing};
+use trials::compare::{self, Call, Conversion};
 use trials::faulty::Fault;
 use trials::generate::{self, Streams};
 use trials::mutants::Mutant;
 use trials::run::run;
+use trials::unescaping::Unescaping;
 use trials::{Machine, Random, Reference, SECOND};
 
 /// The seed of `TRIALS_SEED`, or 1.
@@ -33,18 +34,23 @@ fn no_difference_and_every_number_is_reached() {
 #[test]
 fn every_mutant_is_found() {
     for mutant in Mutant::all() {
-        match run(&Reference, &mutant, seed(), 0..4_000) {
+        match run(&Reference, &mutant, seed(), 0..8_000) {
             Ok(_) => panic!("{} isn't found", mutant.name()),
             Err(failure) => println!("found after {:>4} cases: {failure}", failure.case + 1),
         }
     }
 }
 
-/// What the faults in separators and in chains of checks are put into is right without one.
+/// What the faults in separators, entities, unescape calls and chains of checks are put into is right
+/// without one.
 #[test]
 fn a_machine_without_a_fault_is_no_mutant() {
     let chains = [Mutant::Judges, Mutant::Unpacks, Mutant::Packs].map(|part| part(Chain::Right));
-    for right in [&[Mutant::Separates(Fault::None)], &chains[..]].concat() {
+    let escapes = [
+        Mutant::Walks(Fault::None),
+        Mutant::Unescapes(Unescaping::Right),
+    ];
+    for right in [&escapes[..], &chains].concat() {
         if let Err(failure) = run(&Reference, &right, seed(), 0..2_000) {
             panic!("{failure}");
         }
@@ -96,7 +102,7 @@ fn letters(blocks: usize, letter: &str) -> Vec<u8> {
 #[track_caller]
 fn unpacks(stream: &[u8], refused: Option<usize>) {
     let room = stream.len() / BLOCK * PAYLOAD;
-    let fields = compare::packing(&Reference, &SECOND, Packing::Unpack, 3, stream, room);
+    let fields = compare::conversion(&Reference, &SECOND, Conversion::Unpack(3), stream, room);
     let expected = match refused {
         Some(place) => [2, 0, place as u64, 0, 0],
         None => [0, 0, 0, 0, room as u64],
@@ -152,12 +158,13 @@ fn example() -> Streams {
     Streams::of(&grammar, &templates, &value)
 }
 
-/// All forms of records in one set: every element, type, node and value.
+/// All forms of records in one set: every class, element, type, node and value.
 fn all_forms() -> Streams {
     let keyword = |text: &str| Element::keyword(text);
     let mut grammar = Grammar::new();
-    grammar.class(0, 9, &[(0x61, 0x7A), (0x1F00, 0x1FFF)]);
+    grammar.class(0, 9, &[(0x26, 0x3C), (0x61, 0x7A), (0x1F00, 0x1FFF)]);
     grammar.class(1, 1, &[(0x10000, 0x10FFFF)]);
+    let escaped = Element::Class(grammar.escaped(0));
     let (row, list) = (Element::Repetition(6), Element::separated(6, ", and then "));
     grammar.production(5, [keyword("begin "), row, keyword(""), list]);
     grammar.production(
@@ -167,6 +174,7 @@ fn all_forms() -> Streams {
     grammar.production(6, [Element::Class(1)]);
     grammar.production(7, [keyword("a longer keyword")]);
     grammar.production(7, []);
+    grammar.production(6, [escaped.clone(), escaped]);
     let mut templates = Templates::new();
     let text = templates.text(0);
     let yes_no = templates.yes_no();
@@ -176,8 +184,10 @@ fn all_forms() -> Streams {
     let either = |path: Path| Node::either(path, Node::build(3, []), Node::build(4, []));
     let field = |number| Path::variable(1).field(number);
     let body = Node::build(1, [Node::place(field(2)), either(field(1))]);
+    let pair = Node::build(5, [Node::literal("&lt;"), Node::place(field(2))]);
     let items = Node::sequence([
         Node::each(Path::variable(0).field(0), body),
+        Node::each(Path::variable(0).field(0), pair),
         Node::build(2, [Node::literal("\u{10348}")]),
         Node::expand(1, [Path::variable(0).field(1), Path::variable(0)]),
     ]);
@@ -186,7 +196,7 @@ fn all_forms() -> Streams {
     templates.template(6, [yes_no, root], body);
     let entry =
         |text: &str| Value::record([Value::text(""), Value::YesNo(true), Value::text(text)]);
-    let list = Value::list([entry("abcdefghi"), entry("ἄἄ")]);
+    let list = Value::list([entry("abc&def'i"), entry("ἄἄ")]);
     let value = Value::record([list, Value::YesNo(false)]);
     Streams::of(&grammar, &templates, &value)
 }
@@ -195,7 +205,7 @@ fn all_forms() -> Streams {
 fn try_every_byte(streams: &Streams, values: impl Fn(u8) -> Vec<u8>) -> [usize; 13] {
     let call = Call {
         fuel: 1_000,
-        out: 200,
+        out: 400,
         scratch: 4_800,
     };
     let mut reached = [0; 13];
@@ -260,7 +270,7 @@ fn every_fuel_and_room_of_a_set_of_all_forms() {
 #[test]
 fn every_byte_of_a_set_of_all_forms() {
     let streams = all_forms();
-    let mut out = [0; 200];
+    let mut out = [0; 400];
     let fields = Reference.evaluate(streams.parts(), 1_000, &mut out, &mut [0; 4_800]);
     assert_eq!(fields[0], 0, "{fields:?}");
     let reached = try_every_byte(&streams, |byte| {
@@ -270,4 +280,35 @@ fn every_byte_of_a_set_of_all_forms() {
     for number in [0, 2, 3, 5, 7, 8] {
         assert!(reached[number] > 0, "{number} isn't reached");
     }
+}
+
+/// Every text of up to five of these pieces, which make up entities, cut ones, other references and
+/// UTF-8 of two bytes.
+#[test]
+fn every_short_text_of_the_pieces_of_entities() {
+    let pieces: [&[u8]; 12] = [
+        b"&", b"amp", b"lt", b"quot", b";", b"#38", b"a", b"<", b"'", b"\xCE", b"\xB1", b"&apos;",
+    ];
+    let mut texts = vec![vec![]];
+    let mut first = 0;
+    let mut reached = [0; 13];
+    for _ in 0..=4 {
+        let last = texts.len();
+        for at in first..last {
+            for piece in pieces {
+                texts.push([&texts[at][..], piece].concat());
+            }
+        }
+        first = last;
+    }
+    for text in &texts {
+        for room in [text.len(), text.len().saturating_sub(5), 0] {
+            let unescape = Conversion::Unescape;
+            let fields = compare::conversion(&Reference, &SECOND, unescape, text, room)
+                .unwrap_or_else(|difference| panic!("{text:02x?}: {difference}"));
+            reached[fields[0] as usize] += 1;
+        }
+    }
+    println!("{} texts: {reached:?}", texts.len());
+    assert!(reached[0] > 1_000 && reached[8] > 1_000 && reached[12] > 1_000);
 }

@@ -15,12 +15,12 @@ const STACK: usize = 512 * 1024;
 /// The records of a stream of 128 blocks.
 const FULL: u16 = 128 * 63;
 
-/// Characters of the last class, some in each of its last three ranges.
+/// Characters of the class of many ranges, some in each of its last three.
 const LETTERS: &str = "abαβ\u{4E00}\u{4E11}";
 
-/// Nonterminal 0: `(` 0 `)`, or `{` 0* `}`, or nothing, or a lexeme of the last class, or `[` 0* `]`
-/// with a separator between the items. So many classes without ranges stand before that class, which
-/// has so many ranges.
+/// Nonterminal 0: `(` 0 `)`, or `{` 0* `}`, or nothing, or a lexeme of a class, or `[` 0* `]` with a
+/// separator between the items, or an escaped lexeme of that class. So many classes without ranges
+/// stand before it, and it has so many ranges; the escaped class comes last.
 fn grammar(before: usize, ranges: u32) -> Grammar {
     let keyword = |text: &str| Element::keyword(text);
     let mut grammar = Grammar::new();
@@ -31,22 +31,25 @@ fn grammar(before: usize, ranges: u32) -> Grammar {
     let mut all: Vec<(u32, u32)> = (3..ranges)
         .map(|range| (code(range), code(range)))
         .collect();
-    all.extend([(0x61, 0x7A), (0x370, 0x3FF), (0x4E00, 0x4EFF)]);
+    all.extend([(0x26, 0x7A), (0x370, 0x3FF), (0x4E00, 0x4EFF)]);
     let class = grammar.class(0, 1_000, &all);
+    let escaped = grammar.escaped(class);
     grammar.production(0, [keyword("("), Element::Nonterminal(0), keyword(")")]);
     grammar.production(0, [keyword("{"), Element::Repetition(0), keyword("}")]);
     grammar.production(0, []);
     grammar.production(0, [Element::Class(class)]);
     let list = Element::separated(0, ", ");
     grammar.production(0, [keyword("["), list, keyword("]")]);
+    grammar.production(0, [Element::Class(escaped)]);
     grammar
 }
 
-/// A small grammar, and one of 256 classes that fills 128 blocks: tables may grow with them.
-fn grammars() -> [Vec<u8>; 2] {
-    let full = grammar(255, 7_786);
+/// A small grammar, and one of 256 classes that fills 128 blocks: tables may grow with them. Each with
+/// the number of its class of many ranges.
+fn grammars() -> [(Vec<u8>, u16); 2] {
+    let full = grammar(254, 7_784);
     assert_eq!(full.records().len(), usize::from(FULL));
-    [grammar(0, 3), full].map(|grammar| grammar.stream())
+    [(grammar(0, 3), 0), (full, 254)].map(|(grammar, class)| (grammar.stream(), class))
 }
 
 /// Templates on lists of lists, with these bodies.
@@ -139,6 +142,7 @@ fn deepest_trees() -> Vec<Case> {
 /// Walks over one child a level.
 fn narrow_walks() -> Vec<Case> {
     let lexeme = Node::build(3, [Node::literal(LETTERS.repeat(100))]);
+    let escaped = Node::build(5, [Node::literal("α&amp;".repeat(100))]);
     vec![
         (
             "200 levels of builds and of values",
@@ -151,6 +155,12 @@ fn narrow_walks() -> Vec<Case> {
             templates([below(198, lexeme)]),
             lists(1),
             [0, 0, 0, 200, 396 + 100 * LETTERS.len() as u64],
+        ),
+        (
+            "an escaped lexeme below 199 levels",
+            templates([below(198, escaped)]),
+            lists(1),
+            [0, 0, 0, 200, 396 + 700],
         ),
         (
             "a template that expands itself",
@@ -171,6 +181,17 @@ fn narrow_walks() -> Vec<Case> {
             [11, 2, 3, 201, 50],
         ),
     ]
+}
+
+/// A text of a class, written with entities below 199 levels.
+fn escaped_text(class: u16) -> Case {
+    let mut templates = Templates::new();
+    let text = templates.text(class);
+    let place = Node::build(5, [Node::place(Path::variable(0))]);
+    templates.template(0, [text], below(198, place));
+    let value = Value::text("α&".repeat(100)).stream();
+    let name = "a text with entities below 199 levels";
+    (name, templates.stream(), value, [0, 0, 0, 200, 396 + 700])
 }
 
 /// An empty text in lists, 200 levels in all, of which nothing is written.
@@ -222,18 +243,30 @@ fn wide_walks() -> Vec<Case> {
     ]
 }
 
-fn cases() -> Vec<Case> {
-    let text = vec![text_in_lists()];
-    [deepest_trees(), narrow_walks(), text, wide_walks()].concat()
+/// All cases, for a grammar whose class of many ranges has this number.
+fn cases(class: u16) -> Vec<Case> {
+    let texts = vec![text_in_lists(), escaped_text(class)];
+    [deepest_trees(), narrow_walks(), texts, wide_walks()].concat()
+}
+
+/// A text that takes an unescape call through entities and characters of every length.
+fn escaped_letters() -> Vec<u8> {
+    format!("&amp;&lt;&gt;&quot;&apos;{LETTERS}\u{1F600}")
+        .repeat(1_000)
+        .into_bytes()
 }
 
 /// Tries all cases on a machine. The streams are built outside of the small stack.
 fn on_a_small_stack(machine: impl Machine + Send + 'static) {
-    let (grammars, cases) = (grammars(), cases());
+    let sets = grammars().map(|(grammar, class)| (grammar, cases(class)));
+    let text = escaped_letters();
     let calls = move || {
-        for grammar in &grammars {
+        for (grammar, cases) in &sets {
             cases.iter().for_each(|case| call(&machine, grammar, case));
         }
+        let mut plain = vec![0; text.len()];
+        let bytes = 1_000 * (5 + LETTERS.len() + 4) as u64;
+        assert_eq!(machine.unescape(&text, &mut plain), [0, 0, 0, 0, bytes]);
     };
     let small = Builder::new().stack_size(STACK);
     let thread = small.spawn(calls).expect("a thread");
@@ -280,7 +313,7 @@ mod painted {
 
     use trials::{Machine, SECOND};
 
-    use super::{cases, grammars};
+    use super::{cases, escaped_letters, grammars};
 
     /// Less than this is taken by a call, with the frames of the wrapper and of the test.
     const MOST: usize = 256 * 1024;
@@ -315,8 +348,8 @@ mod painted {
     fn most() -> (usize, String) {
         let (mut out, mut scratch) = (vec![0; 2_000], vec![0; 4_800]);
         let mut all = Vec::new();
-        for grammar in &grammars() {
-            for (name, templates, value, _) in &cases() {
+        for (grammar, class) in &grammars() {
+            for (name, templates, value, _) in &cases(*class) {
                 let name = format!("{name}, {} bytes of grammar", grammar.len());
                 let evaluate = taken(|| {
                     SECOND.evaluate(
@@ -333,6 +366,11 @@ mod painted {
                 all.push((check, format!("check, {name}")));
             }
         }
+        let (text, mut plain) = (escaped_letters(), vec![0; 60_000]);
+        let unescape = taken(|| {
+            SECOND.unescape(&text, &mut plain);
+        });
+        all.push((unescape, "unescape".into()));
         all.into_iter().max().expect("some call")
     }
 
