@@ -23,6 +23,8 @@ pub enum Call {
     Pack(u8, Vec<u8>, usize),
     /// A stream unpacked as a kind into an output of so many bytes.
     Unpack(u8, Vec<u8>, usize),
+    /// A text unescaped into an output of so many bytes.
+    Unescape(Vec<u8>, usize),
     /// Both calls on a set: evaluate, and check.
     Evaluate(Set, Lent),
 }

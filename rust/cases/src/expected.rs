@@ -32,6 +32,10 @@ fn answered(call: &Call) -> String {
             let mut out = vec![BYTE; *room];
             written(reference::unpack(*kind, stream, &mut out), &out)
         }
+        Call::Unescape(text, room) => {
+            let mut out = vec![BYTE; *room];
+            written(reference::unescape(text, &mut out), &out)
+        }
         Call::Evaluate(set, lent) => evaluated(set, *lent),
     }
 }

@@ -102,6 +102,7 @@ fn asked(call: &Call) -> Asked<'_> {
         Call::BlockPayload(block, start) => of(11, *start, block, 0),
         Call::Pack(kind, payload, room) => of(12, (*kind).into(), payload, *room),
         Call::Unpack(kind, stream, room) => of(13, (*kind).into(), stream, *room),
+        Call::Unescape(text, room) => of(15, 0, text, *room),
         Call::Evaluate(set, lent) => Asked {
             call: 14,
             number: lent.fuel,

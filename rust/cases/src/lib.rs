@@ -11,12 +11,14 @@
 //! | `sets` | refusals 4 to 7 |
 //! | `runs` | refusals 8 to 12, and runs that finish |
 //! | `separators` | repetitions with a separator: layout, names, typing, runs |
+//! | `escapes` | escaped classes: texts, literals, positions, layout, names; the unescape call |
 //!
 //! To add a case, add it to one of these, then `cargo run -p cases`.
 
 mod blocks;
 mod case;
 mod chains;
+mod escapes;
 mod example;
 mod expected;
 mod file;
@@ -42,6 +44,7 @@ pub fn all() -> Vec<Case> {
         sets::all(),
         runs::all(),
         separators::all(),
+        escapes::all(),
     ]
     .concat()
 }
