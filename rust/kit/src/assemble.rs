@@ -1,12 +1,12 @@
 //! Makes the three streams of a description.
 //!
 //! The assembler looks names up and counts sizes. It judges no rule of the machine: a description that
-//! breaks one (a literal that is no lexeme, a field of a later type) is assembled all the same, and the
-//! proved check refuses it.
+//! breaks one (a literal that is no lexeme, a field of a later type, an escaped class of an escaped one)
+//! is assembled all the same, and the proved check refuses it.
 
 use crate::description::{
-    By, Class, Description, Element, Field, Name, Node, NodeForm, Path, Production, Step, Template,
-    Type, TypeForm, Value, ValueForm,
+    By, Class, ClassForm, Description, Element, Field, Name, Node, NodeForm, Path, Production,
+    Step, Template, Type, TypeForm, Value, ValueForm,
 };
 use crate::mistake::{Mistake, Position};
 use crate::parser::parse;
@@ -130,12 +130,32 @@ impl<'a> Names<'a> {
     fn grammar(&self, tree: &Description) -> Assembled<Vec<Record>> {
         let mut records = Vec::new();
         for (number, class) in (0..=u8::MAX).zip(&tree.classes) {
-            class_records(number, class, &mut records)?;
+            self.class(number, class, &mut records)?;
         }
         for (number, production) in (0..=u8::MAX).zip(&tree.productions) {
             self.production(number, production, &mut records)?;
         }
         Ok(records)
+    }
+
+    fn class(&self, number: u8, class: &Class, records: &mut Vec<Record>) -> Assembled<()> {
+        match &class.form {
+            ClassForm::Plain {
+                least,
+                most,
+                ranges,
+            } => {
+                let count = word(ranges.len(), class.name.at, "ranges")?;
+                records.push(Record::new(1, number, [*least, *most, count]));
+                let range = |&(lowest, highest): &(u32, u32)| range_record(lowest, highest);
+                records.extend(ranges.iter().map(range));
+            }
+            ClassForm::Escaped(plain) => {
+                let plain = numbered(&self.classes, plain, "class")?;
+                records.push(Record::new(5, number, [plain, 0, 0]));
+            }
+        }
+        Ok(())
     }
 
     fn production(
@@ -491,18 +511,6 @@ impl Scope {
     }
 }
 
-fn class_records(number: u8, class: &Class, records: &mut Vec<Record>) -> Assembled<()> {
-    let count = word(class.ranges.len(), class.name.at, "ranges")?;
-    records.push(Record::new(1, number, [class.least, class.most, count]));
-    records.extend(
-        class
-            .ranges
-            .iter()
-            .map(|&(lowest, highest)| range_record(lowest, highest)),
-    );
-    Ok(())
-}
-
 fn range_record(lowest: u32, highest: u32) -> Record {
     let ([l0, l1, l2, _], [h0, h1, h2, _]) = (lowest.to_le_bytes(), highest.to_le_bytes());
     Record([2, l0, l1, l2, h0, h1, h2, 0])
@@ -581,6 +589,17 @@ mod tests {
     }
 
     #[test]
+    fn classes_may_be_escaped() {
+        let escaped = SMALL
+            .replace("'a'-'z' }", "'a'-'z' '&' '<' } class xml = escaped letter")
+            .replace("= letter\n", "= xml\n")
+            .replace("literal \"n\"", "literal \"&lt;\"")
+            .replace("done: yes", "done: no");
+        let value = escaped.replace("[\"a\" \"b\"]", "[\"a&\" \"<\"]");
+        assert_eq!(text_of(&value), "<t&lt;a&amp;&lt;>");
+    }
+
+    #[test]
     fn numbers_stand_for_names() {
         let numbers = SMALL
             .replace("place p.title", "place 0.0")
@@ -612,6 +631,10 @@ mod tests {
         assert_eq!(
             mistake("text letter", "text page"),
             "no class is named `page`"
+        );
+        assert_eq!(
+            mistake("type word", "class xml = escaped leter type word"),
+            "no class is named `leter`"
         );
         assert_eq!(mistake("list word", "list wrd"), "no type is named `wrd`");
         assert_eq!(

@@ -35,17 +35,29 @@ pub struct Text {
     pub at: Position,
 }
 
-/// A class of characters.
+/// A class of lexemes.
 #[derive(Debug)]
 pub struct Class {
     /// Its name.
     pub name: Name,
-    /// The least characters.
-    pub least: u16,
-    /// The most characters.
-    pub most: u16,
-    /// The ranges, each with its lowest and highest code point.
-    pub ranges: Vec<(u32, u32)>,
+    /// What it is.
+    pub form: ClassForm,
+}
+
+/// What a class is.
+#[derive(Debug)]
+pub enum ClassForm {
+    /// One with its own characters.
+    Plain {
+        /// The least characters.
+        least: u16,
+        /// The most characters.
+        most: u16,
+        /// The ranges, each with its lowest and highest code point.
+        ranges: Vec<(u32, u32)>,
+    },
+    /// The escaped form of another class.
+    Escaped(Name),
 }
 
 /// A production of a nonterminal.

@@ -2,6 +2,7 @@
 //!
 //! All streams have a sound layout here: the library refuses a value's type only after it.
 
+use crate::classes::{classes, Class};
 use crate::record::{Record, RECORD};
 use crate::words::counted;
 
@@ -122,33 +123,12 @@ fn size(head: Record) -> usize {
     }
 }
 
-/// A class of the grammar: its head, and its ranges.
-fn class(grammar: &[Record], number: u16) -> Option<(Record, &[Record])> {
-    let mut at = 0;
-    while let Some(&head) = grammar.get(at).filter(|head| head.kind() == 1) {
-        let ranges = at + 1..at + 1 + usize::from(head.d());
-        if u16::from(head.a()) == number {
-            return grammar.get(ranges).map(|ranges| (head, ranges));
-        }
-        at = ranges.end;
-    }
-    None
-}
-
 fn text_due(grammar: &[Record], number: u16, value: &[Record], place: usize) -> Vec<String> {
-    let Some((head, ranges)) = class(grammar, number) else {
+    let Some(&Class::Plain { head, ranges }) = classes(grammar).get(usize::from(number)) else {
         return Vec::new();
     };
-    let each: Vec<String> = ranges
-        .iter()
-        .map(|range| format!("U+{:04X}-U+{:04X}", range.point(1), range.point(4)))
-        .collect();
-    let mut found = vec![format!(
-        "a text of class {number} is due here: {} to {} characters of {}",
-        head.b(),
-        head.c(),
-        each.join(" ")
-    )];
+    let due = characters_due(head, ranges);
+    let mut found = vec![format!("a text of class {number} is due here: {due}")];
     let text = value.get(place).filter(|text| text.kind() == 1);
     if let Some(bytes) = text.and_then(|text| text_bytes(value, place, usize::from(text.b()))) {
         found.push(text_found(&bytes, ranges));
@@ -156,13 +136,24 @@ fn text_due(grammar: &[Record], number: u16, value: &[Record], place: usize) -> 
     found
 }
 
-fn text_bytes(value: &[Record], place: usize, length: usize) -> Option<Vec<u8>> {
-    let units = value.get(place + 1..place + 1 + length.div_ceil(RECORD))?;
+/// How many characters of which ranges a plain class has.
+pub fn characters_due(head: Record, ranges: &[Record]) -> String {
+    let each: Vec<String> = ranges
+        .iter()
+        .map(|range| format!("U+{:04X}-U+{:04X}", range.point(1), range.point(4)))
+        .collect();
+    let (least, most) = (head.b(), head.c());
+    format!("{least} to {most} characters of {}", each.join(" "))
+}
+
+/// The text behind a head.
+pub fn text_bytes(records: &[Record], place: usize, length: usize) -> Option<Vec<u8>> {
+    let units = records.get(place + 1..place + 1 + length.div_ceil(RECORD))?;
     Some(units.iter().flat_map(|unit| unit.0).take(length).collect())
 }
 
 /// What a text has that its class may not take.
-fn text_found(bytes: &[u8], ranges: &[Record]) -> String {
+pub fn text_found(bytes: &[u8], ranges: &[Record]) -> String {
     let Ok(text) = std::str::from_utf8(bytes) else {
         return "this text is no well-formed UTF-8".to_string();
     };

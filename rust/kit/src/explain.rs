@@ -1,6 +1,7 @@
 //! Runs the proved library on three streams, and shows what it refuses and where.
 
 use crate::due::due;
+use crate::escapes::escapes;
 use crate::layout::{lines, Line};
 use crate::paper::quotes;
 use crate::record::{Found, Kind, Record};
@@ -100,14 +101,24 @@ fn finished(answer: Answer) -> String {
     format!("evaluate: finished, {steps} steps, a text of {bytes} bytes\n")
 }
 
-/// A refusal: its line, the rule in the paper's words, and the place in its context.
+/// A refusal: its line, the rule in the paper's words, the place in its context, and what is to be
+/// said of an escaped class there.
 fn refused(call: &str, refusal: Refusal, set: Set<'_>) -> String {
+    let [grammar, templates] = [Kind::Grammar, Kind::Templates]
+        .map(|kind| Found::read(set.bytes(kind), Some(kind)).records);
+    let said = escapes(refusal, &grammar, &templates);
     let mut text = format!("{call}: {refusal}\n");
-    for quote in quotes(refusal, node_form(refusal, set)) {
+    for quote in quotes(refusal, node_form(refusal, set), !said.is_empty()) {
         text.push_str(&format!("    \"{quote}\"\n"));
     }
     text.push_str(&offending(refusal, set));
+    text.push_str(&remarks(&said));
     text
+}
+
+/// Lines that say more of an offending record.
+fn remarks(lines: &[String]) -> String {
+    lines.iter().map(|line| format!("  = {line}\n")).collect()
 }
 
 /// The form of the node that a refusal is about.
@@ -224,8 +235,7 @@ fn record_lines(refusal: Refusal, kind: Kind, lines: &[Line], set: Set<'_>) -> S
 fn due_lines(set: Set<'_>, place: usize) -> String {
     let [grammar, templates, value] = [Kind::Grammar, Kind::Templates, Kind::Value]
         .map(|kind| Found::read(set.bytes(kind), Some(kind)).records);
-    let lines = due(&grammar, &templates, &value, place);
-    lines.iter().map(|line| format!("  = {line}\n")).collect()
+    remarks(&due(&grammar, &templates, &value, place))
 }
 
 /// The first line that the kit finds odd: the library gives no place for a broken layout.

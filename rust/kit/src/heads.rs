@@ -6,7 +6,7 @@ use crate::words::counted;
 /// What a head is the head of.
 #[derive(Clone, Copy, Debug, PartialEq, Eq)]
 pub enum Thing {
-    /// A class of characters.
+    /// A class of characters, plain or escaped.
     Class,
     /// A range of a class.
     Range,
@@ -51,7 +51,13 @@ impl Thing {
     /// What a record is the head of, by its stream and its kind.
     pub fn of(kind: Kind, record: Record) -> Option<Self> {
         let row: &[Self] = match kind {
-            Kind::Grammar => &[Self::Class, Self::Range, Self::Production, Self::Element],
+            Kind::Grammar => &[
+                Self::Class,
+                Self::Range,
+                Self::Production,
+                Self::Element,
+                Self::Class,
+            ],
             Kind::Templates => &[
                 Self::Type,
                 Self::Field,
@@ -143,18 +149,21 @@ pub fn head(thing: Thing, record: Record, number: usize) -> Head {
 }
 
 fn class(record: Record, number: usize) -> Head {
-    let (own, ranges) = (record.a(), usize::from(record.d()));
-    let counts = counted(ranges, "range", "ranges");
-    Head::new(format!(
-        "class {own}: {} to {} characters, {counts}",
-        record.b(),
-        record.c()
-    ))
-    .odd_if(
+    let (own, b, c, d) = (record.a(), record.b(), record.c(), record.d());
+    let head = match record.kind() {
+        1 => {
+            let ranges = usize::from(d);
+            let counts = counted(ranges, "range", "ranges");
+            Head::new(format!("class {own}: {b} to {c} characters, {counts}"))
+                .below(&[(Thing::Range, ranges)])
+        }
+        _ => Head::new(format!("class {own}: the escaped form of class {b}"))
+            .unused(&[("c", c), ("d", d)]),
+    };
+    head.odd_if(
         usize::from(own) != number,
         format!("the next class is number {number}"),
     )
-    .below(&[(Thing::Range, ranges)])
 }
 
 fn range(record: Record) -> Head {

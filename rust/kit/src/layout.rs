@@ -263,7 +263,8 @@ mod tests {
     }
 
     const SMALL: &str = r#"class c 1 to 4 { 'a'-'z' } production p of n = "[" c n* "]" n*(", ") type t = text c
-        template m (x: t) of n = build p (place x sequence () sequence ()) value [yes, "ab"]"#;
+        template m (x: t) of n = build p (place x sequence () sequence ()) value [yes, "ab"]
+        class x = escaped c"#;
 
     fn texts(kind: Kind, records: &[Record]) -> Vec<String> {
         lines(kind, records).iter().map(Line::indented).collect()
@@ -282,16 +283,17 @@ mod tests {
             [
                 "        0  class 0: 1 to 4 characters, 1 range",
                 "        1    range U+0061-U+007A",
-                "        2  production 0 of nonterminal 0: 5 elements",
-                "        3    keyword of 1 byte",
-                "        4      \"[\"",
-                "        5    class 0",
-                "        6    repetition of nonterminal 0",
-                "        7    keyword of 1 byte",
-                "        8      \"]\"",
-                "        9    repetition of nonterminal 0 with a separator of 2 bytes",
-                "       10      \", \"",
-                "    11-62  52 zero records",
+                "        2  class 1: the escaped form of class 0",
+                "        3  production 0 of nonterminal 0: 5 elements",
+                "        4    keyword of 1 byte",
+                "        5      \"[\"",
+                "        6    class 0",
+                "        7    repetition of nonterminal 0",
+                "        8    keyword of 1 byte",
+                "        9      \"]\"",
+                "       10    repetition of nonterminal 0 with a separator of 2 bytes",
+                "       11      \", \"",
+                "    12-62  51 zero records",
             ]
         );
     }
@@ -346,28 +348,38 @@ mod tests {
             said(1, "byte 7 is 3, not zero")
         );
         assert_eq!(
-            broken(Kind::Grammar, 4, 6, 3),
-            said(4, "its padding is not zero")
+            broken(Kind::Grammar, 2, 1, 0),
+            said(2, "the next class is number 1")
+        );
+        for (byte, field) in [(4, "c"), (6, "d")] {
+            assert_eq!(
+                broken(Kind::Grammar, 2, byte, 3),
+                said(2, &format!("the unused field {field} is 3, not zero"))
+            );
+        }
+        assert_eq!(
+            broken(Kind::Grammar, 5, 6, 3),
+            said(5, "its padding is not zero")
         );
         assert_eq!(
-            broken(Kind::Grammar, 5, 0, 9),
-            said(5, "no record of the grammar has kind 9")
+            broken(Kind::Grammar, 6, 0, 9),
+            said(6, "no record of the grammar has kind 9")
         );
         assert_eq!(
-            broken(Kind::Grammar, 6, 4, 2),
-            said(6, "the unused field c is 2, not zero")
+            broken(Kind::Grammar, 7, 4, 2),
+            said(7, "the unused field c is 2, not zero")
         );
         assert_eq!(
-            broken(Kind::Grammar, 9, 6, 2),
-            said(9, "the unused field d is 2, not zero")
+            broken(Kind::Grammar, 10, 6, 2),
+            said(10, "the unused field d is 2, not zero")
         );
         assert_eq!(
-            broken(Kind::Grammar, 9, 1, 5),
-            said(9, "there is no such form")
+            broken(Kind::Grammar, 10, 1, 5),
+            said(10, "there is no such form")
         );
         assert_eq!(
-            broken(Kind::Grammar, 10, 7, 1),
-            said(10, "its padding is not zero")
+            broken(Kind::Grammar, 11, 7, 1),
+            said(11, "its padding is not zero")
         );
         assert_eq!(
             broken(Kind::Templates, 3, 4, 9),

@@ -10,9 +10,11 @@
 
 pub mod assemble;
 pub mod checks;
+pub mod classes;
 pub mod description;
 pub mod due;
 pub mod dump;
+pub mod escapes;
 pub mod explain;
 pub mod heads;
 pub mod layout;
@@ -20,6 +22,7 @@ pub mod lexer;
 pub mod mistake;
 pub mod paper;
 pub mod parser;
+pub mod position;
 pub mod record;
 pub mod repack;
 pub mod rows;

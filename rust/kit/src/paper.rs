@@ -6,8 +6,8 @@ use feed::Refusal;
 const SEQUENCE: u8 = 6;
 
 /// The sentences that a refusal stands on; a refusal of typing or of room also has the form of its
-/// node.
-pub fn quotes(refusal: Refusal, node_form: Option<u8>) -> Vec<&'static str> {
+/// node, and one of a name or of typing may have to do with an escaped class.
+pub fn quotes(refusal: Refusal, node_form: Option<u8>, escaped: bool) -> Vec<&'static str> {
     if matches!(refusal, Refusal::OutputFull { .. }) && node_form == Some(SEQUENCE) {
         return vec![SEPARATOR];
     }
@@ -15,6 +15,8 @@ pub fn quotes(refusal: Refusal, node_form: Option<u8>) -> Vec<&'static str> {
     found.extend(match refusal {
         Refusal::Block { .. } => &[CHAIN],
         Refusal::Layout { .. } => LAYOUT,
+        Refusal::Name { .. } if escaped => &[ESCAPED_NAMES],
+        Refusal::Typing { .. } if escaped => &[ESCAPED],
         Refusal::Typing { node: 0 } => &[],
         Refusal::Typing { .. } => typing(node_form),
         Refusal::ValueType { .. } => &[VALUE, LEXEME],
@@ -93,6 +95,13 @@ const SEPARATOR: &str = "The separator is written before every item but the firs
 const LEXEME: &str = "A lexeme of a class is well-formed UTF-8 (RFC 3629) with a character count \
                       from least to most, each character in some range. \
                       Counts are of characters, never bytes.";
+
+const ESCAPED_NAMES: &str = "An escaped class naming no earlier plain class, \
+                             or a text type naming an escaped class, is refused as 5.";
+
+const ESCAPED: &str = "Its lexemes are the plain lexemes with & < > \" ' turned into the five \
+                       predefined entities of XML 1.0 (amp, lt, gt, quot, apos). \
+                       A place there takes text of the plain class and writes the entities.";
 
 const CLASS: &str =
     "Class: a literal that is a lexeme, or a place whose path has type text of that very class.";

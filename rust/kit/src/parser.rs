@@ -1,8 +1,8 @@
 //! Reads a description into its tree.
 
 use crate::description::{
-    By, Class, Description, Element, Field, Name, Node, NodeForm, Path, Production, Step, Template,
-    Text, Type, TypeForm, Value, ValueForm,
+    By, Class, ClassForm, Description, Element, Field, Name, Node, NodeForm, Path, Production,
+    Step, Template, Text, Type, TypeForm, Value, ValueForm,
 };
 use crate::lexer::{tokens, Token};
 use crate::mistake::{Mistake, Position};
@@ -175,16 +175,26 @@ impl Parser {
         Ok(())
     }
 
-    /// `class NAME LEAST to MOST { RANGE.. }`
+    /// `class NAME LEAST to MOST { RANGE.. }` or `class NAME = escaped CLASS`
     fn class(&mut self) -> Parsed<Class> {
         let name = self.name("the class's name")?;
+        let form = match self.accept_sign('=') {
+            true => {
+                self.word("escaped")?;
+                ClassForm::Escaped(self.name("the class that is escaped")?)
+            }
+            false => self.plain_class()?,
+        };
+        Ok(Class { name, form })
+    }
+
+    fn plain_class(&mut self) -> Parsed<ClassForm> {
         let least = self.count("the least number of characters")?;
         self.word("to")?;
         let most = self.count("the most characters")?;
         self.sign('{')?;
         let ranges = self.until('}', Self::range)?;
-        Ok(Class {
-            name,
+        Ok(ClassForm::Plain {
             least,
             most,
             ranges,

@@ -2,97 +2,16 @@
 //!
 //! All streams are accepted here: the library walks only then.
 
+use crate::position::element_of;
 use crate::record::{Record, RECORD};
 
 /// The separator of the repetition that a sequence of the templates stands for.
 pub fn separator(grammar: &[Record], templates: &[Record], sequence: usize) -> Option<Vec<u8>> {
-    let (build, child) = build_around(templates, sequence)?;
-    let production = production(grammar, templates.get(build)?.b())?;
-    let count = usize::from(grammar[production].d());
-    let elements = std::iter::successors(Some(production + 1), |&at| {
-        grammar.get(at).map(|&element| at + element_size(element))
-    });
-    let at = elements
-        .take(count)
-        .filter(|&at| grammar.get(at).is_some_and(|element| element.a() != 0))
-        .nth(child)?;
+    let at = element_of(grammar, templates, sequence)?;
     let element = grammar.get(at).filter(|element| element.a() == 4)?;
     let length = usize::from(element.c());
     let units = grammar.get(at + 1..at + 1 + length.div_ceil(RECORD))?;
     Some(units.iter().flat_map(|unit| unit.0).take(length).collect())
-}
-
-/// The build that a node is a child of, and which one.
-fn build_around(templates: &[Record], place: usize) -> Option<(usize, usize)> {
-    let mut node = body_around(templates, place)?;
-    loop {
-        let children = children(templates, node)?;
-        let child = children.iter().rposition(|&child| child <= place)?;
-        if children[child] == place {
-            return (templates[node].a() == 0).then_some((node, child));
-        }
-        node = children[child];
-    }
-}
-
-/// The body of the template that holds a record.
-fn body_around(templates: &[Record], place: usize) -> Option<usize> {
-    let mut at = 0;
-    loop {
-        let head = *templates.get(at)?;
-        let size = match (head.kind(), head.a()) {
-            (1, 3) => 1 + usize::from(head.d()),
-            (1, _) => 1,
-            (3, _) => usize::from(head.c()).max(1),
-            _ => return None,
-        };
-        if head.kind() == 3 && place < at + size {
-            return Some(at + 1 + usize::from(head.a()));
-        }
-        at += size;
-    }
-}
-
-/// The nodes right below a node.
-fn children(templates: &[Record], node: usize) -> Option<Vec<usize>> {
-    let head = templates.get(node)?;
-    let (first, count) = match head.a() {
-        0 | 6 => (node + 1, usize::from(head.d())),
-        4 => (node + 2, 2),
-        5 => (node + 2, 1),
-        _ => return None,
-    };
-    let next = |&at: &usize| templates.get(at).map(|child| at + usize::from(child.c()));
-    Some(
-        std::iter::successors(Some(first), next)
-            .take(count)
-            .collect(),
-    )
-}
-
-/// Where a production stands in the grammar.
-fn production(grammar: &[Record], number: u16) -> Option<usize> {
-    let mut at = 0;
-    loop {
-        let head = *grammar.get(at)?;
-        match head.kind() {
-            1 => at += 1 + usize::from(head.d()),
-            3 if u16::from(head.a()) == number => return Some(at),
-            3 => at += 1,
-            4 => at += element_size(head),
-            _ => return None,
-        }
-    }
-}
-
-/// The records of an element: its head, and its text if it has one.
-fn element_size(head: Record) -> usize {
-    let text = match head.a() {
-        0 => head.b(),
-        4 => head.c(),
-        _ => 0,
-    };
-    1 + usize::from(text).div_ceil(RECORD)
 }
 
 #[cfg(test)]

@@ -35,11 +35,15 @@ fn assembled(example: &str) -> Streams {
 
 /// The steps and the text of an example, by the proved library.
 fn rendered(example: &str) -> (u64, Vec<u8>) {
+    text_of(streams(example))
+}
+
+fn text_of(streams: Streams) -> (u64, Vec<u8>) {
     let Streams {
         grammar,
         templates,
         value,
-    } = streams(example);
+    } = streams;
     let (mut output, mut scratch) = (vec![0; 65_536], [0; feed::SCRATCH]);
     let answer = feed::evaluate(
         &grammar,
@@ -174,6 +178,21 @@ fn the_podcast_text_is_well_formed() {
     assert_eq!(
         String::from_utf8_lossy(&output.stdout),
         "3 items, 6 chapters\n"
+    );
+}
+
+/// The description of escaped classes in the format's page gives the text that it promises.
+#[test]
+fn the_formats_escaped_title_is_written() {
+    let format = String::from_utf8(read("rust/kit/FORMAT.md")).expect("UTF-8");
+    let fenced = format
+        .split("```")
+        .find(|part| part.contains("= escaped title"));
+    let description = fenced.expect("a description of an escaped class");
+    let (_, promised) = description.split_once("# ").expect("a comment");
+    assert_eq!(
+        text_of(assemble(description).expect("streams")).1,
+        promised.trim().as_bytes()
     );
 }
 
