@@ -44,13 +44,16 @@ type Evaluate = unsafe extern "C" fn(
 /// Packing and unpacking have the same form.
 type Packing = unsafe extern "C" fn(u8, *const u8, usize, *mut u8, usize, *mut u64);
 
-/// The calls of a library, which is never unloaded.
+type Unescape = unsafe extern "C" fn(*const u8, usize, *mut u8, usize, *mut u64);
+
+/// The calls of a library, which is never unloaded. One from before request c has no unescape.
 pub struct Loaded {
     file: String,
     check: Check,
     evaluate: Evaluate,
     pack: Packing,
     unpack: Packing,
+    unescape: Option<Unescape>,
 }
 
 impl Loaded {
@@ -75,6 +78,7 @@ impl Loaded {
         };
         let (check, evaluate) = (export(c"feed_check")?, export(c"feed_evaluate")?);
         let (pack, unpack) = (export(c"feed_pack")?, export(c"feed_unpack")?);
+        let unescape = export(c"feed_unescape").ok();
         // SAFETY: under these names the library has functions of these forms; all are pointers.
         unsafe {
             Ok(Loaded {
@@ -83,6 +87,7 @@ impl Loaded {
                 evaluate: transmute::<*mut c_void, Evaluate>(evaluate),
                 pack: transmute::<*mut c_void, Packing>(pack),
                 unpack: transmute::<*mut c_void, Packing>(unpack),
+                unescape: unescape.map(|call| transmute::<*mut c_void, Unescape>(call)),
             })
         }
     }
@@ -161,5 +166,22 @@ impl Calls for Loaded {
 
     fn unpack(&self, kind: u8, stream: &[u8], out: &mut [u8]) -> Fields {
         packed(self.unpack, kind, stream, out)
+    }
+
+    fn unescape(&self, text: &[u8], out: &mut [u8]) -> Option<Fields> {
+        let call = self.unescape?;
+        let mut answer = [0; 5];
+        // SAFETY: as in the wrapper `feed`: the text is a live slice with its own length, only read;
+        // `out` is lent for writing, and overlaps nothing; `answer` is five numbers of this frame.
+        unsafe {
+            call(
+                text.as_ptr(),
+                text.len(),
+                out.as_mut_ptr(),
+                out.len(),
+                answer.as_mut_ptr(),
+            );
+        }
+        Some(answer)
     }
 }

@@ -7,7 +7,8 @@
 //! is loaded as well: where code lies in memory counts for some percent, and two builds that are
 //! loaded alike lie alike. A copy of the old one as the new one says how much a ratio is worth. Each
 //! build packs the streams that it is measured on: builds from before and after request b write other
-//! checks, and refuse each other's.
+//! checks, and refuse each other's. Sets of a form and calls that the old build doesn't have are left
+//! out.
 
 #[allow(unsafe_code)]
 mod loaded;
@@ -21,7 +22,7 @@ use std::path::Path;
 use build::{fnv1a, payload, BLOCK, PAYLOAD, VALUE};
 use loaded::Loaded;
 use measure::{measure, Times};
-use sets::{Family, FAMILIES};
+use sets::{escaped_texts, Family, FAMILIES};
 use trials::generate::Streams;
 use trials::{Fields, Machine, Reference};
 
@@ -38,6 +39,8 @@ trait Calls {
     ) -> Fields;
     fn pack(&self, kind: u8, payload: &[u8], out: &mut [u8]) -> Fields;
     fn unpack(&self, kind: u8, stream: &[u8], out: &mut [u8]) -> Fields;
+    /// None if the build has no such call.
+    fn unescape(&self, text: &[u8], out: &mut [u8]) -> Option<Fields>;
 }
 
 impl<M: Machine> Calls for M {
@@ -66,6 +69,10 @@ impl<M: Machine> Calls for M {
     fn unpack(&self, kind: u8, stream: &[u8], out: &mut [u8]) -> Fields {
         Machine::unpack(self, kind, stream, out)
     }
+
+    fn unescape(&self, text: &[u8], out: &mut [u8]) -> Option<Fields> {
+        Some(Machine::unescape(self, text, out))
+    }
 }
 
 fn main() -> Result<(), String> {
@@ -79,6 +86,7 @@ fn main() -> Result<(), String> {
         None => {
             speed_table(rounds);
             packing_table(rounds);
+            unescape_table(rounds);
             growth_table(rounds);
         }
     }
@@ -154,6 +162,13 @@ fn unpacking<'a>(machine: &'a dyn Calls, stream: &'a [u8]) -> Thing<'a> {
     let mut out = vec![0; 65_536];
     Box::new(move || {
         black_box(machine.unpack(VALUE, black_box(stream), &mut out));
+    })
+}
+
+fn unescaping<'a>(machine: &'a dyn Calls, text: &'a [u8]) -> Thing<'a> {
+    let mut out = vec![0; text.len()];
+    Box::new(move || {
+        black_box(machine.unescape(black_box(text), &mut out));
     })
 }
 
@@ -287,6 +302,59 @@ fn packing_table(rounds: usize) {
     println!();
 }
 
+/// What unescaping takes, against a pass over the escaped text.
+fn unescape_table(rounds: usize) {
+    let machines = machines();
+    println!("Unescaping of 64,504 characters.\n");
+    let mut cells = ["text", "bytes in", "bytes out", "FNV-1a pass, µs"]
+        .map(String::from)
+        .to_vec();
+    for machine in &machines {
+        cells.push(format!("call / FNV, {}", machine.name()));
+    }
+    for machine in &machines[1..] {
+        cells.push(format!("{} / reference", machine.name()));
+    }
+    header(&cells);
+    for (name, text) in &escaped_texts() {
+        row(&unescape_row(name, text, &machines, rounds));
+    }
+    println!();
+}
+
+fn unescape_row(
+    name: &str,
+    text: &[u8],
+    machines: &[Box<dyn Calls>],
+    rounds: usize,
+) -> Vec<String> {
+    let (fields, _) = unescaped(&Reference, text).expect("the reference unescapes");
+    let mut things = vec![hashing([text])];
+    for machine in machines {
+        things.push(unescaping(&**machine, text));
+    }
+    let times = measure(&mut things, rounds);
+    let (hash, calls) = times.split_first().expect("a hash pass");
+    let mut cells = vec![
+        name.to_string(),
+        text.len().to_string(),
+        fields[4].to_string(),
+        format!("{:.1}", hash.median() * 1e6),
+    ];
+    cells.extend(calls.iter().map(|call| with_quartiles(call.ratio(hash))));
+    let others = calls[1..].iter();
+    cells.extend(others.map(|call| with_quartiles(call.ratio(&calls[0]))));
+    cells
+}
+
+/// What a machine answers and writes on an escaped text, which it must take, if it has the call.
+fn unescaped(machine: &dyn Calls, text: &[u8]) -> Option<(Fields, Vec<u8>)> {
+    let mut out = vec![0; text.len()];
+    let fields = machine.unescape(text, &mut out)?;
+    assert_eq!(fields[0], 0, "{}: unescaping", machine.name());
+    Some((fields, out))
+}
+
 fn growth_table(rounds: usize) {
     let machines = machines();
     println!("Growth from half size to full size; linear growth is a time of at most the input.\n");
@@ -346,6 +414,11 @@ fn against_table(new: Option<&Loaded>, old: &dyn Calls, rounds: usize) {
     );
     row(&against_packing_row(new, old, rounds));
     println!();
+    header(&["text", "bytes in", "unescape, new / old"].map(String::from));
+    for (name, text) in &escaped_texts() {
+        row(&against_unescape_row(name, text, new, old, rounds));
+    }
+    println!();
 }
 
 fn against_row(family: &Family, new: &dyn Calls, old: &dyn Calls, rounds: usize) -> Vec<String> {
@@ -384,10 +457,32 @@ fn against_packing_row(new: &dyn Calls, old: &dyn Calls, rounds: usize) -> Vec<S
     cells
 }
 
-/// The ratios of two calls, each a new one followed by an old one.
-fn new_over_old(mut things: [Thing<'_>; 4], rounds: usize) -> [String; 2] {
+fn against_unescape_row(
+    name: &str,
+    text: &[u8],
+    new: &dyn Calls,
+    old: &dyn Calls,
+    rounds: usize,
+) -> Vec<String> {
+    let mut cells = vec![name.to_string(), text.len().to_string()];
+    let Some(answers) = unescaped(old, text) else {
+        cells.push("no such call in the old".into());
+        return cells;
+    };
+    let same = unescaped(new, text) == Some(answers);
+    assert!(same, "{name}: other answers");
+    let things = [unescaping(new, text), unescaping(old, text)];
+    cells.extend(new_over_old(things, rounds));
+    cells
+}
+
+/// The ratios of some calls, each a new one followed by an old one.
+fn new_over_old<const COUNT: usize>(mut things: [Thing<'_>; COUNT], rounds: usize) -> Vec<String> {
     let times = measure(&mut things, rounds);
-    [0, 2].map(|new| with_quartiles(times[new].ratio(&times[new + 1])))
+    let pairs = times.chunks_exact(2);
+    pairs
+        .map(|pair| with_quartiles(pair[0].ratio(&pair[1])))
+        .collect()
 }
 
 /// The ratio of a thing to itself says how much a ratio is worth.

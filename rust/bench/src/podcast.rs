@@ -12,16 +12,32 @@ const ITEM: u16 = 1;
 const MARK: u16 = 2;
 const RATING: u16 = 3;
 
-/// Classes: titles and notes, addresses, digits and colons, dates.
+/// Classes: titles and notes, addresses, digits and colons, dates; and titles and notes, escaped.
 const TITLE: u16 = 0;
 const ADDRESS: u16 = 1;
 const COUNT: u16 = 2;
 const DATE: u16 = 3;
+const ESCAPED_TITLE: u16 = 4;
 
 /// A feed whose value takes `scale` quarters of 128 blocks.
 pub fn feed(scale: usize) -> Streams {
     let item = item_elements("psc:chapters", Element::Repetition(MARK));
     of(grammar(item, mark_elements()), scale)
+}
+
+/// The same with escaped titles and notes.
+pub fn with_entities(scale: usize) -> Streams {
+    let item = item_elements("psc:chapters", Element::Repetition(MARK));
+    let mut grammar = grammar(item, mark_elements());
+    assert_eq!(grammar.escaped(TITLE), ESCAPED_TITLE);
+    for production in &mut grammar.productions {
+        for element in &mut production.elements {
+            if matches!(element, Element::Class(TITLE)) {
+                *element = Element::Class(ESCAPED_TITLE);
+            }
+        }
+    }
+    of(grammar, scale)
 }
 
 /// The same with each item's marks as a line with commas.

@@ -1,6 +1,6 @@
 //! The sets that are measured: the paper's example, a full-size feed, and sets made to be slow.
 
-use build::{Element, Grammar, Node, Path, Templates, Type, Value};
+use build::{escaped, Element, Grammar, Node, Path, Templates, Type, Value};
 use trials::generate::Streams;
 
 use crate::podcast;
@@ -16,7 +16,7 @@ pub struct Family {
 }
 
 /// All families.
-pub const FAMILIES: [Family; 20] = [
+pub const FAMILIES: [Family; 29] = [
     Family {
         name: "the paper's example",
         set: |_| example(),
@@ -35,6 +35,51 @@ pub const FAMILIES: [Family; 20] = [
     Family {
         name: "podcast feed, chapters with commas",
         set: podcast::with_commas,
+        grows: true,
+    },
+    Family {
+        name: "podcast feed, escaped titles",
+        set: podcast::with_entities,
+        grows: true,
+    },
+    Family {
+        name: "titles with one of the five, plain class",
+        set: |scale| titles(FEW, false, scale),
+        grows: true,
+    },
+    Family {
+        name: "titles with one of the five, escaped class",
+        set: |scale| titles(FEW, true, scale),
+        grows: true,
+    },
+    Family {
+        name: "titles of the five alone, plain class",
+        set: |scale| titles(MANY, false, scale),
+        grows: true,
+    },
+    Family {
+        name: "titles of the five alone, escaped class",
+        set: |scale| titles(MANY, true, scale),
+        grows: true,
+    },
+    Family {
+        name: "one text of 64,504 letters, plain class",
+        set: |scale| one_text("o", false, scale),
+        grows: true,
+    },
+    Family {
+        name: "one text of 64,504 letters, escaped class",
+        set: |scale| one_text("o", true, scale),
+        grows: true,
+    },
+    Family {
+        name: "one text of 64,504 ampersands, escaped class",
+        set: |scale| one_text("&", true, scale),
+        grows: true,
+    },
+    Family {
+        name: "one text of 64,504 quotes, escaped class",
+        set: |scale| one_text("\"", true, scale),
         grows: true,
     },
     Family {
@@ -188,6 +233,51 @@ fn small_feed() -> Streams {
         titles.map(|title| Value::record([title, "https://feeds.example/7"].map(Value::text)));
     let value = Value::record([Value::text("Evenings"), Value::list(items)]);
     Streams::of(&grammar, &templates, &value)
+}
+
+/// Titles of 28 characters: with one that is escaped, and with no other.
+const FEW: &str = "A night of salt & rope ashore";
+const MANY: &str = "<'&'><\"&\"><'&'><\"&\"><'&'><\"";
+
+/// What a lexeme of class 0 is asked for as: plain, or escaped.
+fn asked(grammar: &mut Grammar, escaped: bool) -> Element {
+    Element::Class(match escaped {
+        true => grammar.escaped(0),
+        false => 0,
+    })
+}
+
+/// Entries of one title, again and again.
+fn titles(title: &str, escaped: bool, scale: usize) -> Streams {
+    let mut grammar = entries(1, 40, &[(0x20, 0x7E), (0x370, 0x3FF)]);
+    let element = asked(&mut grammar, escaped);
+    grammar.productions[1].elements[1] = element;
+    let value = Value::list(vec![Value::text(title); 400 * scale]);
+    Streams::of(&grammar, &entries_templates(0), &value)
+}
+
+/// One text of a character again and again, up to all that 128 blocks hold.
+fn one_text(character: &str, escaped: bool, scale: usize) -> Streams {
+    let mut grammar = Grammar::new();
+    grammar.class(0, 65_535, &[(0x20, 0x7E), (0x370, 0x3FF)]);
+    let element = asked(&mut grammar, escaped);
+    grammar.production(0, [element]);
+    let mut templates = Templates::new();
+    let text = templates.text(0);
+    templates.template(0, [text], Node::build(0, [Node::place(Path::variable(0))]));
+    let value = Value::text(character.repeat(16_126 * scale));
+    Streams::of(&grammar, &templates, &value)
+}
+
+/// Texts for the unescape call: escaped forms of 64,504 characters.
+pub fn escaped_texts() -> [(&'static str, Vec<u8>); 4] {
+    let long = |text: &str| escaped(text.repeat(64_504 / text.len()).as_bytes());
+    [
+        ("letters", long("o")),
+        ("titles with one of the five", long(FEW)),
+        ("ampersands", long("&")),
+        ("quotes", long("\"")),
+    ]
 }
 
 /// 64 to 256 classes, each of 28 ranges of one character from high to low, and texts of them.
