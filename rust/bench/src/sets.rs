@@ -235,7 +235,7 @@ fn small_feed() -> Streams {
     Streams::of(&grammar, &templates, &value)
 }
 
-/// Titles of 28 characters: with one that is escaped, and with no other.
+/// Titles of some thirty characters: with one that is escaped, and with no other.
 const FEW: &str = "A night of salt & rope ashore";
 const MANY: &str = "<'&'><\"&\"><'&'><\"&\"><'&'><\"";
 

@@ -1,5 +1,7 @@
 //! The examples: their descriptions give their streams, and their streams their texts.
 
+use kit::description::{ClassForm, Value, ValueForm};
+use kit::parser::parse;
 use kit::{assemble, Streams};
 use std::fs;
 use std::io::Write;
@@ -158,11 +160,10 @@ fn the_podcast_text() {
     assert_eq!(rendered("podcast").1, read("examples/podcast/feed.xml"));
 }
 
-/// An XML parser that is not ours accepts the rendered podcast.
-#[test]
-fn the_podcast_text_is_well_formed() {
+/// What an XML parser that is not ours reads in the rendered podcast.
+fn parsed_podcast() -> String {
     let mut parser = Command::new("python3")
-        .arg(file("rust/kit/tests/well_formed.py"))
+        .arg(file("rust/kit/tests/feed_texts.py"))
         .stdin(Stdio::piped())
         .stdout(Stdio::piped())
         .spawn()
@@ -175,10 +176,53 @@ fn the_podcast_text_is_well_formed() {
         .expect("written");
     let output = parser.wait_with_output().expect("its end");
     assert!(output.status.success());
-    assert_eq!(
-        String::from_utf8_lossy(&output.stdout),
-        "3 items, 6 chapters\n"
-    );
+    String::from_utf8(output.stdout).expect("UTF-8")
+}
+
+/// The texts of a value that are titles and notes, in their order.
+fn titles_and_notes(value: &Value, found: &mut Vec<String>) {
+    match &value.form {
+        ValueForm::List(items) => items.iter().for_each(|item| titles_and_notes(item, found)),
+        ValueForm::Record(children) => {
+            for (label, child) in children {
+                let label = label.as_ref().map(|label| label.word.as_str());
+                match &child.form {
+                    ValueForm::Text(text) if matches!(label, Some("title" | "note")) => {
+                        found.push(String::from_utf8(text.bytes.clone()).expect("UTF-8"));
+                    }
+                    _ => titles_and_notes(child, found),
+                }
+            }
+        }
+        ValueForm::Text(_) | ValueForm::YesNo(_) => {}
+    }
+}
+
+/// The parser gives back exactly what was typed: the plain titles and notes of the description.
+#[test]
+fn the_podcast_says_what_was_typed() {
+    let description = String::from_utf8(read("examples/podcast/feed.txt")).expect("UTF-8");
+    let value = parse(&description).expect("a tree").value.expect("a value");
+    let mut typed = Vec::new();
+    titles_and_notes(&value, &mut typed);
+    assert_eq!(parsed_podcast(), typed.join("\n") + "\n");
+    for part in ["Salt & Rope", "<b>", "\"", "'", "Φωνές"] {
+        assert!(typed.iter().any(|text| text.contains(part)), "{part}");
+    }
+}
+
+/// No class of the podcast takes a control character.
+#[test]
+fn the_podcasts_classes_hold_no_control_character() {
+    let description = String::from_utf8(read("examples/podcast/feed.txt")).expect("UTF-8");
+    for class in parse(&description).expect("a tree").classes {
+        if let ClassForm::Plain { ranges, .. } = class.form {
+            let controls = |&(lowest, highest): &(u32, u32)| {
+                (lowest..=highest).any(|point| char::from_u32(point).is_some_and(char::is_control))
+            };
+            assert!(!ranges.iter().any(controls), "{}", class.name.word);
+        }
+    }
 }
 
 /// The description of escaped classes in the format's page gives the text that it promises.
