@@ -163,36 +163,26 @@ fn of_grammar(label: &str, grammar: &Records) -> Case {
 }
 
 fn layout() -> Vec<Case> {
+    let escaped = |a, b, c, d| record(5, a, b, c, d);
+    let row = record(1, 1, 1, 4, 2);
+    let broken = [
+        ("3 escaped class with c", 3, escaped(1, 0, 1, 0)),
+        ("3 escaped class with a high c", 3, escaped(1, 0, 256, 0)),
+        ("3 escaped class with d", 3, escaped(1, 0, 0, 1)),
+        ("3 escaped class with a high d", 3, escaped(1, 0, 0, 256)),
+        ("3 escaped class of number 0 again", 3, escaped(0, 0, 0, 0)),
+        ("3 escaped class of number 2", 3, escaped(2, 0, 0, 0)),
+        ("3 plain class in a row of its own", 4, row),
+        ("3 class record of kind 6", 3, record(6, 1, 0, 0, 0)),
+    ];
     let ranged = grammar(4).replaced(4..4, vec![range(0x61, 0x7A)]);
-    let last = grammar(4).then(record(5, 5, 0, 0, 0));
-    vec![
-        with("3 escaped class with c", 3, record(5, 1, 0, 1, 0)),
-        with(
-            "3 escaped class with c of a high byte",
-            3,
-            record(5, 1, 0, 256, 0),
-        ),
-        with("3 escaped class with d", 3, record(5, 1, 0, 0, 1)),
-        with(
-            "3 escaped class with d of a high byte",
-            3,
-            record(5, 1, 0, 0, 256),
-        ),
-        with(
-            "3 escaped class of number 0 again",
-            3,
-            record(5, 0, 0, 0, 0),
-        ),
-        with("3 escaped class of number 2", 3, record(5, 2, 0, 0, 0)),
-        with(
-            "3 plain class that goes on a row of its own",
-            4,
-            record(1, 1, 1, 4, 2),
-        ),
-        with("3 class record of kind 6", 3, record(6, 1, 0, 0, 0)),
+    let last = grammar(4).then(escaped(5, 0, 0, 0));
+    let moved = [
         of_grammar("3 range behind an escaped class", &ranged),
         of_grammar("3 escaped class behind a production", &last),
-    ]
+    ];
+    let broken = broken.map(|(label, place, record)| with(label, place, record));
+    broken.into_iter().chain(moved).collect()
 }
 
 /// Rows of plain and escaped classes in turn.
@@ -347,33 +337,10 @@ fn unescaped() -> Vec<Case> {
 
 /// What no escaping makes of well-formed UTF-8, with room and without.
 fn refused() -> Vec<Case> {
-    let texts = [
-        "&",
-        "<",
-        ">",
-        "\"",
-        "'",
-        "&;",
-        "&&",
-        "&amp",
-        "&am",
-        "&a",
-        "&lt",
-        "&gt",
-        "&quot",
-        "&apos",
-        "&#38;",
-        "&#x26;",
-        "&#39;",
-        "&nbsp;",
-        "&AMP;",
-        "&Amp;",
-        "&amp;<",
-        "a & b",
-        "& amp;",
-        "&amp&",
-        "&amp;amp;&",
-    ];
+    let bare = ["&", "<", ">", "\"", "'", "&;", "&&", "a & b", "&amp;<"];
+    let cut = ["&amp", "&am", "&a", "&lt", "&gt", "&quot", "&apos", "&amp&"];
+    let other = ["&#38;", "&#x26;", "&#39;", "&nbsp;", "&AMP;", "&Amp;"];
+    let mixed = ["& amp;", "&amp;amp;&"];
     let bytes: [&[u8]; 6] = [
         &[0x80],
         &[0xC0, 0xA6],
@@ -382,10 +349,12 @@ fn refused() -> Vec<Case> {
         b"&amp;\xCE",
         b"\xCE&lt;\xB1",
     ];
+    let texts = [&bare[..], &cut, &other, &mixed].concat().into_iter();
     let texts = texts.map(|text| (text.to_string(), text.as_bytes()));
     let bytes = bytes.map(|bytes| (format!("{bytes:02x?}"), bytes));
-    let all = texts.into_iter().chain(bytes);
-    all.flat_map(|(name, text)| [9, 0].map(|room| unescape(&name, text, room)))
+    texts
+        .chain(bytes)
+        .flat_map(|(name, text)| [9, 0].map(|room| unescape(&name, text, room)))
         .collect()
 }
 

@@ -236,6 +236,11 @@ impl fmt::Display for Stream {
     }
 }
 
+/// The rule of [`Refusal::NotEscaped`].
+const NOT_ESCAPED: &str =
+    "the text is no escaped one: it has a bare & < > \" or ', a reference other than \
+     &amp; &lt; &gt; &quot; &apos;, or bytes that are no well-formed UTF-8";
+
 impl Refusal {
     /// The refusal's number.
     #[must_use]
@@ -288,10 +293,7 @@ impl Refusal {
                 "a typing rule fails, or a path names a variable or field that isn't there"
             }
             Self::ValueType { .. } => "the value isn't of its declared type",
-            Self::NotEscaped => {
-                "the text is no escaped one: it has a bare & < > \" or ', a reference other than \
-                 &amp; &lt; &gt; &quot; &apos;, or bytes that are no well-formed UTF-8"
-            }
+            Self::NotEscaped => NOT_ESCAPED,
             Self::ScratchTooShort => "the scratch has fewer than 4,800 16-bit numbers",
             Self::FuelSpent { .. } => "a node is reached with all fuel used",
             Self::TooDeep { .. } => "a node is reached at depth 201",

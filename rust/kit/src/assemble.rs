@@ -597,6 +597,10 @@ mod tests {
             .replace("done: yes", "done: no");
         let value = escaped.replace("[\"a\" \"b\"]", "[\"a&\" \"<\"]");
         assert_eq!(text_of(&value), "<t&lt;a&amp;&lt;>");
+        assert_eq!(
+            mistake("type word", "class xml = escaped leter type word"),
+            "no class is named `leter`"
+        );
     }
 
     #[test]
@@ -631,10 +635,6 @@ mod tests {
         assert_eq!(
             mistake("text letter", "text page"),
             "no class is named `page`"
-        );
-        assert_eq!(
-            mistake("type word", "class xml = escaped leter type word"),
-            "no class is named `leter`"
         );
         assert_eq!(mistake("list word", "list wrd"), "no type is named `wrd`");
         assert_eq!(

@@ -158,8 +158,8 @@ fn example() -> Streams {
     Streams::of(&grammar, &templates, &value)
 }
 
-/// All forms of records in one set: every class, element, type, node and value.
-fn all_forms() -> Streams {
+/// Classes of both kinds, and every form of element.
+fn every_element() -> Grammar {
     let keyword = |text: &str| Element::keyword(text);
     let mut grammar = Grammar::new();
     grammar.class(0, 9, &[(0x26, 0x3C), (0x61, 0x7A), (0x1F00, 0x1FFF)]);
@@ -175,6 +175,11 @@ fn all_forms() -> Streams {
     grammar.production(7, [keyword("a longer keyword")]);
     grammar.production(7, []);
     grammar.production(6, [escaped.clone(), escaped]);
+    grammar
+}
+
+/// All forms of records in one set: every class, element, type, node and value.
+fn all_forms() -> Streams {
     let mut templates = Templates::new();
     let text = templates.text(0);
     let yes_no = templates.yes_no();
@@ -198,7 +203,7 @@ fn all_forms() -> Streams {
         |text: &str| Value::record([Value::text(""), Value::YesNo(true), Value::text(text)]);
     let list = Value::list([entry("abc&def'i"), entry("ἄἄ")]);
     let value = Value::record([list, Value::YesNo(false)]);
-    Streams::of(&grammar, &templates, &value)
+    Streams::of(&every_element(), &templates, &value)
 }
 
 /// Tries some values at every byte of every stream of a set, with the checks mended and as found.

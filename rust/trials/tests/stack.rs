@@ -141,26 +141,12 @@ fn deepest_trees() -> Vec<Case> {
 
 /// Walks over one child a level.
 fn narrow_walks() -> Vec<Case> {
-    let lexeme = Node::build(3, [Node::literal(LETTERS.repeat(100))]);
-    let escaped = Node::build(5, [Node::literal("α&amp;".repeat(100))]);
     vec![
         (
             "200 levels of builds and of values",
             templates([below(199, nothing())]),
             lists(200),
             [0, 0, 0, 200, 398],
-        ),
-        (
-            "a lexeme below 199 levels",
-            templates([below(198, lexeme)]),
-            lists(1),
-            [0, 0, 0, 200, 396 + 100 * LETTERS.len() as u64],
-        ),
-        (
-            "an escaped lexeme below 199 levels",
-            templates([below(198, escaped)]),
-            lists(1),
-            [0, 0, 0, 200, 396 + 700],
         ),
         (
             "a template that expands itself",
@@ -179,6 +165,26 @@ fn narrow_walks() -> Vec<Case> {
             templates([each(expand(0, 1))]),
             lists(51),
             [11, 2, 3, 201, 50],
+        ),
+    ]
+}
+
+/// Literals in the positions of the class of many ranges and of its escaped form.
+fn deep_lexemes() -> Vec<Case> {
+    let lexeme = Node::build(3, [Node::literal(LETTERS.repeat(100))]);
+    let escaped = Node::build(5, [Node::literal("α&amp;".repeat(100))]);
+    vec![
+        (
+            "a lexeme below 199 levels",
+            templates([below(198, lexeme)]),
+            lists(1),
+            [0, 0, 0, 200, 396 + 100 * LETTERS.len() as u64],
+        ),
+        (
+            "an escaped lexeme below 199 levels",
+            templates([below(198, escaped)]),
+            lists(1),
+            [0, 0, 0, 200, 396 + 700],
         ),
     ]
 }
@@ -246,7 +252,15 @@ fn wide_walks() -> Vec<Case> {
 /// All cases, for a grammar whose class of many ranges has this number.
 fn cases(class: u16) -> Vec<Case> {
     let texts = vec![text_in_lists(), escaped_text(class)];
-    [deepest_trees(), narrow_walks(), texts, wide_walks()].concat()
+    let lexemes = deep_lexemes();
+    [
+        deepest_trees(),
+        narrow_walks(),
+        lexemes,
+        texts,
+        wide_walks(),
+    ]
+    .concat()
 }
 
 /// A text that takes an unescape call through entities and characters of every length.
