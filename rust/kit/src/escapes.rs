@@ -94,7 +94,10 @@ fn node_standing(grammar: &[Record], templates: &[Record], node: usize) -> Optio
     match head.a() {
         1 => {
             let text = text_bytes(templates, node, usize::from(head.b()))?;
-            said.push("a literal is written as it stands, so it is the escaped text".to_string());
+            said.push(
+                "a literal is written as it stands, so it must be the escaped text itself"
+                    .to_string(),
+            );
             said.extend(literal_found(&text, all.get(usize::from(plain))));
         }
         2 => said.push(format!("a place here has a text of class {plain}")),
@@ -241,7 +244,7 @@ mod tests {
             lines[..2],
             [
                 "class 2, the escaped form of class 0, is asked for here",
-                "a literal is written as it stands, so it is the escaped text"
+                "a literal is written as it stands, so it must be the escaped text itself"
             ]
         );
         lines[2..].to_vec()
