@@ -1,9 +1,9 @@
 -- What a check says, when it finds nothing and when it does: laws for each way in which checks are put together.
 use mathlib.Core.Path.{_≡_, refl, sym, ap, subst, _∙_}
-use mathlib.Core.Logic.{_↔_}
+use mathlib.Core.Logic.{_↔_, _⊎_, inl, inr}
 use Prim.Native.Nat.{ℕ, zero, suc, _-_, _≤_, _<_}
-use mathlib.Core.List.{List, [], _∷_, map}
-use mathlib.Core.Bool.{Bool, true, false, _&&_, false≢true}
+use mathlib.Core.List.{List, [], _∷_, _++_, map}
+use mathlib.Core.Bool.{Bool, true, false, _&&_, _||_, false≢true}
 use mathlib.Core.Option.{Option, none, some, Option·some-ne-none, Option·none-ne-some, Option·some-injective}
 use native.Mathlib.Omega.{arith}
 use lib.Dec.{eqb, leb, ltb}
@@ -105,6 +105,11 @@ pub in-map : {A B : Type 0} (f : A → B) {x : A} {xs : List A} → In x xs → 
 in-map f (here xs) = here _
 in-map f (later y xs i) = later _ _ (in-map f i)
 
+pub in-append : {A : Type 0} {x : A} (xs ys : List A) → In x (xs ++ ys) → In x xs ⊎ In x ys
+in-append [] ys i = inr i
+in-append (y ∷ xs) ys (here _) = inl (here xs)
+in-append (y ∷ xs) ys (later _ _ i) = elim (in-append xs ys i) [ inl j ↦ inl (later y xs j) | inr j ↦ inr j ]
+
 pub every-in : {A B : Type 0} (f : A → Option B) {x : A} {xs : List A} → every f xs ≡ none → In x xs → f x ≡ none
 unfolding every
 every-in f e (here xs) = both-none _ _ e .0
@@ -187,6 +192,10 @@ and-true false b e = absurd (false≢true e)
 pub and-iff : (a b : Bool) → ((a && b) ≡ true) ↔ ((a ≡ true) × (b ≡ true))
 and-iff true b = (and-true true b, λ e. e .1)
 and-iff false b = (and-true false b, λ e. absurd (false≢true (e .0)))
+
+pub or-iff : (a b : Bool) → ((a || b) ≡ true) ↔ ((a ≡ true) ⊎ (b ≡ true))
+or-iff true b = (λ e. inl refl, λ e. refl)
+or-iff false b = (inr, λ e. elim e [ inl h ↦ absurd (false≢true h) | inr h ↦ h ])
 
 pub eqb-iff : (a b : ℕ) → (eqb a b ≡ true) ↔ (a ≡ b)
 eqb-iff a b = (eqb-true a b, eq-eqb a b)

@@ -2,7 +2,7 @@
 use Prim.Native.Nat.{ℕ, zero, suc, _+_, _-_, _*_, _≤_, _<_}
 use mathlib.Core.Path.{_≡_, refl, ap, sym, _∙_}
 use mathlib.Core.List.{List, _++_}
-use mathlib.Core.Bool.{Bool, true, false, _||_, or-false, or-true, or-assoc}
+use mathlib.Core.Bool.{Bool, true, false, _&&_, _||_, or-false, or-true, or-assoc}
 use mathlib.Core.Option.{none, some, Option·some-injective}
 use native.Mathlib.Omega.{arith}
 use native.Mathlib.Nat.{sub-zero, add-zero}
@@ -14,7 +14,7 @@ use borrow.Rule.Slice.PartMut.{putMid, same-len-mid}
 use Rattle.rules.specs.Blocks.{streamLength}
 use Rattle.rules.specs.Records.{fieldD, heads, row, nth}
 use Rattle.rules.specs.Grammar.{classes, class}
-use Rattle.rules.specs.Lexeme.{within, lowest, highest, ranges, inSome}
+use Rattle.rules.specs.Lexeme.{within, lowest, highest, ranges, inSome, isXmlChar, isOfClass}
 use Rattle.laws.specs.Lists.{nth-some, nth-within}
 use Rattle.laws.specs.Rows.{row-more, row-done}
 use Rattle.records.specs.declared.range.Range.{Range}
@@ -87,15 +87,17 @@ fill-turn g p count q k set₁ set₂ r f l e s h = record {
       ∙ f .same x m;
 }
 
-pub fill-end : (g : List ℕ) (p count q k : ℕ) (set₁ : List ℕ) → SetFilling g p count q k set₁ → count ≤ k → ClassSet g p set₁
-unfolding inSome
-fill-end g p count q k set₁ f l = record {
+pub fill-end : (g : List ℕ) (p count q k : ℕ) (set₁ set₂ : List ℕ) → SetFilling g p count q k set₁ → count ≤ k → length set₂ ≡ length set₁
+    → ((x : ℕ) → x < 2048 → isIn set₂ x ≡ (isXmlChar x && isIn set₁ x)) → ClassSet g p set₂
+unfolding inSome isOfClass
+fill-end g p count q k set₁ set₂ f l s h = record {
   grammar-sized = f .grammar-sized;
-  size = f .size;
-  same = λ x m.
+  size = s ∙ f .size;
+  same = λ x m. h x m ∙ ap (λ (b : Bool). isXmlChar x && b) (
       sym (or-false (isIn set₁ x))
       ∙ ap (λ (rs : List ℕ). isIn set₁ x || inSome g rs x) (sym (row-done count q k l))
-      ∙ f .same x m;
+      ∙ f .same x m
+      );
 }
 
 -- the sets of the first n classes

@@ -1,5 +1,6 @@
 pub mod BitLaws
 pub mod SetLaws
+pub mod XmlLaws
 pub mod ScanLaws
 pub mod StepLaws
 pub mod RunLaws

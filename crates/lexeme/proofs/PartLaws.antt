@@ -12,7 +12,7 @@ use lib.Dec.{eqb, leb}
 use lib.Pow.{pow-add, pow-mono}
 use borrow.Author.Tests.{lt-leb, eqb-true, eqb-false, leb-true}
 use Rattle.rules.specs.Records.{fieldB, fieldC}
-use Rattle.rules.specs.Lexeme.{Decoding, between, inside, broken, firstByte, laterByte, nextByte, inSome, allInSome, within, ranges}
+use Rattle.rules.specs.Lexeme.{Decoding, between, inside, broken, firstByte, laterByte, nextByte, isOfClass, allOfClass, within, ranges}
 use Rattle.lexeme.specs.declared.scan.Scan.{Scan}
 use Rattle.lexeme.specs.declared.runs.TextRun.{TextRun}
 use Rattle.lexeme.specs.Sets.{ClassSet}
@@ -79,7 +79,7 @@ whole-later due low high bits b z s l h f =
 module _ (g rs : List ℕ) (n : ℕ) (d : Decoding) where
   tidy-judged : Whole d → judged g rs n d .good ≡ true → Tidy (judged g rs n d)
   unfolding judged midway stopped clean
-  tidy-judged w = by-test (λ (s : Scan). s .good ≡ true → Tidy s) (d .valid && allInSome g rs (d .characters)) (λ e f. record {
+  tidy-judged w = by-test (λ (s : Scan). s .good ≡ true → Tidy s) (d .valid && allOfClass g rs (d .characters)) (λ e f. record {
     good = refl;
     fresh = λ z. let q = w .fresh z in rw (z, q .0, q .1, q .2);
     from = w .from;
@@ -90,15 +90,15 @@ module _ (g rs : List ℕ) (n : ℕ) (d : Decoding) where
 
   count-judged : Whole d → judged g rs n d .count ≤ n + 1
   unfolding judged midway stopped
-  count-judged w = by-test (λ (s : Scan). s .count ≤ n + 1) (d .valid && allInSome g rs (d .characters)) (λ e. omega (arith, w .single)) (λ e. omega arith)
+  count-judged w = by-test (λ (s : Scan). s .count ≤ n + 1) (d .valid && allOfClass g rs (d .characters)) (λ e. omega (arith, w .single)) (λ e. omega arith)
 
   grow-judged : judged g rs n d .good ≡ true → n ≤ judged g rs n d .count
   unfolding judged midway stopped
-  grow-judged = by-test (λ (s : Scan). s .good ≡ true → n ≤ s .count) (d .valid && allInSome g rs (d .characters)) (λ e f. omega arith) (λ e f. absurd (false≢true f))
+  grow-judged = by-test (λ (s : Scan). s .good ≡ true → n ≤ s .count) (d .valid && allOfClass g rs (d .characters)) (λ e f. omega arith) (λ e f. absurd (false≢true f))
 
   stop-judged : judged g rs n d .good ≡ false → judged g rs n d ≡ stopped
   unfolding judged midway
-  stop-judged = by-test (λ (s : Scan). s .good ≡ false → s ≡ stopped) (d .valid && allInSome g rs (d .characters)) (λ e f. absurd (true≢false f)) (λ e f. refl)
+  stop-judged = by-test (λ (s : Scan). s .good ≡ false → s ≡ stopped) (d .valid && allOfClass g rs (d .characters)) (λ e f. absurd (true≢false f)) (λ e f. refl)
 
 good-midway : (s : Scan) → s .good ≡ true → s ≡ midway (s .count) (s .due) (s .low) (s .high) (s .bits)
 unfolding midway
@@ -258,7 +258,7 @@ module _ (g rs : List ℕ) (s r : Scan) (b : ℕ) (t : Tidy s) (z : 0 < s .due) 
   pub later-over : s .high < b → r ≡ stopped → r ≡ seen g rs s b
   later-over l e = e ∙ sym (step-later g rs s b t z ∙ ap (judged g rs (s .count)) (later-high (s .due) (s .low) (s .high) (s .bits) b l) ∙ judge-stop g rs (s .count))
 
-  pub later-ends : s .low ≤ b → b ≤ s .high → s .due ≡ 1 → (v : Bool) → v ≡ inSome g rs (s .bits * 64 + (b - 0x80)) → r ≡ cond v (clean (s .count + 1)) stopped → r ≡ seen g rs s b
+  pub later-ends : s .low ≤ b → b ≤ s .high → s .due ≡ 1 → (v : Bool) → v ≡ isOfClass g rs (s .bits * 64 + (b - 0x80)) → r ≡ cond v (clean (s .count + 1)) stopped → r ≡ seen g rs s b
   later-ends l m d v f e =
       e ∙ sym (step-later g rs s b t z ∙ ap (judged g rs (s .count)) (later-last (s .due) (s .low) (s .high) (s .bits) b l m d) ∙ judge-char g rs (s .count) (s .bits * 64 + (b - 0x80)) v f)
 

@@ -11,7 +11,7 @@ use borrow.Author.Tests.{ne-eqb}
 use Rattle.rules.specs.Faults.{onFound}
 use Rattle.rules.specs.Records.{kindOf, fieldB, fieldC}
 use Rattle.rules.specs.Grammar.{class, plainClass}
-use Rattle.rules.specs.Lexeme.{Decoding, between, inside, broken, firstByte, laterByte, nextByte, decode, decoded, charactersOf, inSome, allInSome, admits, ranges, within, isPlainLexeme}
+use Rattle.rules.specs.Lexeme.{Decoding, between, inside, broken, firstByte, laterByte, nextByte, decode, decoded, charactersOf, isOfClass, allOfClass, admits, ranges, within, isPlainLexeme}
 use Rattle.laws.specs.Faults.{on-some, on-none, only-no}
 use Rattle.laws.specs.Sorts.{plain-class-iff}
 use Rattle.lexeme.specs.declared.scan.Scan.{Scan}
@@ -27,32 +27,32 @@ same-test f h true p q = p
 same-test f h false p q = q
 
 module _ (g rs : List ℕ) where
-  all-append : (xs ys : List ℕ) → allInSome g rs (xs ++ ys) ≡ (allInSome g rs xs && allInSome g rs ys)
-  unfolding allInSome
+  all-append : (xs ys : List ℕ) → allOfClass g rs (xs ++ ys) ≡ (allOfClass g rs xs && allOfClass g rs ys)
+  unfolding allOfClass
   all-append [] ys = refl
-  all-append (x ∷ xs) ys = ap (λ (b : Bool). inSome g rs x && b) (all-append xs ys) ∙ sym (and-assoc (inSome g rs x) (allInSome g rs xs) (allInSome g rs ys))
+  all-append (x ∷ xs) ys = ap (λ (b : Bool). isOfClass g rs x && b) (all-append xs ys) ∙ sym (and-assoc (isOfClass g rs x) (allOfClass g rs xs) (allOfClass g rs ys))
 
   -- characters are judged once and need not be kept
   kept : List ℕ → ℕ → Decoding → Scan
-  kept cs n d = cond (allInSome g rs cs) (judged g rs (n + length cs) d) stopped
+  kept cs n d = cond (allOfClass g rs cs) (judged g rs (n + length cs) d) stopped
 
   judge-ended : (cs : List ℕ) (x n : ℕ) → judged g rs n (between (cs ++ x ∷ [])) ≡ kept cs n (between (x ∷ []))
   unfolding judged between kept
-  judge-ended cs x n = rw (all-append cs (x ∷ []), length-append cs (x ∷ []), ← add-assoc n (length cs) 1) (go (allInSome g rs cs))
+  judge-ended cs x n = rw (all-append cs (x ∷ []), length-append cs (x ∷ []), ← add-assoc n (length cs) 1) (go (allOfClass g rs cs))
     where
       go : (a : Bool)
-          → cond (a && allInSome g rs (x ∷ [])) (midway (n + length cs + 1) 0 0 0 0) stopped
-          ≡ cond a (cond (allInSome g rs (x ∷ [])) (midway (n + length cs + 1) 0 0 0 0) stopped) stopped
+          → cond (a && allOfClass g rs (x ∷ [])) (midway (n + length cs + 1) 0 0 0 0) stopped
+          ≡ cond a (cond (allOfClass g rs (x ∷ [])) (midway (n + length cs + 1) 0 0 0 0) stopped) stopped
       go true = refl
       go false = refl
 
   judge-inside : (cs : List ℕ) (due low high bits n : ℕ) → judged g rs n (inside cs due low high bits) ≡ kept cs n (inside [] due low high bits)
-  unfolding judged inside kept allInSome
+  unfolding judged inside kept allOfClass
   judge-inside cs due low high bits n = rw (add-zero (n + length cs))
 
   judge-broken : (cs : List ℕ) (n : ℕ) → judged g rs n broken ≡ kept cs n broken
   unfolding judged broken kept
-  judge-broken cs n = go (allInSome g rs cs)
+  judge-broken cs n = go (allOfClass g rs cs)
     where
       go : (a : Bool) → stopped ≡ cond a stopped stopped
       go true = refl
@@ -104,12 +104,12 @@ module _ (g rs : List ℕ) where
   seen-midway n due low high bits b = refl
 
   -- a byte more of a decoding is a byte more of its scan
-  live : (d : Decoding) → d .valid ≡ true → allInSome g rs (d .characters) ≡ true
+  live : (d : Decoding) → d .valid ≡ true → allOfClass g rs (d .characters) ≡ true
       → judged g rs 0 d ≡ midway (length (d .characters)) (d .due) (d .low) (d .high) (d .bits)
   unfolding judged
   live d e f = rw (e, f, zero-add)
 
-  dead : (d : Decoding) → (d .valid && allInSome g rs (d .characters)) ≡ false → judged g rs 0 d ≡ stopped
+  dead : (d : Decoding) → (d .valid && allOfClass g rs (d .characters)) ≡ false → judged g rs 0 d ≡ stopped
   unfolding judged
   dead d e = rw e
 
@@ -117,11 +117,11 @@ module _ (g rs : List ℕ) where
   unfolding bare inside
   bare-valid d e = ap (λ (v : Bool). record { valid = v; due = d .due; low = d .low; high = d .high; bits = d .bits; characters = [] }) e
 
-  kept-all : (cs : List ℕ) (d : Decoding) → allInSome g rs cs ≡ true → kept cs 0 d ≡ judged g rs (length cs) d
+  kept-all : (cs : List ℕ) (d : Decoding) → allOfClass g rs cs ≡ true → kept cs 0 d ≡ judged g rs (length cs) d
   unfolding kept
   kept-all cs d e = rw (e, zero-add)
 
-  kept-none : (cs : List ℕ) (d : Decoding) → allInSome g rs cs ≡ false → kept cs 0 d ≡ stopped
+  kept-none : (cs : List ℕ) (d : Decoding) → allOfClass g rs cs ≡ false → kept cs 0 d ≡ stopped
   unfolding kept
   kept-none cs d e = rw e
 
@@ -130,15 +130,15 @@ module _ (g rs : List ℕ) where
   next-invalid d b e = rw e
 
   view-next : (d : Decoding) (b : ℕ) → judged g rs 0 (nextByte d b) ≡ seen g rs (judged g rs 0 d) b
-  view-next d b = go (d .valid) refl (allInSome g rs (d .characters)) refl
+  view-next d b = go (d .valid) refl (allOfClass g rs (d .characters)) refl
     where
       cs : List ℕ
       cs = d .characters
 
-      stop : (d .valid && allInSome g rs (d .characters)) ≡ false → judged g rs 0 (nextByte d b) ≡ stopped → judged g rs 0 (nextByte d b) ≡ seen g rs (judged g rs 0 d) b
+      stop : (d .valid && allOfClass g rs (d .characters)) ≡ false → judged g rs 0 (nextByte d b) ≡ stopped → judged g rs 0 (nextByte d b) ≡ seen g rs (judged g rs 0 d) b
       stop e f = f ∙ sym (ap (λ (s : Scan). seen g rs s b) (dead d e) ∙ seen-stopped b)
 
-      go : (v : Bool) → d .valid ≡ v → (a : Bool) → allInSome g rs (d .characters) ≡ a → judged g rs 0 (nextByte d b) ≡ seen g rs (judged g rs 0 d) b
+      go : (v : Bool) → d .valid ≡ v → (a : Bool) → allOfClass g rs (d .characters) ≡ a → judged g rs 0 (nextByte d b) ≡ seen g rs (judged g rs 0 d) b
       go true e true f =
           judge-next d 0 b
           ∙ kept-all (d .characters) (nextByte (bare d) b) f
@@ -153,7 +153,7 @@ module _ (g rs : List ℕ) where
   view-decode d (b ∷ bs) = view-decode (nextByte d b) bs ∙ ap (λ (s : Scan). scanned g rs s bs) (view-next d b)
 
   view-start : judged g rs 0 (between []) ≡ clean 0
-  unfolding judged between clean midway allInSome
+  unfolding judged between clean midway allOfClass
   view-start = refl
 
   pub scanned-append : (s : Scan) (xs ys : List ℕ) → scanned g rs s (xs ++ ys) ≡ scanned g rs (scanned g rs s xs) ys
@@ -172,9 +172,9 @@ passes g p s = s .good && (eqb (s .due) 0 && within (fieldB g p) (fieldC g p) (s
 
 judges : (g : List ℕ) (p : ℕ) (d : Decoding) → onFound (decoded d) false (admits g p) ≡ passes g p (judged g (ranges g p) 0 d)
 unfolding decoded onFound admits passes judged midway stopped
-judges g p d = go (d .valid) refl (eqb (d .due) 0) refl (allInSome g (ranges g p) (d .characters)) refl
+judges g p d = go (d .valid) refl (eqb (d .due) 0) refl (allOfClass g (ranges g p) (d .characters)) refl
   where
-    go : (v : Bool) → d .valid ≡ v → (e : Bool) → eqb (d .due) 0 ≡ e → (a : Bool) → allInSome g (ranges g p) (d .characters) ≡ a
+    go : (v : Bool) → d .valid ≡ v → (e : Bool) → eqb (d .due) 0 ≡ e → (a : Bool) → allOfClass g (ranges g p) (d .characters) ≡ a
         → onFound (decoded d) false (admits g p) ≡ passes g p (judged g (ranges g p) 0 d)
     go true ev true ee true ea = rw (ev, ee, ea, zero-add) (rw ee (and-true (within (fieldB g p) (fieldC g p) (length (d .characters)))))
     go true ev true ee false ea = rw (ev, ee, ea) (and-false (within (fieldB g p) (fieldC g p) (length (d .characters))))

@@ -1,5 +1,5 @@
 -- A set as it is filled: one number of it, all of some numbers, and with these a range.
-use Prim.Native.Nat.{ℕ, zero, suc, _+_, _-_, _*_, _/_, _%_, min, max, _≤_, _<_}
+use Prim.Native.Nat.{ℕ, zero, suc, _+_, _*_, _/_, _%_, min, max, _≤_, _<_}
 use mathlib.Core.Path.{_≡_, refl, ap, ap₂, sym, _∙_}
 use mathlib.Core.List.{List, _++_, append-nil}
 use mathlib.Core.Bool.{Bool, true, false, _&&_, _||_, and-false, or-false, or-true}
@@ -16,10 +16,10 @@ use Rattle.lexeme.specs.Sets.{bitAt, isIn, Added, Filled}
 use Rattle.lexeme.proofs.BitLaws.{bit-or, bit-ones}
 
 -- no character below its lowest or above its highest is in a range
-none-below : (low high x : ℕ) → x < low → within low high x ≡ false
+pub none-below : (low high x : ℕ) → x < low → within low high x ≡ false
 none-below low high x l = rw (lt-leb low x l)
 
-none-above : (low high x : ℕ) → high < x → within low high x ≡ false
+pub none-above : (low high x : ℕ) → high < x → within low high x ≡ false
 none-above low high x l = ap (λ (b : Bool). leb low x && b) (lt-leb x high l) ∙ and-false (leb low x)
 
 -- one number: its own characters, and those of the others

@@ -6,7 +6,7 @@ use mathlib.Core.Bool.{Bool, true, false, cond}
 use native.Mathlib.Nat.{add-zero}
 use lib.Dec.{leb}
 use borrow.Author.Tests.{le-leb, lt-leb, ne-eqb}
-use Rattle.rules.specs.Lexeme.{between, inside, broken, firstByte, laterByte, nextByte, inSome, allInSome}
+use Rattle.rules.specs.Lexeme.{between, inside, broken, firstByte, laterByte, nextByte, isOfClass, allOfClass}
 use Rattle.laws.specs.FirstBytes.{leastNext, mostNext, first-plain, first-two, first-three, first-four, first-low, first-high}
 use Rattle.lexeme.specs.declared.scan.Scan.{Scan}
 use Rattle.lexeme.specs.Scan.{midway, clean, stopped, judged, seen}
@@ -43,13 +43,13 @@ module _ (g rs : List ℕ) where
   unfolding nextByte inside
   seen-later n due low high bits b l = seen-midway g rs n due low high bits b ∙ rw (ne-eqb due 0 l)
 
-  pub judge-char : (n x : ℕ) (v : Bool) → v ≡ inSome g rs x → judged g rs n (between (x ∷ [])) ≡ cond v (clean (n + 1)) stopped
-  unfolding judged between allInSome clean
+  pub judge-char : (n x : ℕ) (v : Bool) → v ≡ isOfClass g rs x → judged g rs n (between (x ∷ [])) ≡ cond v (clean (n + 1)) stopped
+  unfolding judged between allOfClass clean
   judge-char n x true e = rw (sym e)
   judge-char n x false e = rw (sym e)
 
   pub judge-midway : (n due low high bits : ℕ) → judged g rs n (inside [] due low high bits) ≡ midway n due low high bits
-  unfolding judged inside allInSome
+  unfolding judged inside allOfClass
   judge-midway n due low high bits = rw add-zero
 
   pub judge-stop : (n : ℕ) → judged g rs n broken ≡ stopped
@@ -73,5 +73,5 @@ module _ (n b : ℕ) (r : Scan) (g rs : List ℕ) where
   pub lead-four : 0xf0 ≤ b → b ≤ 0xf4 → (low high : ℕ) → low ≡ leastNext b → high ≡ mostNext b → r ≡ midway n 3 low high (b - 0xf0) → r ≡ judged g rs n (firstByte [] b)
   lead-four l m low high p q e = (rw (p, q) at e) ∙ sym (ap (judged g rs n) (first-four b l m) ∙ judge-midway g rs n 3 (leastNext b) (mostNext b) (b - 0xf0))
 
-  pub plain-judged : b < 0x80 → (v : Bool) → v ≡ inSome g rs b → r ≡ cond v (clean (n + 1)) stopped → r ≡ judged g rs n (firstByte [] b)
+  pub plain-judged : b < 0x80 → (v : Bool) → v ≡ isOfClass g rs b → r ≡ cond v (clean (n + 1)) stopped → r ≡ judged g rs n (firstByte [] b)
   plain-judged l v f e = e ∙ sym (ap (judged g rs n) (first-plain b l) ∙ judge-char g rs n b v f)

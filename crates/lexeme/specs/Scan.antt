@@ -4,8 +4,7 @@ use mathlib.Core.Path.{_≡_}
 use mathlib.Core.List.{List, [], _∷_}
 use mathlib.Core.Bool.{true, false, cond, _&&_}
 use lib.ListN.{length}
-use lib.Dec.{eqb}
-use Rattle.rules.specs.Lexeme.{Decoding, nextByte, allInSome}
+use Rattle.rules.specs.Lexeme.{Decoding, nextByte, allOfClass}
 use Rattle.lexeme.specs.declared.scan.Scan.{Scan}
 use Rattle.lexeme.specs.Sets.{ClassSet}
 
@@ -26,7 +25,7 @@ further s n = record { good = s .good; due = s .due; low = s .low; high = s .hig
 -- a decoding as the scan knows it, n characters having gone before; rs are the class's ranges in the grammar g
 unfoldable pub judged : List ℕ → List ℕ → ℕ → Decoding → Scan
 judged g rs n d =
-    cond (d .valid && allInSome g rs (d .characters))
+    cond (d .valid && allOfClass g rs (d .characters))
     (midway (n + length (d .characters)) (d .due) (d .low) (d .high) (d .bits))
     stopped
 

@@ -2,13 +2,13 @@
 use Prim.Native.Nat.{ℕ, _+_, _*_, _/_, _%_, _≤_, _<_, _^_}
 use mathlib.Core.Path.{_≡_}
 use mathlib.Core.List.{List}
-use mathlib.Core.Bool.{Bool, true, _||_}
+use mathlib.Core.Bool.{Bool, true, _&&_, _||_}
 use mathlib.Core.Option.{none, some}
 use lib.ListN.{length, getD, take, drop}
 use lib.Dec.{eqb}
 use Rattle.rules.specs.Blocks.{streamLength}
 use Rattle.rules.specs.Grammar.{classes, class}
-use Rattle.rules.specs.Lexeme.{within, ranges, inSome}
+use Rattle.rules.specs.Lexeme.{within, ranges, isXmlChar, isOfClass}
 
 -- bit j of a number
 unfoldable pub bitAt : ℕ → ℕ → Bool
@@ -33,12 +33,17 @@ pub record Filled (from to : ℕ) (before after : List ℕ) : Type 0 where
   pub below : (x : ℕ) → x / 16 < from → isIn after x ≡ isIn before x
   pub above : (x : ℕ) → to ≤ x / 16 → isIn after x ≡ isIn before x
 
--- the set of the class whose record is at p: of the characters below U+0800, those in some range of it. It is made only of a grammar that
+-- of the characters of number w, those that XML 1.0 admits stay in a set
+pub record XmlKept (w : ℕ) (before after : List ℕ) : Type 0 where
+  pub here : (x : ℕ) → x / 16 ≡ w → isIn after x ≡ (isXmlChar x && isIn before x)
+  pub other : (x : ℕ) → (x / 16 ≡ w → ⊥) → isIn after x ≡ isIn before x
+
+-- the set of the class whose record is at p: the characters below U+0800 that are of the class. It is made only of a grammar that
 -- refusal 1 let through, so who has a set may fetch the class's records.
 pub record ClassSet (g : List ℕ) (p : ℕ) (set : List ℕ) : Type 0 where
   pub grammar-sized : streamLength g ≡ none
   pub size : length set ≡ 128
-  pub same : (x : ℕ) → x < 2048 → isIn set x ≡ inSome g (ranges g p) x
+  pub same : (x : ℕ) → x < 2048 → isIn set x ≡ isOfClass g (ranges g p) x
 
 -- the set of class n, in the table of all sets
 unfoldable pub setOf : List ℕ → ℕ → List ℕ

@@ -6,7 +6,7 @@ ghost use Prim.Native.Nat.{_≤_, _<_};
 ghost use lib.ListN.{length};
 ghost use Rattle.rules.specs.Blocks.{streamLength};
 ghost use Rattle.rules.specs.Records.{fieldD};
-ghost use Rattle.rules.specs.Lexeme.{within, ranges, inSome};
+ghost use Rattle.rules.specs.Lexeme.{within, ranges, inSome, isOfClass};
 ghost use Rattle.lexeme.specs.Sets.{ClassSet};
 use crate::hints::area;
 use crate::hints::find;
@@ -14,6 +14,7 @@ use crate::hints::guess;
 use crate::sets::CHARACTERS;
 use crate::sets::has;
 use crate::sets::word;
+use crate::xml::is_xml_char;
 use records::range::Range;
 use records::range::range_at;
 use stream::record::fetch;
@@ -100,13 +101,16 @@ fn in_ranges(g: &[u8], p: u16, table: &[u16], x: usize) -> bool
     search(g, p, x)
 }
 
-// A code point of at most 2,047 by its bit in the set, any other by the ranges.
+// Whether x is a character of the class: at most 2,047 by its bit in the set, any other by the ranges and by XML 1.0.
 pub(crate) fn in_class(g: &[u8], p: u16, set: &[u16], table: &[u16], x: usize) -> bool
     requires { ⌜ ClassSet (now g) p (now set) ⌝ }
-    ensures { λ r. ⌜ r ≡ inSome (now (g .entry)) (ranges (now (g .entry)) p) x ⌝ }
+    ensures { λ r. ⌜ r ≡ isOfClass (now (g .entry)) (ranges (now (g .entry)) p) x ⌝ }
 {
     if x < CHARACTERS {
         return has(word(set, x / 64), x);
+    }
+    if !is_xml_char(x) {
+        return false;
     }
     in_ranges(g, p, table, x)
 }

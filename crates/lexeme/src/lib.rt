@@ -1,5 +1,5 @@
-// Lexemes: well-formed UTF-8 with a number of characters from least to most, each in some range of a class. An escaped class has the escaped forms of
-// the lexemes of a plain class.
+// Lexemes: well-formed UTF-8 with a number of characters from least to most, each in some range of a class and one that XML 1.0 admits. An escaped class
+// has the escaped forms of the lexemes of a plain class.
 ghost use mathlib.Core.Path.{_≡_};
 ghost use mathlib.Core.Bool.{false};
 ghost use mathlib.Core.Option.{none, some};
@@ -19,6 +19,7 @@ mod hints;
 mod runs;
 mod scan;
 pub mod sets;
+mod xml;
 
 use entities::entity::plain_in;
 use records::class::is_escaped;

@@ -1,15 +1,16 @@
-// A table filled once per run: for each class the set of its characters below U+0800, one bit each, 16 to a number. What is lent behind the sets
-// takes hints for the characters above.
+// A table filled once per run: for each class the set of its characters below U+0800, one bit each, 16 to a number. It holds only characters that XML 1.0
+// admits, so a text is held against both at once. What is lent behind the sets takes hints for the characters above.
 ghost use mathlib.Core.Path.{_≡_};
 ghost use Prim.Native.Nat.{ℕ, _+_, _-_, _*_, _/_, _%_, min, _≤_, _<_, _^_};
-ghost use mathlib.Core.Bool.{_||_};
+ghost use mathlib.Core.Bool.{_&&_, _||_};
 ghost use mathlib.Core.Option.{none};
 ghost use lib.ListN.{length, replicate};
 ghost use Rattle.rules.specs.Blocks.{streamLength};
-ghost use Rattle.rules.specs.Lexeme.{within};
-ghost use Rattle.lexeme.specs.Sets.{bitAt, isIn, WordOf, ClassSet, Compiled, SetsLent, Added, Filled};
+ghost use Rattle.rules.specs.Lexeme.{within, isXmlChar};
+ghost use Rattle.lexeme.specs.Sets.{bitAt, isIn, WordOf, ClassSet, Compiled, SetsLent, Added, Filled, XmlKept};
 use crate::class::range_count;
 use crate::hints::all_hints;
+use crate::xml::is_xml_char;
 use records::range::range_at;
 
 // The characters that a set tells apart: those that UTF-8 writes in one byte or two.
@@ -142,6 +143,40 @@ fn clear(set: &mut [u16])
     }
 }
 
+// Of the 16 characters of number w, those that XML 1.0 admits.
+fn xml_bits(w: usize) -> u16
+    requires { ⌜ w < 128 ⌝ }
+    ensures { λ r. ⌜ ((j : ℕ) → j < 16 → bitAt r j ≡ isXmlChar (16 * w + j)) ⌝ }
+{
+    let mut bits = 0;
+    let mut j = 0;
+    while j < BITS {
+        let x = BITS * w + j;
+        if is_xml_char(x) {
+            bits = bits | mask(x, x, w);
+        }
+        j += 1;
+    }
+    bits
+}
+
+// Of the characters of number w, only those stay in a set.
+fn keep_xml_at(set: &mut [u16], w: usize)
+    requires { ⌜ (length (now set) ≡ 128) × (w < 128) ⌝ }
+    ensures { λ _. ⌜ XmlKept w (now (set .entry)) (now (set .exit)) ⌝ }
+{
+    set[w] = xml_bits(w) & set[w];
+}
+
+// Only characters that XML 1.0 admits stay in a set. Of those below U+0800 it refuses some of the first 32 and no other.
+fn keep_xml(set: &mut [u16])
+    requires { ⌜ length (now set) ≡ 128 ⌝ }
+    ensures { λ _. ⌜ ((x : ℕ) → x < 2048 → isIn (now (set .exit)) x ≡ (isXmlChar x && isIn (now (set .entry)) x)) ⌝ }
+{
+    keep_xml_at(set, 0);
+    keep_xml_at(set, 1);
+}
+
 // The set of the class whose record is at p.
 fn class_set(g: &[u8], p: u16, set: &mut [u16])
     requires { ⌜ (length (now set) ≡ 128) × (streamLength (now g) ≡ none) ⌝ }
@@ -156,6 +191,7 @@ fn class_set(g: &[u8], p: u16, set: &mut [u16])
         add_range(set, r.lowest, r.highest);
         k += 1;
     }
+    keep_xml(set);
 }
 
 // The sets of all classes, by their numbers: once per run. The hints go first, so that a set is in its place whatever they left there.

@@ -199,7 +199,7 @@ unfolding flatten head size utf8 inUnits class range production keyword lexeme r
     Blocks.fnvStart Blocks.multiplied Blocks.fnv1a Blocks.word32 Blocks.checkOf Blocks.sound Blocks.streamLength Blocks.block Blocks.startOf Blocks.blockRight Blocks.streamBlocks
     Blocks.bytes32 Blocks.checked Blocks.filled Blocks.packedBlock Blocks.packedBlocks packed
     Lexeme.between Lexeme.inside Lexeme.firstByte Lexeme.laterByte Lexeme.nextByte Lexeme.decode Lexeme.decoded Lexeme.charactersOf Lexeme.lowest
-    Lexeme.highest Lexeme.ranges Lexeme.inSome Lexeme.allInSome Lexeme.admits Lexeme.isPlainLexeme Lexeme.isLexeme
+    Lexeme.highest Lexeme.ranges Lexeme.inSome Lexeme.isXmlChar Lexeme.isOfClass Lexeme.allOfClass Lexeme.admits Lexeme.isPlainLexeme Lexeme.isLexeme
     Grammar.textLength Grammar.isClass Grammar.elementSize Grammar.productionSize Grammar.grammarSize Grammar.grammarThings Grammar.classes Grammar.productions Grammar.class Grammar.plainClass
     Grammar.escapedClass Grammar.plainOf
     Grammar.production Grammar.elementNumbered Grammar.elementAt Grammar.elementHeads Grammar.elements Grammar.hasProduction Grammar.nonterminalExists

@@ -80,13 +80,21 @@ unfoldable pub inSome : List ℕ → List ℕ → ℕ → Bool
 inSome g [] x = false
 inSome g (r ∷ rs) x = within (lowest g r) (highest g r) x || inSome g rs x
 
-unfoldable pub allInSome : List ℕ → List ℕ → List ℕ → Bool
-allInSome g rs [] = true
-allInSome g rs (x ∷ xs) = inSome g rs x && allInSome g rs xs
+-- 02 d: "XML 1.0 admits only U+0009, U+000A, U+000D, U+0020-U+D7FF, U+E000-U+FFFD and U+10000-U+10FFFF", its production Char
+unfoldable pub isXmlChar : ℕ → Bool
+isXmlChar x = eqb x 0x9 || eqb x 0xa || eqb x 0xd || within 0x20 0xd7ff x || within 0xe000 0xfffd x || within 0x10000 0x10ffff x
+
+-- "A character of a lexeme must from now on be one of these as well as lie in a range of its class"
+unfoldable pub isOfClass : List ℕ → List ℕ → ℕ → Bool
+isOfClass g rs x = isXmlChar x && inSome g rs x
+
+unfoldable pub allOfClass : List ℕ → List ℕ → List ℕ → Bool
+allOfClass g rs [] = true
+allOfClass g rs (x ∷ xs) = isOfClass g rs x && allOfClass g rs xs
 
 -- "Counts are of characters, never bytes": the class whose record is at p admits the characters
 unfoldable pub admits : List ℕ → ℕ → List ℕ → Bool
-admits g p cs = within (fieldB g p) (fieldC g p) (length cs) && allInSome g (ranges g p) cs
+admits g p cs = within (fieldB g p) (fieldC g p) (length cs) && allOfClass g (ranges g p) cs
 
 -- a lexeme of a plain class
 unfoldable pub isPlainLexeme : List ℕ → ℕ → List ℕ → Bool

@@ -1,19 +1,19 @@
 -- Escaping by characters. 02 c speaks of characters, `escape` goes by bytes; it comes to the same, and an escaped form is well-formed UTF-8 again.
 use mathlib.Core.Path.{_≡_, refl, sym, _∙_, ap, subst}
-use mathlib.Core.Logic.{_↔_}
+use mathlib.Core.Logic.{_↔_, inl, inr}
 use Prim.Native.Nat.{ℕ, _+_, _/_, _%_, _≤_}
 use mathlib.Core.List.{List, [], _∷_, _++_, append-assoc, append-nil}
 use mathlib.Core.Bool.{Bool, true, false, cond, _&&_}
 use native.Mathlib.Omega.{arith}
 use lib.Dec.{leb}
 use Rattle.rules.specs.Escape.{entity, escape}
-use Rattle.laws.specs.Faults.{here, later, and-iff, leb-iff}
+use Rattle.rules.specs.Lexeme.{within}
+use Rattle.laws.specs.Faults.{In, here, later, in-append, and-iff}
 use Rattle.laws.specs.Escapes.{entity-itself}
 use Rattle.theorems.specs.HeadByHead.{in-cons}
 use Rattle.theorems.specs.Least.{in-none}
-use Rattle.theorems.specs.Utf8.{Scalar, AllScalar, encoded, encodedAll}
+use Rattle.theorems.specs.Utf8.{Scalar, AllScalar, encoded, encodedAll, within-iff}
 use Rattle.theorems.specs.Entities.{spelt, Entity, amp, lt, gt, quot, apos, stays, EscapedForm, of-nothing, of-byte, entities-are, escape-exactly}
-use Rattle.theorems.specs.Lexemes.{Lexeme, a-plain, an-escaped}
 use Rattle.theorems.specs.Escaping.{WellFormedUtf8}
 
 -- Texts in a row
@@ -22,7 +22,7 @@ unfolding escape
 escape-append [] ys = refl
 escape-append (x ∷ xs) ys = ap (λ (t : List ℕ). entity x ++ t) (escape-append xs ys) ∙ sym (append-assoc (entity x) _ _)
 
-encoded-append : (xs ys : List ℕ) → encodedAll (xs ++ ys) ≡ encodedAll xs ++ encodedAll ys
+pub encoded-append : (xs ys : List ℕ) → encodedAll (xs ++ ys) ≡ encodedAll xs ++ encodedAll ys
 unfolding encodedAll
 encoded-append [] ys = refl
 encoded-append (x ∷ xs) ys = ap (λ (t : List ℕ). encoded x ++ t) (encoded-append xs ys) ∙ sym (append-assoc (encoded x) _ _)
@@ -76,43 +76,43 @@ form-by-characters cs text = (
   λ h. escape-exactly (encodedAll cs) text .0 (form-encoded (h .1) ∙ sym (h .2)),
 )
 
--- Characters are turned into characters
-unfoldable ascii : List ℕ → Bool
-ascii [] = true
-ascii (c ∷ cs) = leb c 0x7f && ascii cs
+-- What holds of every printable character of ASCII, and of each character of a text, holds of each character of its escaped form.
+unfoldable printable : List ℕ → Bool
+printable [] = true
+printable (c ∷ cs) = within 0x20 0x7e c && printable cs
 
-ascii-scalars : (cs : List ℕ) → ascii cs ≡ true → AllScalar cs
-unfolding ascii
-ascii-scalars [] e x i = absurd (in-none i)
-ascii-scalars (c ∷ cs) e x i =
-    let (h, k) = and-iff (leb c 0x7f) (ascii cs) .0 e in
-    let l : c ≤ 0x7f = leb-iff c 0x7f .0 h in
-    in-cons Scalar (omega arith) (ascii-scalars cs k) i
+module _ (P : ℕ → Type 0) (of-printable : (x : ℕ) → 0x20 ≤ x → x ≤ 0x7e → P x) where
+  all-printable : (cs : List ℕ) → printable cs ≡ true → (x : ℕ) → In x cs → P x
+  unfolding printable
+  all-printable [] e x i = absurd (in-none i)
+  all-printable (c ∷ cs) e x i =
+      let (h, k) = and-iff (within 0x20 0x7e c) (printable cs) .0 e in
+      let (l, m) = within-iff 0x20 0x7e c .0 h in
+      in-cons P (of-printable c l m) (all-printable cs k) i
 
-entity-scalars : {x : ℕ} {e : List ℕ} → Scalar x → Entity x e → AllScalar e
-unfolding spelt ascii
-entity-scalars s amp = ascii-scalars _ refl
-entity-scalars s lt = ascii-scalars _ refl
-entity-scalars s gt = ascii-scalars _ refl
-entity-scalars s quot = ascii-scalars _ refl
-entity-scalars s apos = ascii-scalars _ refl
-entity-scalars s (stays x n) = λ y i. in-cons Scalar s (λ z j. absurd (in-none j)) i
+  of-entity : {x : ℕ} {e : List ℕ} → P x → Entity x e → (y : ℕ) → In y e → P y
+  unfolding spelt printable
+  of-entity s amp = all-printable _ refl
+  of-entity s lt = all-printable _ refl
+  of-entity s gt = all-printable _ refl
+  of-entity s quot = all-printable _ refl
+  of-entity s apos = all-printable _ refl
+  of-entity s (stays x n) = λ y i. in-cons P s (λ z j. absurd (in-none j)) i
 
-append-scalars : (xs ys : List ℕ) → AllScalar xs → AllScalar ys → AllScalar (xs ++ ys)
-append-scalars [] ys a b = b
-append-scalars (x ∷ xs) ys a b = λ y i. in-cons Scalar (a x (here xs)) (append-scalars xs ys (λ z j. a z (later x xs j)) b) i
+  of-form : {cs ds : List ℕ} → EscapedForm cs ds → ((x : ℕ) → In x cs → P x) → (x : ℕ) → In x ds → P x
+  of-form of-nothing s x i = s x i
+  of-form (of-byte c cs e ds h r) s x i = elim (in-append e ds i) [
+    | inl j ↦ of-entity (s c (here cs)) h x j
+    | inr j ↦ of-form r (λ y k. s y (later c cs k)) x j
+  ]
 
-form-scalars : {cs ds : List ℕ} → EscapedForm cs ds → AllScalar cs → AllScalar ds
-form-scalars of-nothing s = s
-form-scalars (of-byte c cs e ds h r) s = append-scalars e ds (entity-scalars (s c (here cs)) h) (form-scalars r (λ x i. s x (later c cs i)))
+  pub of-escaped : (cs : List ℕ) → ((x : ℕ) → In x cs → P x) → (x : ℕ) → In x (escape cs) → P x
+  of-escaped cs = of-form (escape-exactly cs (escape cs) .0 refl)
+
+pub escaped-scalars : (cs : List ℕ) → AllScalar cs → AllScalar (escape cs)
+escaped-scalars = of-escaped Scalar (λ x l m. omega arith)
 
 -- what escaping makes of well-formed UTF-8 is well-formed UTF-8
 pub escaped-well-formed : (x : List ℕ) → WellFormedUtf8 x → WellFormedUtf8 (escape x)
 escaped-well-formed x (cs, s, e) =
-    (escape cs, form-scalars (escape-exactly cs (escape cs) .0 refl) s, ap escape e ∙ escape-by-characters cs)
-
--- "A lexeme of a class is well-formed UTF-8 (RFC 3629)": of any class, plain or escaped
-pub lexeme-well-formed : (g : List ℕ) (c : ℕ) (text : List ℕ) → Lexeme g c text → WellFormedUtf8 text
-lexeme-well-formed g c text (a-plain l) = (l .characters, l .scalars, l .well-formed)
-lexeme-well-formed g c text (an-escaped p x k l f) =
-    subst WellFormedUtf8 (escape-exactly x text .1 f) (escaped-well-formed x (l .characters, l .scalars, l .well-formed))
+    (escape cs, escaped-scalars cs s, ap escape e ∙ escape-by-characters cs)

@@ -5,15 +5,15 @@ use mathlib.Core.Logic.{_↔_, _⊎_, inl, inr}
 use Prim.Native.Nat.{ℕ, _≤_, _<_}
 use native.Mathlib.Omega.{arith}
 use mathlib.Core.List.{List, _++_}
-use mathlib.Core.Option.{some}
+use mathlib.Core.Option.{Option, none, some}
 use lib.ListN.{length}
 use Rattle.rules.specs.Records.{fieldB}
 use Rattle.rules.specs.Templates.{template}
 use Rattle.rules.specs.Derivation.{Derives}
 use Rattle.rules.specs.Walk.{Input, State, Limit, fuel-spent, too-deep, output-full, End, done, ended, walk}
-use Rattle.rules.specs.Answers.{answer, limitNumber, Outcome, input, evaluate}
+use Rattle.rules.specs.Answers.{answer, limitNumber, Outcome, evaluateRefusal, unlessRefused, kept, input, evaluate}
 use Rattle.rules.specs.declared.Answer.{Answer}
-use Rattle.theorems.specs.Refusals.{Refusal}
+use Rattle.theorems.specs.Refusals.{Refusal, evaluate-refuses}
 use Rattle.theorems.specs.Accepted.{Admitted, admitted-exactly}
 use Rattle.theorems.specs.Sound.{finished-derived}
 use Rattle.theorems.specs.Evaluation.{EvaluatesSet}
@@ -152,6 +152,20 @@ module _ (g t v : List ℕ) (fuel : ℕ) (out scratch : List ℕ) where
             let (q, r, d) = finished-derived (input g t v fuel out) (admitted-typed g t v fuel out scratch e) s h in
             record { root = q; root-there = r; derivation = rw x d };
       }
+
+  refused-not-finished : (a : Answer) → evaluateRefusal g t v scratch ≡ some a → evaluate g t v fuel out scratch .result .number ≡ 0 → ⊥
+  unfolding evaluate unlessRefused kept
+  refused-not-finished a e z =
+      let n : a .number ≡ 0 = (rw e at z) in
+      omega (arith, evaluate-refuses g t v scratch a e .from-1)
+
+  -- The text of a call that answers 0 is derived from the root template's nonterminal.
+  pub finished-from-root : evaluate g t v fuel out scratch .result .number ≡ 0 → FromRoot g t (textLeft (evaluate g t v fuel out scratch))
+  finished-from-root z = go (evaluateRefusal g t v scratch) refl
+    where
+      go : (r : Option Answer) → evaluateRefusal g t v scratch ≡ r → FromRoot g t (textLeft (evaluate g t v fuel out scratch))
+      go none e = answers-of-accepted (admitted-exactly g t v scratch .0 e) .finished-derived z
+      go (some a) e = absurd (refused-not-finished a e z)
 
   -- The text of a call that answers 0, and its steps, are what the evaluation rules give, and nothing else is.
   pub text-exactly : evaluate g t v fuel out scratch .result .number ≡ 0 → (x : List ℕ) (n : ℕ)

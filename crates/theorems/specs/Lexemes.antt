@@ -1,27 +1,29 @@
 -- A lexeme of a class, in the words of section "Typing", and that the test of `rules` passes exactly these.
 use mathlib.Core.Path.{_≡_, refl, sym, _∙_, subst}
-use mathlib.Core.Logic.{_↔_, _⊎_, inl, inr}
+use mathlib.Core.Logic.{_↔_, inl, inr}
 use Prim.Native.Nat.{ℕ, _≤_}
 use mathlib.Core.List.{List, [], _∷_}
-use mathlib.Core.Bool.{Bool, true, false, _||_, false≢true}
+use mathlib.Core.Bool.{true, false, false≢true}
 use mathlib.Core.Option.{Option, none, some, Option·some-ne-none, Option·some-injective}
 use lib.ListN.{length}
 use Rattle.rules.specs.Records.{fieldB, fieldC}
 use Rattle.rules.specs.Faults.{onFound}
 use Rattle.rules.specs.Grammar.{lexeme, plainClass, escapedClass}
 use Rattle.rules.specs.Escape.{escape, unescaped}
-use Rattle.rules.specs.Lexeme.{within, charactersOf, lowest, highest, ranges, inSome, allInSome, admits, isPlainLexeme, isLexeme}
+use Rattle.rules.specs.Lexeme.{within, charactersOf, lowest, highest, ranges, inSome, isXmlChar, isOfClass, allOfClass, admits, isPlainLexeme, isLexeme}
 use Rattle.rules.specs.Derivation.{Piece, a-lexeme, an-escaped-lexeme}
-use Rattle.laws.specs.Faults.{In, here, later, onFound-true, and-iff}
+use Rattle.laws.specs.Faults.{In, here, later, onFound-true, and-iff, or-iff}
 use Rattle.theorems.specs.Readings.{Plain, Escaped, plain-is, escaped-is, not-both}
 use Rattle.theorems.specs.Entities.{EscapedForm, escape-exactly, unescaped-exactly}
+use Rattle.theorems.specs.XmlChars.{XmlChar, xml-char-exactly}
 use Rattle.theorems.specs.Utf8.{AllScalar, encodedAll, within-iff, utf8-exactly}
 
 -- "in some range": from the lowest to the highest code point of one of the ranges whose records are listed
 abbrev pub InRange : List ℕ → List ℕ → ℕ → Type 0
 InRange g rs x = (r : ℕ) × In r rs × (lowest g r ≤ x) × (x ≤ highest g r)
 
--- "A lexeme of a class is well-formed UTF-8 (RFC 3629) with a character count from least to most, each character in some range.": of a plain class
+-- "A lexeme of a class is well-formed UTF-8 (RFC 3629) with a character count from least to most, each character in some range.": of a plain class.
+-- 02 d: "A character of a lexeme must from now on be one of these as well as lie in a range of its class"
 pub record PlainLexeme (g : List ℕ) (c : ℕ) (text : List ℕ) : Type 0 where
   pub head : ℕ
   pub of-class : Plain g c head
@@ -31,15 +33,12 @@ pub record PlainLexeme (g : List ℕ) (c : ℕ) (text : List ℕ) : Type 0 where
   pub least : fieldB g head ≤ length characters
   pub most : length characters ≤ fieldC g head
   pub in-some-range : (x : ℕ) → In x characters → InRange g (ranges g head) x
+  pub xml-chars : (x : ℕ) → In x characters → XmlChar x
 
 -- 02 c, of an escaped class: "Its lexemes are the plain lexemes with & < > " ' turned into the five predefined entities"
 pub data Lexeme (g : List ℕ) (c : ℕ) (text : List ℕ) : Type 0 where
   a-plain : PlainLexeme g c text → Lexeme g c text
   an-escaped : (p : ℕ) (x : List ℕ) → Escaped g c p → PlainLexeme g (fieldB g p) x → EscapedForm x text → Lexeme g c text
-
-or-iff : (a b : Bool) → ((a || b) ≡ true) ↔ ((a ≡ true) ⊎ (b ≡ true))
-or-iff true b = (λ e. inl refl, λ e. refl)
-or-iff false b = (inr, λ e. elim e [ inl h ↦ absurd (false≢true h) | inr h ↦ h ])
 
 found-range : (g rs : List ℕ) (x : ℕ) → inSome g rs x ≡ true → InRange g rs x
 unfolding inSome
@@ -54,17 +53,22 @@ unfolding inSome
 range-found g {r} x (here rs) a b = or-iff _ _ .1 (inl (within-iff (lowest g r) (highest g r) x .1 (a, b)))
 range-found g x (later q rs i) a b = or-iff (within (lowest g q) (highest g q) x) _ .1 (inr (range-found g x i a b))
 
-each-in-range : (g rs : List ℕ) {x : ℕ} {cs : List ℕ} → allInSome g rs cs ≡ true → In x cs → InRange g rs x
-unfolding allInSome
-each-in-range g rs {x} e (here xs) = found-range g rs x (and-iff _ _ .0 e .0)
-each-in-range g rs e (later y xs i) = each-in-range g rs (and-iff (inSome g rs y) _ .0 e .1) i
+of-class-exactly : (g rs : List ℕ) (x : ℕ) → (isOfClass g rs x ≡ true) ↔ (InRange g rs x × XmlChar x)
+unfolding isOfClass
+of-class-exactly g rs x = (
+  λ e. let (a, b) = and-iff (isXmlChar x) (inSome g rs x) .0 e in (found-range g rs x b, xml-char-exactly x .0 a),
+  λ (i, a). and-iff (isXmlChar x) (inSome g rs x) .1 (xml-char-exactly x .1 a, range-found g x (i .1) (i .2) (i .3)),
+)
 
-in-range-each : (g rs cs : List ℕ) → ((x : ℕ) → In x cs → InRange g rs x) → allInSome g rs cs ≡ true
-unfolding allInSome
-in-range-each g rs [] h = refl
-in-range-each g rs (x ∷ xs) h =
-    let i = h x (here xs) in
-    and-iff _ _ .1 (range-found g x (i .1) (i .2) (i .3), in-range-each g rs xs (λ y j. h y (later x xs j)))
+each-of-class : (g rs : List ℕ) {x : ℕ} {cs : List ℕ} → allOfClass g rs cs ≡ true → In x cs → isOfClass g rs x ≡ true
+unfolding allOfClass
+each-of-class g rs e (here xs) = and-iff _ _ .0 e .0
+each-of-class g rs e (later y xs i) = each-of-class g rs (and-iff (isOfClass g rs y) _ .0 e .1) i
+
+of-class-each : (g rs cs : List ℕ) → ((x : ℕ) → In x cs → isOfClass g rs x ≡ true) → allOfClass g rs cs ≡ true
+unfolding allOfClass
+of-class-each g rs [] h = refl
+of-class-each g rs (x ∷ xs) h = and-iff _ _ .1 (h x (here xs), of-class-each g rs xs (λ y j. h y (later x xs j)))
 
 pub plain-lexeme-exactly : (g : List ℕ) (c : ℕ) (text : List ℕ) → (isPlainLexeme g c text ≡ true) ↔ PlainLexeme g c text
 unfolding isPlainLexeme admits
@@ -83,7 +87,8 @@ plain-lexeme-exactly g c text = (
         well-formed = s .1;
         least = n .0;
         most = n .1;
-        in-some-range = λ x i. each-in-range g (ranges g (k .0)) (a .1) i;
+        in-some-range = λ x i. of-class-exactly g (ranges g (k .0)) x .0 (each-of-class g (ranges g (k .0)) (a .1) i) .0;
+        xml-chars = λ x i. of-class-exactly g (ranges g (k .0)) x .0 (each-of-class g (ranges g (k .0)) (a .1) i) .1;
       },
   λ l.
       onFound-true (plainClass g c) _ .1 (
@@ -94,7 +99,7 @@ plain-lexeme-exactly g c text = (
           utf8-exactly text (l .characters) .1 (l .scalars, l .well-formed),
           and-iff _ _ .1 (
             within-iff (fieldB g (l .head)) (fieldC g (l .head)) (length (l .characters)) .1 (l .least, l .most),
-            in-range-each g (ranges g (l .head)) (l .characters) (l .in-some-range),
+            of-class-each g (ranges g (l .head)) (l .characters) (λ x i. of-class-exactly g (ranges g (l .head)) x .1 (l .in-some-range x i, l .xml-chars x i)),
           ),
         ),
       ),

@@ -14,6 +14,7 @@ pub mod ClassesExactly
 pub mod HeadByHead
 pub mod Utf8
 pub mod Entities
+pub mod XmlChars
 pub mod Lexemes
 pub mod Children
 pub mod Finds
@@ -54,6 +55,8 @@ pub mod PackCalls
 pub mod Escaping
 pub mod NoMarkup
 pub mod EscapedCharacters
+pub mod XmlLexemes
+pub mod FinishedLexemes
 pub mod SaltAndRope
 pub mod Unpacked
 pub mod Starts

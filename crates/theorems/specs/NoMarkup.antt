@@ -8,7 +8,7 @@ use lib.Dec.{eqb}
 use borrow.Author.Tests.{eq-eqb}
 use Rattle.rules.specs.Escape.{escape}
 use Rattle.rules.specs.Answers.{unescape}
-use Rattle.laws.specs.Faults.{In, here, later, and-iff}
+use Rattle.laws.specs.Faults.{In, here, later, in-append, and-iff}
 use Rattle.theorems.specs.HeadByHead.{in-cons}
 use Rattle.theorems.specs.Least.{in-none}
 use Rattle.theorems.specs.Entities.{spelt, Entity, amp, lt, gt, quot, apos, stays, EscapedForm, of-nothing, of-byte, escape-exactly}
@@ -47,11 +47,6 @@ in-apart {b} xs (y ∷ ys) e i j =
     in-cons (λ c. c ≡ b → ⊥) (λ z. in-without xs h (subst (λ (c : ℕ). In c xs) (sym z) j)) (λ c l z. in-apart xs ys k (subst (λ (d : ℕ). In d ys) z l) j) i refl
 
 -- the bytes of an entity
-in-append : {b : ℕ} (xs ys : List ℕ) → In b (xs ++ ys) → In b xs ⊎ In b ys
-in-append [] ys i = inr i
-in-append {b} (x ∷ xs) ys i =
-    in-cons (λ c. In c (x ∷ xs) ⊎ In c ys) (inl (here xs)) (λ c j. elim (in-append xs ys j) [ inl k ↦ inl (later x xs k) | inr k ↦ inr k ]) i
-
 entity-bytes : {c : ℕ} {e : List ℕ} → Entity c e → (b : ℕ) → In b (spelt "<>\"'") → In b e → ⊥
 unfolding spelt apart without
 entity-bytes amp b i j = in-apart (spelt "&amp;") (spelt "<>\"'") refl i j

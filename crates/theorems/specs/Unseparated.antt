@@ -15,7 +15,7 @@ use Rattle.rules.specs.Faults.{onFound, onlyIf}
 use Rattle.rules.specs.Records.{base, byteOf, word, kindOf, fieldA, fieldB, fieldC, fieldD, recordCount, recordsFrom, units, textOf, heads, after, row, things, those, ofKind, nth}
 use Rattle.rules.specs.Grammar.{isClass, textLength, elementSize, productionSize, grammarSize, grammarThings, classes, productions, class, plainClass, production}
 use Rattle.rules.specs.Grammar.{keyword, lexeme, nonterminal, repetition, elementNumbered, elementAt, elementHeads, elements, hasProduction, nonterminalExists}
-use Rattle.rules.specs.Lexeme.{lowest, highest, ranges, inSome, allInSome, admits, charactersOf, isPlainLexeme}
+use Rattle.rules.specs.Lexeme.{lowest, highest, ranges, inSome, isXmlChar, isOfClass, allOfClass, admits, charactersOf, isPlainLexeme}
 use Rattle.laws.specs.Faults.{In, here, later, nth-in}
 use Rattle.laws.specs.Sorts.{no-class, plain-class-iff}
 use Rattle.theorems.specs.Streams.{in-row}
@@ -257,10 +257,10 @@ module _ (g g′ : List ℕ) (d : DifferInForm g g′) where
       let (a, b) = h r (here rs) in
       λ j. (leb (a j) x && leb x (b j)) || in-some-alike rs x (λ q i. h q (later r rs i)) j
 
-  all-in-some-alike : (rs xs : List ℕ) → ((r : ℕ) → In r rs → (lowest g r ≡ lowest g′ r) × (highest g r ≡ highest g′ r)) → allInSome g rs xs ≡ allInSome g′ rs xs
-  unfolding allInSome
-  all-in-some-alike rs [] h = refl
-  all-in-some-alike rs (x ∷ xs) h = ap₂ _&&_ (in-some-alike rs x h) (all-in-some-alike rs xs h)
+  all-of-class-alike : (rs xs : List ℕ) → ((r : ℕ) → In r rs → (lowest g r ≡ lowest g′ r) × (highest g r ≡ highest g′ r)) → allOfClass g rs xs ≡ allOfClass g′ rs xs
+  unfolding isOfClass allOfClass
+  all-of-class-alike rs [] h = refl
+  all-of-class-alike rs (x ∷ xs) h = λ j. (isXmlChar x && in-some-alike rs x h j) && all-of-class-alike rs xs h j
 
   pub same-ranges : (p : ℕ) → ranges g p ≡ ranges g′ p
   unfolding ranges
@@ -270,7 +270,7 @@ module _ (g g′ : List ℕ) (d : DifferInForm g g′) where
   unfolding admits
   same-admitted {p} cs i =
       ap₂ _&&_ (λ j. leb (same-b p j) (length cs) && leb (length cs) (same-c p j))
-      (all-in-some-alike (ranges g p) cs (λ r k. same-bounds i k) ∙ ap (λ (rs : List ℕ). allInSome g′ rs cs) (same-ranges p))
+      (all-of-class-alike (ranges g p) cs (λ r k. same-bounds i k) ∙ ap (λ (rs : List ℕ). allOfClass g′ rs cs) (same-ranges p))
 
   exists-alike : (n : ℕ) (ps : List ℕ) → hasProduction g n ps ≡ hasProduction g′ n ps
   unfolding hasProduction

@@ -43,11 +43,14 @@ loop-less c = omega arith
 loop-again : tie.Need-loop-again Inv-loop μ-loop
 loop-again c = fill-turn _ _ _ _ _ _ _ _ (c .before .before .before .before .before .before .loop .inv) (c .before .before .before .before .before .loop-test .taken) (c .before .before .before .before .range-at .ensures) (c .before .before .add-range .kept .0) (c .before .before .add-range .ensures)
 
+keep-xml-requires : tie.Need-keep-xml-requires Inv-loop μ-loop
+keep-xml-requires c κs = c .before .before .loop .inv .size
+
 same-length : tie.Need-same-length Inv-loop μ-loop
-same-length c = c .before .loop .inv .size ∙ sym (c .before .before .before .before .before .before .before .before .before .pre .0)
+same-length c = c .before .before .keep-xml .kept .0 ∙ c .before .before .before .before .before .loop .inv .size ∙ sym (c .before .before .before .before .before .before .before .before .before .before .before .before .before .pre .0)
 
 returns : tie.Need-returns Inv-loop μ-loop
-returns c = fill-end _ _ _ _ _ _ (c .before .loop .inv) (c .loop-test .left)
+returns c = fill-end _ _ _ _ _ _ _ (c .before .before .before .before .before .loop .inv) (c .before .before .before .before .loop-test .left) (c .before .before .keep-xml .kept .0) (c .before .before .keep-xml .ensures)
 
 pub class-set-spec : {M : Type 1} → statement M
 class-set-spec =
@@ -65,5 +68,6 @@ class-set-spec =
     add-k
     loop-less
     loop-again
+    keep-xml-requires
     same-length
     returns)
