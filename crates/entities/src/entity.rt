@@ -1,11 +1,12 @@
 // Which byte an entity stands for.
 ghost use mathlib.Core.Path.{_≡_};
-ghost use Prim.Native.Nat.{min, _≤_, _<_};
+ghost use Prim.Native.Nat.{_≤_, _<_};
 ghost use lib.ListN.{length, drop, getD};
 ghost use Rattle.rules.specs.Escape.{begins};
 ghost use Rattle.stream.specs.Text.{textIn};
 ghost use Rattle.entities.specs.Entity.{noPlain, Reads, PlainIn};
 use stream::text::Text;
+use stream::text::least;
 use stream::text::text_part;
 use stream::text::text_skip;
 
@@ -92,12 +93,6 @@ pub fn plain_at(text: &[u8], at: usize) -> Plain
         0x27 => none(),
         _ => Plain { byte: b, length: 1 },
     }
-}
-
-fn least(a: usize, b: usize) -> usize
-    ensures { λ r. ⌜ r ≡ min a b ⌝ }
-{
-    if a < b { a } else { b }
 }
 
 // No entity is longer.

@@ -12,6 +12,7 @@ use crate::class::range_count;
 use crate::hints::all_hints;
 use crate::xml::is_xml_char;
 use records::range::range_at;
+use stream::text::least;
 
 // The characters that a set tells apart: those that UTF-8 writes in one byte or two.
 pub(crate) const CHARACTERS: usize = 2048;
@@ -84,12 +85,6 @@ fn mask(low: usize, high: usize, w: usize) -> u16
     ensures { λ r. ⌜ ((j : ℕ) → j < 16 → bitAt r j ≡ within low high (16 * w + j)) ⌝ }
 {
     (ones(below(low, w)) ^ ALL) & ones(below(high + 1, w))
-}
-
-fn least(a: usize, b: usize) -> usize
-    ensures { λ r. ⌜ r ≡ min a b ⌝ }
-{
-    if a < b { a } else { b }
 }
 
 // Of the characters from low to high, those of number w go into a set.

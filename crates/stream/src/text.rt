@@ -31,7 +31,8 @@ pub fn text_from(p: Place, n: usize) -> Text
     Text { at: p.at, left: n }
 }
 
-pub(crate) fn least(a: usize, b: usize) -> usize
+// The lesser of two numbers, for whoever cuts a part off.
+pub fn least(a: usize, b: usize) -> usize
     ensures { λ r. ⌜ r ≡ min a b ⌝ }
 {
     if a < b { a } else { b }
