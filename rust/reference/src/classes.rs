@@ -7,10 +7,25 @@ use crate::escape::unescaped;
 use crate::grammar::{Class, Grammar, PlainClass};
 
 const LAST_CODE_POINT: u32 = 0x10_FFFF;
-const ASCII: usize = 128;
+const ASCII: u32 = 128;
+
+/// The characters that XML 1.0 admits (02 d).
+const ADMITTED: [RangeInclusive<u32>; 6] = [
+    0x9..=0x9,
+    0xA..=0xA,
+    0xD..=0xD,
+    0x20..=0xD7FF,
+    0xE000..=0xFFFD,
+    0x1_0000..=0x10_FFFF,
+];
+
+/// The range of admitted characters that a code point lies in.
+fn admitted(code: u32) -> Option<&'static RangeInclusive<u32>> {
+    ADMITTED.iter().find(|range| range.contains(&code))
+}
 
 /// The first class or range of a grammar that is upside down or passes U+10FFFF. An escaped class has
-/// neither bounds nor ranges.
+/// neither bounds nor ranges. Ranges may hold what XML doesn't admit.
 pub(crate) fn judge(grammar: &Grammar<'_>) -> Result<(), Refusal> {
     for class in &grammar.classes {
         let Class::Plain(class) = class else {
@@ -64,7 +79,8 @@ impl Lexemes {
 /// The lexemes of a plain class.
 struct PlainLexeme {
     counts: RangeInclusive<usize>,
-    ascii: [bool; ASCII],
+    /// Which of these characters a lexeme may have.
+    ascii: [bool; ASCII as usize],
     /// In order, and none touching the next.
     ranges: Vec<RangeInclusive<u32>>,
 }
@@ -72,11 +88,10 @@ struct PlainLexeme {
 impl PlainLexeme {
     fn of(class: &PlainClass) -> Self {
         let ranges = merged(class);
-        let mut ascii = [false; ASCII];
+        let mut ascii = [false; ASCII as usize];
         for range in &ranges {
-            let end = ASCII.min(*range.end() as usize + 1);
-            if let Some(part) = ascii.get_mut(*range.start() as usize..end) {
-                part.fill(true);
+            for code in *range.start()..ASCII.min(*range.end() + 1) {
+                ascii[code as usize] = admitted(code).is_some();
             }
         }
         PlainLexeme {
@@ -86,34 +101,34 @@ impl PlainLexeme {
         }
     }
 
-    /// A lexeme is well-formed UTF-8 with a character count from least to most, each character in
-    /// some range. Counts are of characters, never bytes.
+    /// A lexeme is well-formed UTF-8 with a character count from least to most, each character
+    /// admitted by XML and in some range. Counts are of characters, never bytes.
     fn is(&self, text: &[u8]) -> bool {
         if text.is_ascii() {
-            let admitted = text.iter().all(|&byte| self.ascii[usize::from(byte)]);
-            return self.counts.contains(&text.len()) && admitted;
+            let held = text.iter().all(|&byte| self.ascii[usize::from(byte)]);
+            return self.counts.contains(&text.len()) && held;
         }
         match std::str::from_utf8(text) {
-            Ok(text) => self.admits_all(text),
+            Ok(text) => self.holds_all(text),
             Err(_) => false,
         }
     }
 
-    fn admits_all(&self, text: &str) -> bool {
+    fn holds_all(&self, text: &str) -> bool {
         let mut count = 0;
         // Neighbours in a text mostly lie in one range.
         let mut near = None;
         for character in text.chars() {
             let code = u32::from(character);
-            let admitted = match self.ascii.get(code as usize) {
-                Some(&admitted) => admitted,
+            let held = match self.ascii.get(code as usize) {
+                Some(&held) => held,
                 None => {
-                    near = near.filter(|range: &&RangeInclusive<u32>| range.contains(&code));
+                    near = near.filter(|range: &RangeInclusive<u32>| range.contains(&code));
                     near = near.or_else(|| self.range_of(code));
                     near.is_some()
                 }
             };
-            if !admitted {
+            if !held {
                 return false;
             }
             count += 1;
@@ -121,9 +136,17 @@ impl PlainLexeme {
         self.counts.contains(&count)
     }
 
-    fn range_of(&self, code: u32) -> Option<&RangeInclusive<u32>> {
+    /// The characters around one that are in the class's range and admitted as it is.
+    fn range_of(&self, code: u32) -> Option<RangeInclusive<u32>> {
         let index = self.ranges.partition_point(|range| *range.end() < code);
-        self.ranges.get(index).filter(|range| range.contains(&code))
+        let held = self
+            .ranges
+            .get(index)
+            .filter(|range| range.contains(&code))?;
+        let admitted = admitted(code)?;
+        let lowest = held.start().max(admitted.start());
+        let highest = held.end().min(admitted.end());
+        Some(*lowest..=*highest)
     }
 }
 
@@ -192,6 +215,32 @@ mod tests {
         assert!(!lexeme.is(&[0xED, 0xA0, 0x80]));
         assert!(!lexeme.is("\u{103}".as_bytes()));
         assert!(!lexeme.is("\u{7E}".as_bytes()));
+    }
+
+    #[test]
+    fn what_xml_admits() {
+        let inside = [
+            0x9, 0xA, 0xD, 0x20, 0x7F, 0x80, 0x85, 0x9F, 0xD7FF, 0xE000, 0xFDD0, 0xFFFD, 0x1_0000,
+            0x1_FFFE, 0x1_FFFF, 0x10_FFFF,
+        ];
+        let outside = [
+            0x0, 0x8, 0xB, 0xC, 0xE, 0x1F, 0xD800, 0xDFFF, 0xFFFE, 0xFFFF, 0x11_0000,
+        ];
+        let admits = |code| admitted(code).is_some();
+        assert!(inside.into_iter().all(admits));
+        assert!(!outside.into_iter().any(admits));
+    }
+
+    #[test]
+    fn a_character_is_admitted_as_well_as_in_a_range() {
+        let lexeme = class(0, 9, &[(0, 0x41), (0xFFFC, 0x1_0000)]);
+        assert!(lexeme.is("\t\n\r A\u{FFFC}\u{FFFD}\u{10000}".as_bytes()));
+        assert!(!lexeme.is(b"a") && !lexeme.is("\u{10001}".as_bytes()));
+        for odd in ['\0', '\u{8}', '\u{B}', '\u{1F}', '\u{FFFE}', '\u{FFFF}'] {
+            for text in [format!("{odd}"), format!("A\u{FFFD}{odd}\u{10000}")] {
+                assert!(!lexeme.is(text.as_bytes()), "{text:?}");
+            }
+        }
     }
 
     #[test]
