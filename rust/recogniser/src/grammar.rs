@@ -149,7 +149,7 @@ impl Class {
         (self.least..=self.most).contains(&count)
     }
 
-    /// The bytes of the character that a text begins with, if the class holds it.
+    /// The bytes of the character that a text begins with, if the class holds it and XML has it.
     pub(crate) fn character(&self, text: &[u8]) -> Option<usize> {
         let (character, length) = match self.escaped {
             true => escaped_character(text)?,
@@ -157,9 +157,18 @@ impl Class {
         };
         let code = u32::from(character);
         let mut ranges = self.ranges.iter();
-        ranges
-            .any(|&(low, high)| low <= code && code <= high)
-            .then_some(length)
+        let held = ranges.any(|&(low, high)| low <= code && code <= high);
+        (held && !is_foreign(character)).then_some(length)
+    }
+}
+
+/// Whether XML 1.0 has no such character: the controls below the space but for tab, line feed and
+/// carriage return, and the last two of the first plane.
+fn is_foreign(character: char) -> bool {
+    match character {
+        '\t' | '\n' | '\r' => false,
+        '\u{FFFE}' | '\u{FFFF}' => true,
+        _ => character < ' ',
     }
 }
 

@@ -1,8 +1,8 @@
 //! An independent recogniser: does a nonterminal of a grammar stream derive a text?
 //!
 //! It knows the paper's section Derivation and nothing of templates, values or the walk: an Earley
-//! recogniser whose terminals are keywords (their bytes) and classes (characters one by one; in an
-//! escaped class five of them are entities).
+//! recogniser whose terminals are keywords (their bytes) and classes (characters of XML 1.0 one by one;
+//! in an escaped class five of them are entities).
 
 mod earley;
 mod grammar;

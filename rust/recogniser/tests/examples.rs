@@ -228,3 +228,40 @@ fn an_escaped_class_names_an_earlier_plain_one() {
         assert_eq!(read.is_some(), named == 0, "{named}");
     }
 }
+
+/// Any characters, plain or (nonterminal 1) escaped, between brackets, which have a U+000B before them.
+fn any_characters() -> Grammar {
+    let mut grammar = Grammar::new();
+    let plain = grammar.class(0, 9, &[(0, 0x10_FFFF)]);
+    let escaped = grammar.escaped(plain);
+    for (nonterminal, class) in [plain, escaped].into_iter().enumerate() {
+        let [open, close] = ["\u{B}[", "\u{B}]"].map(keyword);
+        grammar.production(nonterminal as u16, [open, Class(class), close]);
+    }
+    grammar
+}
+
+#[test]
+fn a_lexeme_has_characters_of_xml_only() {
+    let grammar = any_characters();
+    let derived = |text: String| [0, 1].map(|number| derives(&grammar, number, text.as_bytes()));
+    let own =
+        "\t\n\r \u{7F}\u{80}\u{85}\u{D7FF}\u{E000}\u{FDD0}\u{FFFD}\u{10000}\u{1FFFE}\u{10FFFF}";
+    let foreign = "\0\u{1}\u{8}\u{B}\u{C}\u{E}\u{1F}\u{FFFE}\u{FFFF}";
+    assert_eq!(derived("\u{B}[\u{B}]".into()), [true; 2]);
+    for (characters, expected) in [(own, true), (foreign, false)] {
+        for character in characters.chars() {
+            for lexeme in [format!("{character}"), format!("a{character}α")] {
+                let text = format!("\u{B}[{lexeme}\u{B}]");
+                assert_eq!(derived(text), [expected; 2], "{lexeme:?}");
+            }
+        }
+    }
+}
+
+#[test]
+fn separators_may_have_other_characters_too() {
+    let grammar = separated("\u{B}\u{FFFE}".as_bytes());
+    assert!(derives(&grammar, 0, "[a\u{B}\u{FFFE}b]".as_bytes()));
+    assert!(!derives(&grammar, 0, "[a\u{B}b]".as_bytes()));
+}
