@@ -6,9 +6,12 @@ use crate::random::Random;
 
 /// Characters of every length, the escaped ones, and what makes up their entities.
 const CHARACTERS: [&str; 20] = [
-    "&", "<", ">", "\"", "'", "&", "<", "a", "z", " ", ";", "#", "amp;", "lt", "\0", "\u{7F}", "α",
-    "\u{FFFF}", "語", "😀",
+    "&", "<", ">", "\"", "'", "&", "<", "a", "z", " ", ";", "#", "amp;", "lt", "\t", "\u{7F}", "α",
+    "\u{FFFD}", "語", "😀",
 ];
+
+/// Characters that no lexeme has; unescaping knows of no lexeme.
+const OTHERS: [&str; 4] = ["\0", "\u{B}", "\u{1F}", "\u{FFFF}"];
 
 /// What no escaping makes, or makes of something else.
 const ODD: [&[u8]; 28] = [
@@ -42,15 +45,19 @@ const ODD: [&[u8]; 28] = [
     b"\xE2\x82&amp;",
 ];
 
-/// Well-formed UTF-8 in which the five characters are frequent, once in a while over many blocks.
+/// A text in which the five characters are frequent, once in a while over many blocks.
 pub(crate) fn plain(random: &mut Random) -> Vec<u8> {
+    draw(random, &CHARACTERS)
+}
+
+fn draw(random: &mut Random, characters: &[&str]) -> Vec<u8> {
     let most = *random.pick(&[0, 1, 2, 4, 8, 30, 100, 700, 2_000]);
     let count = random.below(most + 1);
-    let own = *random.pick(&CHARACTERS);
+    let own = *random.pick(characters);
     let repeats = random.once_in(8);
     let character = |_| match repeats {
         true => own,
-        false => *random.pick(&CHARACTERS),
+        false => *random.pick(characters),
     };
     let text: String = (0..count).map(character).collect();
     text.into_bytes()
@@ -58,7 +65,7 @@ pub(crate) fn plain(random: &mut Random) -> Vec<u8> {
 
 /// A text to be unescaped: mostly an escaped one, damaged in half of the cases.
 pub(crate) fn text(random: &mut Random) -> Vec<u8> {
-    let mut text = escaped(&plain(random));
+    let mut text = escaped(&draw(random, &[&CHARACTERS[..], &OTHERS].concat()));
     if random.once_in(60) {
         text = text.repeat(1 + 70_000 / text.len().max(1));
     }

@@ -136,7 +136,7 @@ pub(crate) fn c(record: &Record) -> usize {
     word(record, 4)
 }
 
-fn d(record: &Record) -> usize {
+pub(crate) fn d(record: &Record) -> usize {
     word(record, 6)
 }
 
@@ -176,18 +176,26 @@ fn heads(grammar: &[Record], kinds: [u8; 2]) -> Vec<usize> {
     heads
 }
 
+/// The heads of the types.
+pub(crate) fn types(templates: &[Record]) -> Vec<usize> {
+    let (mut types, mut at) = (Vec::new(), 0);
+    while let Some(head) = templates.get(at).filter(|head| head[0] == 1) {
+        types.push(at);
+        at += match head[1] {
+            3 => 1 + d(head),
+            _ => 1,
+        };
+    }
+    types
+}
+
 /// The body of each template.
 fn bodies(templates: &[Record]) -> Vec<usize> {
-    let (mut bodies, mut at) = (Vec::new(), 0);
-    while let Some(head) = templates.get(at).filter(|head| [1, 3].contains(&head[0])) {
-        match (head[0], head[1]) {
-            (1, 3) => at += 1 + d(head),
-            (1, _) => at += 1,
-            (_, parameters) => {
-                bodies.push(at + 1 + usize::from(parameters));
-                at += c(head);
-            }
-        }
+    let first = templates.iter().position(|head| ![1, 2].contains(&head[0]));
+    let (mut bodies, mut at) = (Vec::new(), first.unwrap_or(0));
+    while let Some(head) = templates.get(at).filter(|head| head[0] == 3) {
+        bodies.push(at + 1 + usize::from(head[1]));
+        at += c(head);
     }
     bodies
 }
@@ -218,23 +226,47 @@ fn elements(grammar: &[Record], production: usize) -> Vec<usize> {
     })
 }
 
-/// The class whose position a node stands in, by its record.
-pub(crate) fn position(grammar: &[Record], templates: &[Record], node: usize) -> Option<usize> {
-    let productions = productions(grammar);
+/// The elements of a form of a grammar, as far as its records can be followed.
+pub(crate) fn elements_of_form(grammar: &[Record], form: u8) -> Vec<usize> {
+    let (mut found, mut at) = (Vec::new(), 0);
+    while let Some(&record) = grammar.get(at) {
+        at += 1;
+        if record[0] == 4 {
+            if record[1] == form {
+                found.push(at - 1);
+            }
+            at += text_length(&record).div_ceil(8);
+        }
+    }
+    found
+}
+
+/// The nodes that stand in the position of a class, each with the class's record.
+pub(crate) fn class_positions(grammar: &[Record], templates: &[Record]) -> Vec<(usize, usize)> {
+    let (productions, classes) = (productions(grammar), classes(grammar));
+    let mut found = Vec::new();
     for build in nodes(templates) {
         let head = templates[build];
         if head[1] != 0 {
             continue;
         }
         let children = in_a_row(build + 1, d(&head), |at| c(&templates[at]));
-        if let Some(number) = children.iter().position(|&child| child == node) {
-            let mut asked = elements(grammar, productions[b(&head)]);
-            asked.retain(|&at| grammar[at][1] != 0);
-            let element = grammar[*asked.get(number)?];
-            return (element[1] == 1).then(|| classes(grammar)[b(&element)]);
-        }
+        let mut asked = elements(grammar, productions[b(&head)]);
+        asked.retain(|&at| grammar[at][1] != 0);
+        let pairs = children
+            .into_iter()
+            .zip(asked.iter().map(|&at| grammar[at]));
+        let of_classes = pairs.filter(|(_, element)| element[1] == 1);
+        found.extend(of_classes.map(|(child, element)| (child, classes[b(&element)])));
     }
-    None
+    found
+}
+
+/// The class whose position a node stands in, by its record.
+pub(crate) fn position(grammar: &[Record], templates: &[Record], node: usize) -> Option<usize> {
+    let mut positions = class_positions(grammar, templates).into_iter();
+    let (_, class) = positions.find(|&(found, _)| found == node)?;
+    Some(class)
 }
 
 /// The text of a literal.
@@ -243,7 +275,7 @@ pub(crate) fn literal(templates: &[Record], node: usize) -> Vec<u8> {
 }
 
 /// The text behind a head.
-fn text(records: &[Record], head: usize, length: usize) -> Vec<u8> {
+pub(crate) fn text(records: &[Record], head: usize, length: usize) -> Vec<u8> {
     let units = &records[head + 1..head + 1 + length.div_ceil(8)];
     units.as_flattened()[..length].to_vec()
 }
@@ -275,6 +307,14 @@ fn escaped_by(fault: Fault, plain: &[u8], start: usize) -> Vec<u8> {
         first &= !escapes;
     }
     written
+}
+
+/// The children of a list or record of a value.
+pub(crate) fn values(value: &[Record], head: usize) -> Vec<usize> {
+    in_a_row(head + 1, d(&value[head]), |at| match value[at][0] {
+        2 => 1,
+        _ => c(&value[at]),
+    })
 }
 
 /// So many things in a row, from a record on.
@@ -457,7 +497,7 @@ impl Walk<'_> {
             self.items = 0;
         }
         let list = self.find(node + 1, variables);
-        for item in self.values(list) {
+        for item in values(&self.value, list) {
             let inside = [variables, &[item]].concat();
             self.item(node + 2, row, depth + 1, &inside)?;
         }
@@ -532,23 +572,13 @@ impl Walk<'_> {
         in_a_row(start, count, |at| c(&self.templates[at]))
     }
 
-    /// The children of a list or record.
-    fn values(&self, head: usize) -> Vec<usize> {
-        in_a_row(head + 1, d(&self.value[head]), |at| {
-            match self.value[at][0] {
-                2 => 1,
-                _ => c(&self.value[at]),
-            }
-        })
-    }
-
     /// The value that a path finds.
     fn find(&self, path: usize, variables: &[usize]) -> usize {
         let [_, variable, steps, fields @ ..] = self.templates[path];
         let fields = &fields[..usize::from(steps)];
         let start = variables[usize::from(variable)];
         fields.iter().fold(start, |record, &field| {
-            self.values(record)[usize::from(field)]
+            values(&self.value, record)[usize::from(field)]
         })
     }
 }

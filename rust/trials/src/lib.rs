@@ -4,6 +4,7 @@
 //! and scratch lengths, and two implementations of [`Machine`] are compared in all five fields of
 //! every answer and in every lent byte ([`compare`]). A seed decides everything.
 
+pub mod admission;
 pub mod chains;
 pub mod compare;
 pub mod damage;

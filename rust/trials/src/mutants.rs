@@ -2,8 +2,9 @@
 
 use build::{blocks, mend, records_of, Record, BLOCK, CHECK_START};
 
+use crate::admission::Admission;
 use crate::chains::Chain;
-use crate::faulty::{productions, text_length, walk, Fault};
+use crate::faulty::{elements_of_form, productions, text_length, walk, Fault};
 use crate::judging::Judging;
 use crate::machine::{Fields, Machine, Reference};
 use crate::unescaping::Unescaping;
@@ -63,6 +64,8 @@ pub enum Mutant {
     JudgesEscaped(Judging),
     /// Unescapes with a fault.
     Unescapes(Unescaping),
+    /// Admits characters with a fault.
+    Admits(Admission),
     /// Judges the blocks of a set by another chain of checks.
     Judges(Chain),
     /// Unpacks by another chain of checks.
@@ -89,6 +92,7 @@ impl Mutant {
         let unescapes = Unescaping::ALL.map(Mutant::Unescapes);
         let mut all = [&Self::OTHERS[..], &walks, &packs, &escaped, &unescapes].concat();
         all.extend(judges);
+        all.extend(Admission::all().into_iter().map(Mutant::Admits));
         all
     }
 
@@ -138,17 +142,17 @@ impl Mutant {
             Mutant::CutsLongStreams => taken.truncate(65_536),
             Mutant::ForgivesUnusedFields => change_records(&mut taken, 2, clear_unused_fields),
             Mutant::ForgivesSeparatorsD => change_records(&mut taken, 1, |records| {
-                for at in separated(records, 4) {
+                for at in elements_of_form(records, 4) {
                     records[at][6..].fill(0);
                 }
             }),
             Mutant::ForgivesSeparatorsPadding => change_records(&mut taken, 1, |records| {
-                for at in separated(records, 4) {
+                for at in elements_of_form(records, 4) {
                     clear_padding(records, at);
                 }
             }),
             Mutant::TakesFormFive => change_records(&mut taken, 1, |records| {
-                for at in separated(records, 5) {
+                for at in elements_of_form(records, 5) {
                     records[at][1] = 4;
                 }
             }),
@@ -193,21 +197,6 @@ fn clear_unused_fields(records: &mut [Record]) {
     }
 }
 
-/// The elements of a form of a grammar, as far as its records can be followed.
-fn separated(records: &[Record], form: u8) -> Vec<usize> {
-    let (mut found, mut at) = (Vec::new(), 0);
-    while let Some(&record) = records.get(at) {
-        at += 1;
-        if record[0] == 4 {
-            if record[1] == form {
-                found.push(at - 1);
-            }
-            at += text_length(&record).div_ceil(8);
-        }
-    }
-    found
-}
-
 /// Lets each repetition with a separator that names no nonterminal name the first one.
 fn mend_names(records: &mut [Record]) {
     let heads = productions(records);
@@ -215,7 +204,7 @@ fn mend_names(records: &mut [Record]) {
         .iter()
         .map(|&head| [records[head][2], records[head][3]])
         .collect();
-    for at in separated(records, 4) {
+    for at in elements_of_form(records, 4) {
         let number = &mut records[at][2..4];
         if let Some(first) = named.first().filter(|_| !named.iter().any(|n| n == number)) {
             number.copy_from_slice(first);
@@ -238,10 +227,11 @@ impl Machine for Mutant {
     }
 
     fn check(&self, grammar: &[u8], templates: &[u8]) -> Fields {
-        if let Mutant::JudgesEscaped(fault) = self {
-            return fault.check(grammar, templates);
+        match self {
+            Mutant::JudgesEscaped(fault) => fault.check(grammar, templates),
+            Mutant::Admits(fault) => fault.check(grammar, templates),
+            _ => Reference.check(&self.taken(grammar), &self.taken(templates)),
         }
-        Reference.check(&self.taken(grammar), &self.taken(templates))
     }
 
     fn evaluate(
@@ -268,6 +258,7 @@ impl Machine for Mutant {
                 }
                 fields
             }
+            Mutant::Admits(fault) => fault.evaluate(parts, fuel, out, scratch),
             Mutant::Walks(fault) => {
                 let fields = Reference.evaluate(parts, fuel, &mut out.to_vec(), scratch);
                 match fields[0] {

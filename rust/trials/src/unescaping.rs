@@ -1,6 +1,7 @@
 //! The unescape call with one fault. Without a fault it answers as the reference does (a test says
 //! so), though it shares no code with it.
 
+use crate::admission::is_admitted;
 use crate::machine::Fields;
 
 /// What is wrong with an unescape call.
@@ -20,6 +21,8 @@ pub enum Unescaping {
     TakesCutEntities,
     /// Looks at no UTF-8.
     TakesIllFormed,
+    /// Refuses characters that XML 1.0 doesn't admit.
+    TriesAdmission,
     /// Takes `&amp;amp;` for one ampersand.
     UnescapesTwice,
     /// Tries 12 before 8.
@@ -40,13 +43,14 @@ pub enum Unescaping {
 
 impl Unescaping {
     /// All that go wrong.
-    pub const ALL: [Unescaping; 14] = [
+    pub const ALL: [Unescaping; 15] = [
         Unescaping::TakesBareAmpersands,
         Unescaping::TakesBareQuotes,
         Unescaping::TakesNumeric,
         Unescaping::TakesCapitals,
         Unescaping::TakesCutEntities,
         Unescaping::TakesIllFormed,
+        Unescaping::TriesAdmission,
         Unescaping::UnescapesTwice,
         Unescaping::RoomFirst,
         Unescaping::RoomForEscaped,
@@ -65,6 +69,9 @@ impl Unescaping {
         }
         if wrong.is_none() && self != Unescaping::TakesIllFormed {
             wrong = std::str::from_utf8(&plain).err().map(|e| e.valid_up_to());
+        }
+        if wrong.is_none() && self == Unescaping::TriesAdmission {
+            wrong = String::from_utf8_lossy(&plain).find(|character| !is_admitted(character));
         }
         let needed = match self {
             Unescaping::RoomForEscaped => text.len(),
@@ -99,7 +106,7 @@ impl Unescaping {
     }
 
     /// The character that an entity at the beginning of a text stands for, and the entity's length.
-    fn character(self, text: &[u8]) -> Option<(u8, usize)> {
+    pub(crate) fn character(self, text: &[u8]) -> Option<(u8, usize)> {
         let names: [(&[u8], u8); 5] = [
             (b"&amp;", b'&'),
             (b"&lt;", b'<'),

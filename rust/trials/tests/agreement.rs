@@ -2,6 +2,7 @@
 
 use build::{mend, mend_each, with_check, BLOCK, CHECK_START, PAYLOAD};
 use build::{Element, Grammar, Node, Path, Templates, Value};
+use trials::admission::Admission;
 use trials::chains::Chain;
 use trials::compare::{self, Call, Conversion};
 use trials::faulty::Fault;
@@ -41,16 +42,17 @@ fn every_mutant_is_found() {
     }
 }
 
-/// What the faults in separators, entities, unescape calls and chains of checks are put into is right
-/// without one.
+/// What the faults in separators, entities, unescape calls, admission and chains of checks are put into
+/// is right without one.
 #[test]
 fn a_machine_without_a_fault_is_no_mutant() {
     let chains = [Mutant::Judges, Mutant::Unpacks, Mutant::Packs].map(|part| part(Chain::Right));
-    let escapes = [
+    let others = [
         Mutant::Walks(Fault::None),
         Mutant::Unescapes(Unescaping::Right),
+        Mutant::Admits(Admission::Right),
     ];
-    for right in [&escapes[..], &chains].concat() {
+    for right in [&others[..], &chains].concat() {
         if let Err(failure) = run(&Reference, &right, seed(), 0..2_000) {
             panic!("{failure}");
         }

@@ -7,13 +7,13 @@ use build::{
 
 use super::grammars::draw_class;
 use super::lexemes::{lexeme, near_lexeme};
-use super::{escapes, separators, Streams};
+use super::{admission, escapes, separators, Streams};
 use crate::random::Random;
 use crate::uploads;
 
 /// A set of one of the families.
 pub(super) fn set(random: &mut Random) -> Streams {
-    match random.below(29) {
+    match random.below(39) {
         0 => deep_body(random),
         1 => deep_value(random),
         2 => thousands_deep(random),
@@ -31,7 +31,8 @@ pub(super) fn set(random: &mut Random) -> Streams {
         15..=17 => words(random),
         18..=20 => separators::set(random),
         21 => chances(random),
-        22..=27 => escapes::set(random),
+        22..=28 => escapes::set(random),
+        29..=37 => admission::set(random),
         _ => most_blocks(random),
     }
 }

@@ -2,10 +2,12 @@
 
 use build::{escaped, PlainClass};
 
+use crate::admission::{is_admitted, OTHERS};
 use crate::escapes;
 use crate::random::Random;
 
-/// Ranges of characters, among them those at the borders of UTF-8's lengths.
+/// Ranges of characters, among them those at the borders of UTF-8's lengths. Each has some that XML
+/// 1.0 admits.
 pub(super) const ALPHABETS: &[&[(u32, u32)]] = &[
     &[(0x61, 0x7A)],
     &[(0x20, 0x7E)],
@@ -43,11 +45,12 @@ const ILL_FORMED: &[&[u8]] = &[
     &[0xCE, 0x61],
 ];
 
-/// A character of a class, if it has one that is no surrogate.
+/// A character of a class, if it has one that is admitted.
 fn character(random: &mut Random, class: &PlainClass) -> Option<char> {
     if class.ranges.is_empty() {
         return None;
     }
+    let admitted = |code| char::from_u32(code).filter(|&character| is_admitted(character));
     for _ in 0..8 {
         let &(lowest, highest) = random.pick(&class.ranges);
         let code = match random.below(6) {
@@ -55,12 +58,12 @@ fn character(random: &mut Random, class: &PlainClass) -> Option<char> {
             1 => highest,
             _ => random.between(lowest as usize, highest.max(lowest) as usize) as u32,
         };
-        if let Some(character) = char::from_u32(code) {
+        if let Some(character) = admitted(code) {
             return Some(character);
         }
     }
-    let ends = class.ranges.iter().flat_map(|&(low, high)| [low, high]);
-    ends.filter_map(char::from_u32).next()
+    let mut ranges = class.ranges.iter();
+    ranges.find_map(|&(low, high)| (low..=high).find_map(admitted))
 }
 
 /// So many characters of a class.
@@ -79,9 +82,12 @@ pub(super) fn lexeme(random: &mut Random, class: &PlainClass) -> Vec<u8> {
     characters(random, class, count)
 }
 
-/// A character just outside a range of the class, or far from most.
+/// A character just outside a range of the class, one far from most, or one that isn't admitted.
 fn odd_character(random: &mut Random, class: &PlainClass) -> char {
-    let far = *random.pick(&['A', '\u{0}', 'ё', '\u{37E}', '\u{1F600}', '\u{10FFFF}']);
+    let far = *random.pick(&['A', 'ё', '\u{37E}', '\u{1F600}', '\u{10FFFF}']);
+    if random.once_in(4) {
+        return *random.pick(&OTHERS);
+    }
     if class.ranges.is_empty() || random.once_in(4) {
         return far;
     }

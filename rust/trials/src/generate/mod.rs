@@ -1,5 +1,6 @@
 //! Sets to try: random ones of every form, and families that stand at the limits.
 
+mod admission;
 mod escapes;
 mod families;
 mod grammars;
@@ -53,7 +54,7 @@ impl Streams {
 /// A set that keeps its layout: mostly an accepted one, at times with slips or over a limit.
 #[must_use]
 pub fn streams(random: &mut Random) -> Streams {
-    match random.below(10) {
+    match random.below(12) {
         0..=3 => sketch::set(random, None),
         4..=6 => {
             let slips = *random.pick(&[8, 20, 60, 150]);
