@@ -13,7 +13,7 @@ use trials::run::try_streams;
 use trials::{Fields, Machine, Random, Reference, SECOND};
 
 /// The folder of vectors: `base`, or the letter of the latest request that has landed.
-const STAGE: &str = "c";
+const STAGE: &str = "d";
 
 const MACHINES: [&dyn Machine; 2] = [&Reference, &SECOND];
 
