@@ -302,7 +302,8 @@ fn growth() -> Vec<Case> {
     ]
 }
 
-fn unescape(name: &str, text: &[u8], room: usize) -> Case {
+/// The unescape call on a text with this name.
+pub(crate) fn unescape(name: &str, text: &[u8], room: usize) -> Case {
     Case {
         label: format!("unescape {name} out={room}"),
         call: Call::Unescape(text.to_vec(), room),

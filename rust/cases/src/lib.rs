@@ -12,9 +12,11 @@
 //! | `runs` | refusals 8 to 12, and runs that finish |
 //! | `separators` | repetitions with a separator: layout, names, typing, runs |
 //! | `escapes` | escaped classes: texts, literals, positions, layout, names; the unescape call |
+//! | `admission` | characters that XML 1.0 admits: titles, literals, class tables; where it isn't asked |
 //!
 //! To add a case, add it to one of these, then `cargo run -p cases`.
 
+mod admission;
 mod blocks;
 mod case;
 mod chains;
@@ -45,6 +47,7 @@ pub fn all() -> Vec<Case> {
         runs::all(),
         separators::all(),
         escapes::all(),
+        admission::all(),
     ]
     .concat()
 }
