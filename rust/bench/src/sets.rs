@@ -16,7 +16,7 @@ pub struct Family {
 }
 
 /// All families.
-pub const FAMILIES: [Family; 29] = [
+pub const FAMILIES: [Family; 30] = [
     Family {
         name: "the paper's example",
         set: |_| example(),
@@ -64,22 +64,27 @@ pub const FAMILIES: [Family; 29] = [
     },
     Family {
         name: "one text of 64,504 letters, plain class",
-        set: |scale| one_text("o", false, scale),
+        set: |scale| one_text(EUROPEAN, "o", false, scale),
         grows: true,
     },
     Family {
         name: "one text of 64,504 letters, escaped class",
-        set: |scale| one_text("o", true, scale),
+        set: |scale| one_text(EUROPEAN, "o", true, scale),
         grows: true,
     },
     Family {
         name: "one text of 64,504 ampersands, escaped class",
-        set: |scale| one_text("&", true, scale),
+        set: |scale| one_text(EUROPEAN, "&", true, scale),
         grows: true,
     },
     Family {
         name: "one text of 64,504 quotes, escaped class",
-        set: |scale| one_text("\"", true, scale),
+        set: |scale| one_text(EUROPEAN, "\"", true, scale),
+        grows: true,
+    },
+    Family {
+        name: "one text of 21,500 characters of three bytes, plain class",
+        set: |scale| one_text(JAPANESE, "夜の物語", false, scale),
         grows: true,
     },
     Family {
@@ -239,6 +244,10 @@ fn small_feed() -> Streams {
 const FEW: &str = "A night of salt & rope ashore";
 const MANY: &str = "<'&'><\"&\"><'&'><\"&\"><'&'><\"";
 
+/// Characters of one and two bytes, and of three.
+const EUROPEAN: &[(u32, u32)] = &[(0x20, 0x7E), (0x370, 0x3FF)];
+const JAPANESE: &[(u32, u32)] = &[(0x3040, 0x30FF), (0x4E00, 0x9FFF)];
+
 /// What a lexeme of class 0 is asked for as: plain, or escaped.
 fn asked(grammar: &mut Grammar, escaped: bool) -> Element {
     Element::Class(match escaped {
@@ -249,23 +258,23 @@ fn asked(grammar: &mut Grammar, escaped: bool) -> Element {
 
 /// Entries of one title, again and again.
 fn titles(title: &str, escaped: bool, scale: usize) -> Streams {
-    let mut grammar = entries(1, 40, &[(0x20, 0x7E), (0x370, 0x3FF)]);
+    let mut grammar = entries(1, 40, EUROPEAN);
     let element = asked(&mut grammar, escaped);
     grammar.productions[1].elements[1] = element;
     let value = Value::list(vec![Value::text(title); 400 * scale]);
     Streams::of(&grammar, &entries_templates(0), &value)
 }
 
-/// One text of a character again and again, up to all that 128 blocks hold.
-fn one_text(character: &str, escaped: bool, scale: usize) -> Streams {
+/// One text of some characters again and again, up to all that 128 blocks hold.
+fn one_text(ranges: &[(u32, u32)], characters: &str, escaped: bool, scale: usize) -> Streams {
     let mut grammar = Grammar::new();
-    grammar.class(0, 65_535, &[(0x20, 0x7E), (0x370, 0x3FF)]);
+    grammar.class(0, 65_535, ranges);
     let element = asked(&mut grammar, escaped);
     grammar.production(0, [element]);
     let mut templates = Templates::new();
     let text = templates.text(0);
     templates.template(0, [text], Node::build(0, [Node::place(Path::variable(0))]));
-    let value = Value::text(character.repeat(16_126 * scale));
+    let value = Value::text(characters.repeat(16_126 * scale / characters.len()));
     Streams::of(&grammar, &templates, &value)
 }
 
