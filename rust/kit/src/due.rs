@@ -1,8 +1,10 @@
-//! What the declared type asks for at a record of the value, for a person who wants to mend it.
+//! What the declared type asks for at a record of the value, and a class at a literal of the templates,
+//! for a person who wants to mend it.
 //!
-//! All streams have a sound layout here: the library refuses a value's type only after it.
+//! The streams that are read have a sound layout here: types and literals are judged only after it.
 
 use crate::classes::{classes, Class};
+use crate::position::class_of;
 use crate::record::{Record, RECORD};
 use crate::words::counted;
 
@@ -144,6 +146,20 @@ pub fn characters_due(head: Record, ranges: &[Record]) -> String {
         .collect();
     let (least, most) = (head.b(), head.c());
     format!("{least} to {most} characters of {}", each.join(" "))
+}
+
+/// What is due where a literal stands for a plain class; of escaped ones [`escapes`](crate::escapes) tells.
+pub fn literal_due(grammar: &[Record], templates: &[Record], node: usize) -> Option<Vec<String>> {
+    let (number, Class::Plain { head, ranges }) = class_of(grammar, templates, node)? else {
+        return None;
+    };
+    let literal = templates.get(node).filter(|node| node.a() == 1)?;
+    let text = text_bytes(templates, node, usize::from(literal.b()))?;
+    let due = characters_due(head, ranges);
+    Some(vec![
+        format!("class {number} is asked for here: {due}"),
+        text_found(&text, ranges),
+    ])
 }
 
 /// The text behind a head.

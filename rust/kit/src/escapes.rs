@@ -4,7 +4,7 @@
 
 use crate::classes::{classes, Class};
 use crate::due::{characters_due, text_bytes, text_found};
-use crate::position::element_of;
+use crate::position::class_of;
 use crate::record::Record;
 use crate::words::quoted;
 use feed::{Refusal, Stream};
@@ -79,18 +79,13 @@ fn type_named(grammar: &[Record], templates: &[Record], place: usize) -> Option<
 
 /// A literal or a place that doesn't suit the position of an escaped class.
 fn node_standing(grammar: &[Record], templates: &[Record], node: usize) -> Option<Vec<String>> {
-    let element = grammar.get(element_of(grammar, templates, node)?)?;
-    let all = classes(grammar);
-    let class = all.get(usize::from(element.b()));
-    let Class::Escaped(plain) = *class.filter(|_| element.a() == 1)? else {
+    let (number, Class::Escaped(plain)) = class_of(grammar, templates, node)? else {
         return None;
     };
-    let asked = format!(
-        "class {}, the escaped form of class {plain}, is asked for here",
-        element.b()
-    );
     let head = templates.get(node)?;
-    let mut said = vec![asked];
+    let mut said = vec![format!(
+        "class {number}, the escaped form of class {plain}, is asked for here"
+    )];
     match head.a() {
         1 => {
             let text = text_bytes(templates, node, usize::from(head.b()))?;
@@ -98,6 +93,7 @@ fn node_standing(grammar: &[Record], templates: &[Record], node: usize) -> Optio
                 "a literal is written as it stands, so it must be the escaped text itself"
                     .to_string(),
             );
+            let all = classes(grammar);
             said.extend(literal_found(&text, all.get(usize::from(plain))));
         }
         2 => said.push(format!("a place here has a text of class {plain}")),

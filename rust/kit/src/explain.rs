@@ -1,6 +1,6 @@
 //! Runs the proved library on three streams, and shows what it refuses and where.
 
-use crate::due::due;
+use crate::due::{due, literal_due};
 use crate::escapes::escapes;
 use crate::layout::{lines, Line};
 use crate::paper::quotes;
@@ -216,7 +216,7 @@ fn offending(refusal: Refusal, set: Set<'_>) -> String {
     }
 }
 
-/// The offending record in its context; for a value of another type also what is due there.
+/// The offending record in its context, and what is due there.
 fn record_lines(refusal: Refusal, kind: Kind, lines: &[Line], set: Set<'_>) -> String {
     let Some(place) = refusal
         .record()
@@ -224,18 +224,18 @@ fn record_lines(refusal: Refusal, kind: Kind, lines: &[Line], set: Set<'_>) -> S
     else {
         return String::new();
     };
-    let mut text = context(kind, lines, place);
-    if let Refusal::ValueType { .. } = refusal {
-        text.push_str(&due_lines(set, place));
-    }
-    text
+    context(kind, lines, place) + &due_lines(refusal, set, place)
 }
 
-/// What the declared type asks for at a record of the value.
-fn due_lines(set: Set<'_>, place: usize) -> String {
+/// What the declared type asks for at a record of the value, or a class at a literal.
+fn due_lines(refusal: Refusal, set: Set<'_>, place: usize) -> String {
     let [grammar, templates, value] = [Kind::Grammar, Kind::Templates, Kind::Value]
         .map(|kind| Found::read(set.bytes(kind), Some(kind)).records);
-    remarks(&due(&grammar, &templates, &value, place))
+    remarks(&match refusal {
+        Refusal::Typing { .. } => literal_due(&grammar, &templates, place).unwrap_or_default(),
+        Refusal::ValueType { .. } => due(&grammar, &templates, &value, place),
+        _ => Vec::new(),
+    })
 }
 
 /// The first line that the kit finds odd: the library gives no place for a broken layout.
@@ -361,7 +361,14 @@ mod tests {
             text.contains(">         9            literal of 2 bytes, size 2\n"),
             "{text}"
         );
-        assert!(text.ends_with("evaluate: the same refusal\n"));
+        assert!(
+            text.ends_with(
+                "  = class 0 is asked for here: 1 to 4 characters of U+0061-U+007A\n  \
+                 = this text has 2 characters, and number 1, U+0041, is in no range\n\
+                 evaluate: the same refusal\n"
+            ),
+            "{text}"
+        );
     }
 
     #[test]

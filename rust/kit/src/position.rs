@@ -1,8 +1,20 @@
-//! Which element of the grammar a node of the templates stands for.
+//! Which element of the grammar a node of the templates stands for, and which class.
 //!
 //! The streams have a sound layout here, and name what exists.
 
+use crate::classes::{classes, Class};
 use crate::record::{Record, RECORD};
+
+/// The class that a node stands for, and its number.
+pub fn class_of<'a>(
+    grammar: &'a [Record],
+    templates: &[Record],
+    node: usize,
+) -> Option<(u16, Class<'a>)> {
+    let element = *grammar.get(element_of(grammar, templates, node)?)?;
+    let class = classes(grammar).get(usize::from(element.b())).copied()?;
+    (element.a() == 1).then_some((element.b(), class))
+}
 
 /// The element that a node stands for, if it is a child of a build.
 pub fn element_of(grammar: &[Record], templates: &[Record], node: usize) -> Option<usize> {
