@@ -3,6 +3,7 @@
 //!
 //! The streams that are read have a sound layout here: types and literals are judged only after it.
 
+use crate::characters::{characters_due, text_found};
 use crate::classes::{classes, Class};
 use crate::position::class_of;
 use crate::record::{Record, RECORD};
@@ -138,16 +139,6 @@ fn text_due(grammar: &[Record], number: u16, value: &[Record], place: usize) -> 
     found
 }
 
-/// How many characters of which ranges a plain class has.
-pub fn characters_due(head: Record, ranges: &[Record]) -> String {
-    let each: Vec<String> = ranges
-        .iter()
-        .map(|range| format!("U+{:04X}-U+{:04X}", range.point(1), range.point(4)))
-        .collect();
-    let (least, most) = (head.b(), head.c());
-    format!("{least} to {most} characters of {}", each.join(" "))
-}
-
 /// What is due where a literal stands for a plain class; of escaped ones [`escapes`](crate::escapes) tells.
 pub fn literal_due(grammar: &[Record], templates: &[Record], node: usize) -> Option<Vec<String>> {
     let (number, Class::Plain { head, ranges }) = class_of(grammar, templates, node)? else {
@@ -166,32 +157,6 @@ pub fn literal_due(grammar: &[Record], templates: &[Record], node: usize) -> Opt
 pub fn text_bytes(records: &[Record], place: usize, length: usize) -> Option<Vec<u8>> {
     let units = records.get(place + 1..place + 1 + length.div_ceil(RECORD))?;
     Some(units.iter().flat_map(|unit| unit.0).take(length).collect())
-}
-
-/// What a text has that its class may not take.
-pub fn text_found(bytes: &[u8], ranges: &[Record]) -> String {
-    let Ok(text) = std::str::from_utf8(bytes) else {
-        return "this text is no well-formed UTF-8".to_string();
-    };
-    let inside = |character: char| {
-        let point = u32::from(character);
-        ranges
-            .iter()
-            .any(|range| range.point(1) <= point && point <= range.point(4))
-    };
-    let count = counted(text.chars().count(), "character", "characters");
-    match text
-        .chars()
-        .enumerate()
-        .find(|&(_, character)| !inside(character))
-    {
-        Some((index, character)) => format!(
-            "this text has {count}, and number {}, U+{:04X}, is in no range",
-            index + 1,
-            u32::from(character)
-        ),
-        None => format!("this text has {count}"),
-    }
 }
 
 #[cfg(test)]

@@ -2,8 +2,9 @@
 //!
 //! The layout is sound here: names and typing are judged after it.
 
+use crate::characters::{characters_due, text_found};
 use crate::classes::{classes, Class};
-use crate::due::{characters_due, text_bytes, text_found};
+use crate::due::text_bytes;
 use crate::position::class_of;
 use crate::record::Record;
 use crate::words::quoted;

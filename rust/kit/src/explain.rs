@@ -357,6 +357,7 @@ mod tests {
             "{text}"
         );
         assert!(text.contains("Class: a literal that is a lexeme"));
+        assert!(text.contains("A character of a lexeme must from now on be one of these"));
         assert!(
             text.contains(">         9            literal of 2 bytes, size 2\n"),
             "{text}"

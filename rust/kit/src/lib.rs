@@ -9,6 +9,7 @@
 #![deny(missing_docs)]
 
 pub mod assemble;
+pub mod characters;
 pub mod checks;
 pub mod classes;
 pub mod description;

@@ -16,10 +16,10 @@ pub fn quotes(refusal: Refusal, node_form: Option<u8>, escaped: bool) -> Vec<&'s
         Refusal::Block { .. } => &[CHAIN],
         Refusal::Layout { .. } => LAYOUT,
         Refusal::Name { .. } if escaped => &[ESCAPED_NAMES],
-        Refusal::Typing { .. } if escaped => &[ESCAPED],
+        Refusal::Typing { .. } if escaped => escaped_typing(node_form),
         Refusal::Typing { node: 0 } => &[],
         Refusal::Typing { .. } => typing(node_form),
-        Refusal::ValueType { .. } => &[VALUE, LEXEME],
+        Refusal::ValueType { .. } => &[VALUE, LEXEME, ADMITTED],
         _ => &[],
     });
     found
@@ -70,11 +70,19 @@ fn what_stops(refusal: Refusal) -> &'static str {
 fn typing(node_form: Option<u8>) -> &'static [&'static str] {
     match node_form {
         Some(0 | 3) => &[NONTERMINAL, COUNTS],
-        Some(1) => &[CLASS, LEXEME],
+        Some(1) => &[CLASS, LEXEME, ADMITTED],
         Some(2) => &[CLASS],
         Some(4) => &[NONTERMINAL],
         Some(5 | 6) => &[REPETITION],
         _ => &[],
+    }
+}
+
+/// The same, where an escaped class is asked for.
+fn escaped_typing(node_form: Option<u8>) -> &'static [&'static str] {
+    match node_form {
+        Some(1) => &[ESCAPED, LEXEME, ADMITTED],
+        _ => &[ESCAPED],
     }
 }
 
@@ -95,6 +103,10 @@ const SEPARATOR: &str = "The separator is written before every item but the firs
 const LEXEME: &str = "A lexeme of a class is well-formed UTF-8 (RFC 3629) with a character count \
                       from least to most, each character in some range. \
                       Counts are of characters, never bytes.";
+
+const ADMITTED: &str = "XML 1.0 admits only U+0009, U+000A, U+000D, U+0020-U+D7FF, U+E000-U+FFFD \
+                        and U+10000-U+10FFFF. A character of a lexeme must from now on be one of \
+                        these as well as lie in a range of its class.";
 
 const ESCAPED_NAMES: &str = "An escaped class naming no earlier plain class, \
                              or a text type naming an escaped class, is refused as 5.";
