@@ -71,6 +71,19 @@
  *
  * feed_pack and feed_unpack answer 0, 1, 2 and 12 of their own, and feed_unescape
  * 0, 8 and 12, as said there, always with kind 0 and steps 0.
+ *
+ * LEXEMES
+ *
+ * A literal of the templates (else 7) and a text of the value (else 8) is a lexeme
+ * of its class: well-formed UTF-8 of least to most characters, each in a range of
+ * the class and among those that XML 1.0 admits:
+ *
+ *   U+0009, U+000A, U+000D, U+0020-U+D7FF, U+E000-U+FFFD, U+10000-U+10FFFF
+ *
+ * A range may hold others, such as the vertical tab U+000B, and lets none of them
+ * in. A lexeme of an escaped class is the escaped form of a plain one, and it is
+ * the plain characters that are judged. Keywords and separators are no lexemes:
+ * they may hold any bytes.
  */
 #ifndef FEED_H
 #define FEED_H
@@ -191,7 +204,7 @@ void feed_unpack(uint8_t kind,
  *            UTF-8 (it has a bare one of the five characters, another reference,
  *            a numeric one too, or is no UTF-8), then 12 if the plain text
  *            doesn't fit the output. The plain text is never longer than the
- *            escaped one. No class is looked at.
+ *            escaped one. No class is looked at, nor what XML 1.0 admits.
  * Afterwards: refused, nothing is written; else only the bytes counted are. What
  *            follows in the output is as it was.
  */

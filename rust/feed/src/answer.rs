@@ -75,13 +75,14 @@ pub enum Refusal {
         /// The class or the range, in the grammar.
         record: u64,
     },
-    /// 7: a typing rule fails, or a path names a variable or field that isn't there. In the position of an
-    /// escaped class a literal is an escaped text itself, and a place has a text of the plain class.
+    /// 7: a typing rule fails, or a path names a variable or field that isn't there. A literal must be a
+    /// [lexeme](crate#lexemes). In the position of an escaped class it is an escaped text itself, and a
+    /// place has a text of the plain class.
     Typing {
         /// The node, in the templates; 0 if template 0 is missing or hasn't exactly one parameter.
         node: u64,
     },
-    /// 8: the value isn't of its declared type.
+    /// 8: the value isn't of its declared type. A text must be a [lexeme](crate#lexemes).
     ValueType {
         /// The first record of the value that fails its own rule.
         record: u64,

@@ -223,10 +223,11 @@ pub fn unpack(kind: u8, stream: &[u8], output: &mut [u8]) -> Answer {
 /// the position of an escaped class writes.
 ///
 /// `&amp;`, `&lt;`, `&gt;`, `&quot;` and `&apos;` become the characters that they stand for. Any bytes of
-/// any length may be lent; the call knows no class. Tried are 8 (escaping makes the text of no
-/// well-formed UTF-8: it has a bare one of the five characters, another reference, such as `&#38;`, or
-/// bytes that are no UTF-8) and 12 (the plain text doesn't fit the output). Refused, nothing is written,
-/// else only the bytes counted. The plain text is never longer than the escaped one.
+/// any length may be lent; the call knows no class, and doesn't ask what XML 1.0 admits. Tried are 8
+/// (escaping makes the text of no well-formed UTF-8: it has a bare one of the five characters, another
+/// reference, such as `&#38;`, or bytes that are no UTF-8) and 12 (the plain text doesn't fit the output).
+/// Refused, nothing is written, else only the bytes counted. The plain text is never longer than the
+/// escaped one.
 ///
 /// ```
 /// let mut plain = [b'.'; 16];

@@ -210,6 +210,76 @@ fn a_place_writes_the_entities_whole_or_not_at_all() {
     case(&set, 9, 99, [8, 3, 1, 0, 0], "");
 }
 
+/// A stream of one block with other records from a place on.
+fn changed(stream: &[u8], place: usize, records: &[[u8; 8]]) -> Vec<u8> {
+    let mut payload = [[0; 8]; 63];
+    assert_eq!(
+        feed::unpack(stream[2], stream, payload.as_flattened_mut()).number,
+        0
+    );
+    payload[place..place + records.len()].copy_from_slice(records);
+    packed(stream[2], &payload)
+}
+
+/// A short text as a record, zero-padded.
+fn unit(text: &str) -> [u8; 8] {
+    let mut unit = [0; 8];
+    unit[..text.len()].copy_from_slice(text.as_bytes());
+    unit
+}
+
+/// The set with escaped titles, but every character is in the range of class 0, the title is one of class 0
+/// or 1, and the keyword is a vertical tab.
+fn any_title(class: u8, title: &str) -> Set {
+    let set = escaped(unit(title), title.len() as u8);
+    let any = [2, 0, 0, 0, 0xff, 0xff, 0x10, 0];
+    let grammar = changed(&set.grammar, 1, &[any]);
+    let grammar = changed(&grammar, 6, &[[4, 1, class, 0, 0, 0, 0, 0]]);
+    Set {
+        grammar: changed(&grammar, 8, &[unit("\u{B}")]),
+        ..set
+    }
+}
+
+/// The same with a literal in place of the title.
+fn any_literal(class: u8, literal: &str) -> Set {
+    let set = any_title(class, "a");
+    let node = [5, 1, literal.len() as u8, 0, 2, 0, 0, 0];
+    Set {
+        templates: changed(&set.templates, 9, &[node, unit(literal)]),
+        ..set
+    }
+}
+
+#[test]
+fn a_lexeme_has_only_characters_that_xml_admits() {
+    let admitted = ["\t\n\r ", "\u{7F}\u{85}", "\u{FFFD}", "\u{1FFFE}\u{10FFFF}"];
+    let others = [
+        "a\u{B}", "\0", "\u{8}", "\u{C}", "\u{E}", "\u{1F}", "\u{FFFE}", "\u{FFFF}",
+    ];
+    for class in [0, 1] {
+        for text in admitted {
+            let written = format!("{text}\u{B}");
+            let finished = [0, 0, 0, 5, written.len() as u64];
+            case(&any_title(class, text), 9, 99, finished, &written);
+            case(&any_literal(class, text), 9, 99, finished, &written);
+        }
+        for text in others {
+            case(&any_title(class, text), 9, 99, [8, 3, 1, 0, 0], "");
+            case(&any_literal(class, text), 9, 99, [7, 2, 9, 0, 0], "");
+        }
+    }
+}
+
+#[test]
+fn unescaping_does_not_ask_what_xml_admits() {
+    let mut plain = [GUARD; 9];
+    let answer = feed::unescape("\u{B}&amp;\0\u{FFFE}".as_bytes(), &mut plain);
+    assert_eq!(answer.fields(), [0, 0, 0, 0, 6]);
+    assert_eq!(answer.written(&plain), "\u{B}&\0\u{FFFE}".as_bytes());
+    assert_eq!(plain[6..], [GUARD; 3]);
+}
+
 #[test]
 fn unescaping_writes_the_plain_text_or_nothing() {
     let text = b"&lt;b&gt;Salt &amp; Rope&lt;/b&gt;";
