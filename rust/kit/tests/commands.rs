@@ -147,6 +147,26 @@ evaluate: the templates, record 9: a node is reached with all fuel used (refusal
     );
 }
 
+/// The lines that the examples' page shows of it, in their order.
+#[test]
+fn explain_of_a_pasted_title() {
+    let folder = folder("pasted");
+    let (name, file) = (name_of(&folder), folder.join("feed.txt"));
+    let typed = fs::read_to_string(example("podcast/feed.txt")).expect("a description");
+    let pasted = typed.replace("\"2. Salt & Rope\"", "\"2. Salt\u{B} & Rope\"");
+    fs::write(&file, pasted).expect("written");
+    assert_eq!(status(&["assemble", &name_of(&file), &name]), Some(0));
+    let output = kit(&["explain", &name]);
+    assert_eq!(output.status.code(), Some(1));
+    let text = printed(&output);
+    let page = fs::read_to_string(example("README.md")).expect("the page");
+    let fenced = page.split("```").find(|part| part.contains("U+000B ("));
+    let mut lines = text.lines();
+    for line in fenced.expect("what the kit says").trim().lines() {
+        assert!(line == ".." || lines.any(|said| said == line), "{line}");
+    }
+}
+
 #[test]
 fn explain_of_missing_files() {
     let output = kit(&["explain", &name_of(&folder("empty"))]);

@@ -1,5 +1,6 @@
 //! The examples: their descriptions give their streams, and their streams their texts.
 
+use kit::characters::is_admitted;
 use kit::description::{ClassForm, Value, ValueForm};
 use kit::parser::parse;
 use kit::{assemble, Streams};
@@ -29,10 +30,12 @@ fn streams(example: &str) -> Streams {
     }
 }
 
+fn description(example: &str) -> String {
+    String::from_utf8(read(&format!("examples/{example}/feed.txt"))).expect("UTF-8")
+}
+
 fn assembled(example: &str) -> Streams {
-    let description =
-        String::from_utf8(read(&format!("examples/{example}/feed.txt"))).expect("UTF-8");
-    assemble(&description).expect("a description without mistakes")
+    assemble(&description(example)).expect("a description without mistakes")
 }
 
 /// The steps and the text of an example, by the proved library.
@@ -201,8 +204,8 @@ fn titles_and_notes(value: &Value, found: &mut Vec<String>) {
 /// The parser gives back exactly what was typed: the plain titles and notes of the description.
 #[test]
 fn the_podcast_says_what_was_typed() {
-    let description = String::from_utf8(read("examples/podcast/feed.txt")).expect("UTF-8");
-    let value = parse(&description).expect("a tree").value.expect("a value");
+    let tree = parse(&description("podcast")).expect("a tree");
+    let value = tree.value.expect("a value");
     let mut typed = Vec::new();
     titles_and_notes(&value, &mut typed);
     assert_eq!(parsed_podcast(), typed.join("\n") + "\n");
@@ -211,17 +214,29 @@ fn the_podcast_says_what_was_typed() {
     }
 }
 
+/// The characters in the ranges of an example's classes.
+fn ranged(example: &str) -> impl Iterator<Item = char> {
+    let classes = parse(&description(example)).expect("a tree").classes;
+    let ranges = classes.into_iter().flat_map(|class| match class.form {
+        ClassForm::Plain { ranges, .. } => ranges,
+        ClassForm::Escaped(_) => Vec::new(),
+    });
+    ranges
+        .flat_map(|(lowest, highest)| lowest..=highest)
+        .filter_map(char::from_u32)
+}
+
 /// No class of the podcast takes a control character.
 #[test]
 fn the_podcasts_classes_hold_no_control_character() {
-    let description = String::from_utf8(read("examples/podcast/feed.txt")).expect("UTF-8");
-    for class in parse(&description).expect("a tree").classes {
-        if let ClassForm::Plain { ranges, .. } = class.form {
-            let controls = |&(lowest, highest): &(u32, u32)| {
-                (lowest..=highest).any(|point| char::from_u32(point).is_some_and(char::is_control))
-            };
-            assert!(!ranges.iter().any(controls), "{}", class.name.word);
-        }
+    assert_eq!(ranged("podcast").find(|it| it.is_control()), None);
+}
+
+/// What the examples' ranges hold, they let in.
+#[test]
+fn the_examples_classes_hold_only_characters_that_xml_admits() {
+    for example in ["harbour", "podcast"] {
+        assert_eq!(ranged(example).find(|&it| !is_admitted(it)), None);
     }
 }
 
@@ -243,6 +258,5 @@ fn the_formats_escaped_title_is_written() {
 #[test]
 fn the_format_has_the_papers_description() {
     let format = String::from_utf8(read("rust/kit/FORMAT.md")).expect("UTF-8");
-    let description = String::from_utf8(read("examples/harbour/feed.txt")).expect("UTF-8");
-    assert!(format.contains(&description));
+    assert!(format.contains(&description("harbour")));
 }
