@@ -10,7 +10,10 @@ pub fn characters_due(head: Record, ranges: &[Record]) -> String {
         .map(|range| format!("U+{:04X}-U+{:04X}", range.point(1), range.point(4)))
         .collect();
     let (least, most) = (head.b(), head.c());
-    format!("{least} to {most} characters of {}", each.join(" "))
+    match each.is_empty() {
+        true => format!("{least} to {most} characters, but the class has no range"),
+        false => format!("{least} to {most} characters of {}", each.join(" ")),
+    }
 }
 
 /// What a text has that its class may not take.
@@ -188,6 +191,17 @@ mod tests {
         ] {
             assert_eq!(said("a&b", text, 8)[1], nowhere(2, which));
         }
+    }
+
+    #[test]
+    fn a_class_without_ranges() {
+        assert_eq!(
+            said("1 to 4 { U+0000-U+10FFFF }", "0 to 4 { }", 7),
+            [
+                "class 0 is asked for here: 0 to 4 characters, but the class has no range",
+                "this text has 3 characters, and number 1, U+006F, is in no range"
+            ]
+        );
     }
 
     #[test]

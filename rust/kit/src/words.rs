@@ -21,6 +21,8 @@ pub fn quoted(text: &[u8]) -> String {
 fn escaped(character: char) -> Vec<char> {
     match character {
         '\'' => vec!['\''],
+        // As a description writes it, which knows no `\0`.
+        '\0' => character.escape_unicode().collect(),
         other => other.escape_debug().collect(),
     }
 }
@@ -41,6 +43,7 @@ mod tests {
     fn texts_in_quotes() {
         assert_eq!(quoted("αβ'\"\n".as_bytes()), "\"αβ'\\\"\\n\"");
         assert_eq!(quoted(b"a\xC0\x80b"), "\"a\\xC0\\x80b\"");
+        assert_eq!(quoted(b"\0\x0B"), "\"\\u{0}\\u{b}\"");
     }
 
     #[test]
