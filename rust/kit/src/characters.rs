@@ -83,7 +83,7 @@ fn name(character: char) -> &'static str {
 #[cfg(test)]
 mod tests {
     use super::is_admitted;
-    use crate::explain::{explain, Lent, Set};
+    use crate::explain::{explained_with, remarks_of};
 
     /// Class 0 has every character in its range; keywords and separators hold some that XML 1.0 doesn't
     /// admit.
@@ -94,25 +94,11 @@ mod tests {
           build p (literal "one" literal "two" place v sequence (build q build q))
         value "a&b""#;
 
-    /// What `explain` says of the description with another part.
-    fn explained(from: &str, to: &str) -> String {
-        assert!(SMALL.contains(from), "{from}");
-        let streams = crate::assemble(&SMALL.replacen(from, to, 1)).expect("streams");
-        let set = Set {
-            grammar: &streams.grammar,
-            templates: &streams.templates,
-            value: &streams.value,
-        };
-        explain(set, Lent::default()).text
-    }
-
-    /// The lines that `explain` adds to a refusal.
+    /// The lines that `explain` adds to a refusal of the description with another part.
     fn said(from: &str, to: &str, number: u8) -> Vec<String> {
-        let text = explained(from, to);
-        assert!(text.contains(&format!("(refusal {number})")), "{text}");
+        let text = explained_with(SMALL, from, to);
         assert!(text.contains("XML 1.0 admits only U+0009, U+000A, U+000D, "));
-        let lines = text.lines().filter_map(|line| line.strip_prefix("  = "));
-        lines.map(str::to_string).collect()
+        remarks_of(&text, number)
     }
 
     /// What is said of a text of so many characters with one that XML 1.0 doesn't admit.
@@ -128,7 +114,7 @@ mod tests {
     #[test]
     fn keywords_separators_and_ranges_hold_any_character() {
         assert_eq!(
-            explained("", ""),
+            explained_with(SMALL, "", ""),
             "check: accepted\nevaluate: finished, 7 steps, a text of 19 bytes\n"
         );
     }

@@ -161,7 +161,7 @@ pub fn text_bytes(records: &[Record], place: usize, length: usize) -> Option<Vec
 
 #[cfg(test)]
 mod tests {
-    use crate::explain::{explain, Lent, Set};
+    use crate::explain::{explained_with, remarks_of};
 
     const SMALL: &str = r#"class c 1 to 4 { 'a'-'z' U+0370-U+03FF } production p of n =
         type t = text c type f = yesno type l = list t type e = record { word: t }
@@ -170,18 +170,7 @@ mod tests {
 
     /// What `explain` adds for a value that is not of its type.
     fn said(from: &str, to: &str) -> Vec<String> {
-        let streams = crate::assemble(&SMALL.replace(from, to)).expect("streams");
-        let set = Set {
-            grammar: &streams.grammar,
-            templates: &streams.templates,
-            value: &streams.value,
-        };
-        let text = explain(set, Lent::default()).text;
-        assert!(text.contains("(refusal 8)"), "{text}");
-        text.lines()
-            .filter_map(|line| line.strip_prefix("  = "))
-            .map(str::to_string)
-            .collect()
+        remarks_of(&explained_with(SMALL, from, to), 8)
     }
 
     const CLASS: &str =

@@ -153,7 +153,7 @@ fn reference(text: &str) -> Option<&str> {
 
 #[cfg(test)]
 mod tests {
-    use crate::explain::{explain, Lent, Set};
+    use crate::explain::{explain, explained_with, remarks_of, Lent, Set};
 
     const SMALL: &str = r#"class c 1 to 4 { ' '-'~' U+0370-U+03FF } class other 1 to 4 { 'a'-'z' }
         class x = escaped c class y = escaped other production p of n = "<" x ">"
@@ -162,17 +162,8 @@ mod tests {
 
     /// What `explain` adds, and all that it says.
     fn said(from: &str, to: &str, number: u8) -> (Vec<String>, String) {
-        assert!(SMALL.contains(from), "{from}");
-        let streams = crate::assemble(&SMALL.replacen(from, to, 1)).expect("streams");
-        let set = Set {
-            grammar: &streams.grammar,
-            templates: &streams.templates,
-            value: &streams.value,
-        };
-        let text = explain(set, Lent::default()).text;
-        assert!(text.contains(&format!("(refusal {number})")), "{text}");
-        let lines = text.lines().filter_map(|line| line.strip_prefix("  = "));
-        (lines.map(str::to_string).collect(), text)
+        let text = explained_with(SMALL, from, to);
+        (remarks_of(&text, number), text)
     }
 
     #[test]

@@ -298,6 +298,27 @@ fn heads_around(lines: &[Line], target: usize) -> Vec<usize> {
     found
 }
 
+/// What is said of a description with another part.
+#[cfg(test)]
+pub(crate) fn explained_with(description: &str, from: &str, to: &str) -> String {
+    assert!(description.contains(from), "{from}");
+    let streams = crate::assemble(&description.replacen(from, to, 1)).expect("streams");
+    let set = Set {
+        grammar: &streams.grammar,
+        templates: &streams.templates,
+        value: &streams.value,
+    };
+    explain(set, Lent::default()).text
+}
+
+/// The remarks in an explanation, by which a refusal with this number is told more closely.
+#[cfg(test)]
+pub(crate) fn remarks_of(text: &str, number: u8) -> Vec<String> {
+    assert!(text.contains(&format!("(refusal {number})")), "{text}");
+    let lines = text.lines().filter_map(|line| line.strip_prefix("  = "));
+    lines.map(str::to_string).collect()
+}
+
 #[cfg(test)]
 mod tests {
     use super::*;
