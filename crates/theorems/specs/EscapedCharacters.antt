@@ -1,5 +1,5 @@
 -- Escaping by characters. 02 c speaks of characters, `escape` goes by bytes; it comes to the same, and an escaped form is well-formed UTF-8 again.
-use mathlib.Core.Path.{_≡_, refl, sym, _∙_, ap, subst}
+use mathlib.Core.Path.{_≡_, refl, sym, _∙_, ap}
 use mathlib.Core.Logic.{_↔_, inl, inr}
 use Prim.Native.Nat.{ℕ, _+_, _/_, _%_, _≤_}
 use mathlib.Core.List.{List, [], _∷_, _++_, append-assoc, append-nil}
