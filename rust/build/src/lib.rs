@@ -35,6 +35,7 @@
 //! ```
 
 mod blocks;
+pub mod borders;
 mod escapes;
 mod grammar;
 mod records;

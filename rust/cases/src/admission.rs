@@ -4,6 +4,7 @@ use crate::case::{Case, Lent, Set, PLENTY};
 use crate::escapes::unescape;
 use crate::example::{entries, template, templates, titles};
 use crate::records::Records;
+use build::borders::{ADMITTED, OTHERS};
 use build::{Element, Grammar, Node};
 
 /// All of them.
@@ -22,19 +23,7 @@ pub fn all() -> Vec<Case> {
     .concat()
 }
 
-/// Code points on the inner side of each border, and some within that other lists leave out.
-const ADMITTED: [u32; 14] = [
-    0x9, 0xA, 0xD, 0x20, 0x7F, 0x80, 0x85, 0x9F, 0xD7FF, 0xE000, 0xFFFD, 0x10000, 0x1FFFE, 0x10FFFF,
-];
-
-/// Code points on the outer side.
-const OTHERS: [u32; 8] = [0x0, 0x8, 0xB, 0xC, 0xE, 0x1F, 0xFFFE, 0xFFFF];
-
 const ALL: &[(u32, u32)] = &[(0, 0x10_FFFF)];
-
-fn text_of(code: u32) -> String {
-    char::from_u32(code).expect("no surrogate").into()
-}
 
 /// The example's grammar with titles of at least so many characters in these ranges (class 0), or in
 /// their escaped form (class 1).
@@ -66,15 +55,15 @@ fn literal(grammar: &Records, text: &str) -> Set {
 /// A title and a literal of each character at a border, in a class that holds all.
 fn borders() -> Vec<Case> {
     let any = grammar(ALL, 0);
-    let of = |code: u32, [title, refused]: [u8; 2]| {
-        let text = text_of(code);
+    let of = |character: char, [title, refused]: [u8; 2]| {
+        let (text, code) = (String::from(character), u32::from(character));
         [
             titled(&any, &text).case(&format!("{title} title of U+{code:04X}")),
             literal(&any, &text).case(&format!("{refused} literal of U+{code:04X}")),
         ]
     };
-    let admitted = ADMITTED.iter().flat_map(|&code| of(code, [0, 0]));
-    let others = OTHERS.iter().flat_map(|&code| of(code, [8, 7]));
+    let admitted = ADMITTED.iter().flat_map(|&it| of(it, [0, 0]));
+    let others = OTHERS.iter().flat_map(|&it| of(it, [8, 7]));
     admitted.chain(others).collect()
 }
 
@@ -190,9 +179,9 @@ fn order() -> Vec<Case> {
 
 /// The unescape call knows no class: what it gives back may be no lexeme.
 fn unescaped() -> Vec<Case> {
-    let of = |code: u32| {
-        let text = format!("a{}&amp;", text_of(code));
-        let room = text.len() - 4;
+    let of = |character: char| {
+        let text = format!("a{character}&amp;");
+        let (code, room) = (u32::from(character), text.len() - 4);
         unescape(&format!("aU+{code:04X}&amp;"), text.as_bytes(), room)
     };
     OTHERS.map(of).to_vec()

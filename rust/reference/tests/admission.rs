@@ -1,34 +1,9 @@
 //! Request d: a character of a lexeme is one that XML 1.0 admits, as well as in a range of its class.
 //! Nothing else is judged by it.
 
+use build::borders::{ADMITTED, OTHERS};
 use build::{Element, Grammar, Node, Path, Templates, Value};
 use reference::{check, evaluate, unescape};
-
-/// Every character on the inner side of a border of what is admitted, and some within that other
-/// lists leave out.
-const ADMITTED: [char; 16] = [
-    '\t',
-    '\n',
-    '\r',
-    ' ',
-    '\u{7F}',
-    '\u{80}',
-    '\u{85}',
-    '\u{9F}',
-    '\u{D7FF}',
-    '\u{E000}',
-    '\u{FDD0}',
-    '\u{FFFD}',
-    '\u{10000}',
-    '\u{1FFFE}',
-    '\u{1FFFF}',
-    '\u{10FFFF}',
-];
-
-/// Every character on the outer side. (Surrogates are none.)
-const OTHERS: [char; 8] = [
-    '\0', '\u{8}', '\u{B}', '\u{C}', '\u{E}', '\u{1F}', '\u{FFFE}', '\u{FFFF}',
-];
 
 const ALL: &[(u32, u32)] = &[(0, 0x10_FFFF)];
 

@@ -6,6 +6,7 @@
 
 use std::ops::Range;
 
+use build::borders::{ADMITTED, OTHERS};
 use build::{records_of, Record, PAYLOAD};
 
 use crate::faulty::{
@@ -21,30 +22,6 @@ pub(crate) fn is_admitted(character: char) -> bool {
         '\t' | '\n' | '\r' | ' '..='\u{D7FF}' | '\u{E000}'..='\u{FFFD}' | '\u{10000}'..
     )
 }
-
-/// Characters on the outer side of each border of what XML 1.0 admits.
-pub(crate) const OTHERS: [char; 8] = [
-    '\0', '\u{8}', '\u{B}', '\u{C}', '\u{E}', '\u{1F}', '\u{FFFE}', '\u{FFFF}',
-];
-
-/// Characters on the inner side, and some within that other lists leave out.
-pub(crate) const ADMITTED: [char; 15] = [
-    '\t',
-    '\n',
-    '\r',
-    ' ',
-    '\u{7F}',
-    '\u{80}',
-    '\u{85}',
-    '\u{9F}',
-    '\u{D7FF}',
-    '\u{E000}',
-    '\u{FFFD}',
-    '\u{10000}',
-    '\u{1FFFE}',
-    '\u{1FFFF}',
-    '\u{10FFFF}',
-];
 
 /// What is wrong with admission.
 #[derive(Clone, Copy, Debug, PartialEq, Eq)]

@@ -2,10 +2,11 @@
 //! classes, by themselves, in the midst of a text and at the borders of blocks; and in keywords and
 //! separators, where they may stand.
 
+use build::borders::{ADMITTED, OTHERS};
 use build::{escaped, Element, Grammar, Node, Path, Templates, Value, PAYLOAD};
 
 use super::Streams;
-use crate::admission::{Text, ADMITTED, OTHERS};
+use crate::admission::Text;
 use crate::random::Random;
 
 /// What stands between the characters at the borders. A text comes up to a border of blocks by the

@@ -1,8 +1,9 @@
 //! Texts of a class, and texts that just miss it.
 
+use build::borders::OTHERS;
 use build::{escaped, PlainClass};
 
-use crate::admission::{is_admitted, OTHERS};
+use crate::admission::is_admitted;
 use crate::escapes;
 use crate::random::Random;
 
