@@ -21,8 +21,8 @@ use Rattle.entities.specs.declared.entity.Plain.{Plain}
 use Rattle.lexeme.specs.declared.scan.Scan.{Scan}
 use Rattle.lexeme.specs.Scan.{midway, clean, scanned, Tidy}
 use Rattle.lexeme.proofs.ScanLaws.{passes, plain-scan, plain-other}
-use Rattle.lexeme.proofs.PartLaws.{tidy-scanned, passes-bad, passes-past}
-use Rattle.lexeme.proofs.LexemeLaws.{tidy-clean, ends-short, ends-whole}
+use Rattle.lexeme.proofs.PartLaws.{tidy-clean, tidy-scanned, passes-bad, passes-past}
+use Rattle.lexeme.proofs.LexemeLaws.{ends-short, ends-whole}
 
 -- what a scan from a state on says of a plain text, if there is one
 unfoldable pub settles : List ℕ → ℕ → Scan → Option (List ℕ) → Bool

@@ -21,11 +21,7 @@ use Rattle.lexeme.specs.Sets.{ClassSet, setOf, LexemesReady}
 use Rattle.lexeme.specs.Runs.{RunsTo}
 use Rattle.lexeme.specs.Scan.{midway, clean, scanned, Tidy}
 use Rattle.lexeme.proofs.ScanLaws.{passes, scanned-append, plain-scan, plain-other}
-use Rattle.lexeme.proofs.PartLaws.{tidy-scanned, passes-bad, passes-past}
-
-pub tidy-clean : (n : ℕ) → Tidy (clean n)
-unfolding clean midway
-tidy-clean n = record { good = refl; fresh = λ e. refl; from = λ l. absurd (omega arith); to = λ l. absurd (omega arith); short = omega arith; few = omega arith }
+use Rattle.lexeme.proofs.PartLaws.{tidy-clean, tidy-scanned, passes-bad, passes-past}
 
 pub found : (g list : List ℕ) (n : ℕ) → list ≡ classes g → n < length list → class g n ≡ some (getD list n 0)
 unfolding class

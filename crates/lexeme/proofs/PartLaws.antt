@@ -5,7 +5,6 @@ use mathlib.Core.List.{List, [], _∷_}
 use mathlib.Core.Bool.{Bool, true, false, cond, not, _&&_, and-false, false≢true, true≢false}
 use native.Mathlib.Omega.{arith}
 use native.Mathlib.Numerals.{add-one}
-use native.Mathlib.Nat.{add-zero}
 use lib.ListN.{length, getD, drop, drop-of-length-le}
 use lib.Seq.{drop-cons}
 use lib.Dec.{eqb, leb}
@@ -14,10 +13,9 @@ use borrow.Author.Tests.{lt-leb, eqb-true, eqb-false, leb-true}
 use Rattle.rules.specs.Records.{fieldB, fieldC}
 use Rattle.rules.specs.Lexeme.{Decoding, between, inside, broken, firstByte, laterByte, nextByte, isOfClass, allOfClass, within, ranges}
 use Rattle.lexeme.specs.declared.scan.Scan.{Scan}
-use Rattle.lexeme.specs.declared.runs.TextRun.{TextRun}
 use Rattle.lexeme.specs.Sets.{ClassSet}
-use Rattle.lexeme.specs.Scan.{midway, clean, stopped, further, judged, resumed, seen, scanned, Tidy}
-use Rattle.lexeme.specs.Runs.{Ahead}
+use Rattle.lexeme.specs.Scan.{midway, clean, stopped, judged, resumed, seen, scanned, Tidy}
+use Rattle.lexeme.specs.Runs.{RunsTo}
 use Rattle.lexeme.proofs.ScanLaws.{passes, by-test, scanned-stopped}
 use Rattle.lexeme.proofs.StepLaws.{seen-first, seen-later, later-low, later-high, later-last, later-more, judge-stop, judge-char, judge-midway}
 
@@ -105,10 +103,10 @@ unfolding midway
 good-midway s e = ap (λ (v : Bool). record { good = v; due = s .due; low = s .low; high = s .high; bits = s .bits; count = s .count }) e
 
 -- the ways of a step
-pub step-first : (g rs : List ℕ) (s : Scan) (b : ℕ) → Tidy s → s .due ≡ 0 → seen g rs s b ≡ judged g rs (s .count) (firstByte [] b)
+step-first : (g rs : List ℕ) (s : Scan) (b : ℕ) → Tidy s → s .due ≡ 0 → seen g rs s b ≡ judged g rs (s .count) (firstByte [] b)
 step-first g rs s b t e = ap (λ (x : Scan). seen g rs x b) (t .fresh e) ∙ seen-first g rs (s .count) b
 
-pub step-later : (g rs : List ℕ) (s : Scan) (b : ℕ) → Tidy s → 0 < s .due → seen g rs s b ≡ judged g rs (s .count) (laterByte (inside [] (s .due) (s .low) (s .high) (s .bits)) b)
+step-later : (g rs : List ℕ) (s : Scan) (b : ℕ) → Tidy s → 0 < s .due → seen g rs s b ≡ judged g rs (s .count) (laterByte (inside [] (s .due) (s .low) (s .high) (s .bits)) b)
 step-later g rs s b t l =
     ap (λ (x : Scan). seen g rs x b) (good-midway s (t .good))
     ∙ seen-later g rs (s .count) (s .due) (s .low) (s .high) (s .bits) b (λ e. absurd (omega arith))
@@ -139,24 +137,9 @@ module _ (g rs : List ℕ) (s : Scan) (b : ℕ) where
   unfolding seen
   stop-seen = stop-judged g rs (s .count) (nextByte (resumed s) b)
 
-tidy-further : (s : Scan) (n : ℕ) → Tidy s → Tidy (further s n)
-unfolding further clean midway
-tidy-further s n t = record {
-  good = t .good;
-  fresh = λ e. ap (λ (x : Scan). further x n) (t .fresh e);
-  from = t .from;
-  to = t .to;
-  short = t .short;
-  few = t .few;
-}
-
-further-none : (s : Scan) → further s 0 ≡ s
-unfolding further
-further-none s = rw (add-zero (s .count))
-
-further-clean : (s : Scan) (n : ℕ) → s ≡ clean (s .count) → further s n ≡ clean (s .count + n)
-unfolding further clean midway
-further-clean s n e = ap (λ (x : Scan). further x n) e
+pub tidy-clean : (n : ℕ) → Tidy (clean n)
+unfolding clean midway
+tidy-clean n = record { good = refl; fresh = λ e. refl; from = λ l. absurd (omega arith); to = λ l. absurd (omega arith); short = omega arith; few = omega arith }
 
 -- the bytes of a part before i are scanned
 pub record Scanning (g rs part : List ℕ) (start s : Scan) (i : ℕ) : Type 0 where
@@ -168,24 +151,16 @@ pub record Scanning (g rs part : List ℕ) (start s : Scan) (i : ℕ) : Type 0 w
 pub scan-start : (g rs part : List ℕ) (start : Scan) → Tidy start → Scanning g rs part start start 0
 scan-start g rs part start t = record { near = omega arith; state = t; few = omega arith; same = refl }
 
-pub scan-ahead : (g set part : List ℕ) (p i : ℕ) (start s : Scan) (r : TextRun) → ClassSet g p set → Scanning g (ranges g p) part start s i → Ahead set part i (s .due) r
-    → Scanning g (ranges g p) part start (further s (r .count)) (r .at)
-scan-ahead g set part p i start s r c h a = record {
-  near = a .ran .inside;
-  state = tidy-further s (r .count) (h .state);
-  few = unfold further in omega (arith, h .few, a .ran .ahead);
-  same = h .same ∙ go (eqb (s .due) 0) refl;
+-- a run begins between two characters
+pub scan-run : (g set part : List ℕ) (p i : ℕ) (start s : Scan) (at count : ℕ) → ClassSet g p set → Scanning g (ranges g p) part start s i → s .due ≡ 0
+    → RunsTo set part i at count → Scanning g (ranges g p) part start (clean (s .count + count)) at
+unfolding clean midway
+scan-run g set part p i start s at count c h e r = record {
+  near = r .inside;
+  state = tidy-clean (s .count + count);
+  few = omega (arith, h .few, r .ahead);
+  same = h .same ∙ ap (λ (x : Scan). scanned g (ranges g p) x (drop i part)) (h .state .fresh e) ∙ r .same g p c (s .count);
 }
-  where
-    go : (x : Bool) → eqb (s .due) 0 ≡ x → scanned g (ranges g p) s (drop i part) ≡ scanned g (ranges g p) (further s (r .count)) (drop (r .at) part)
-    go true e =
-        let f : s ≡ clean (s .count) = h .state .fresh (eqb-true (s .due) 0 e) in
-        ap (λ (x : Scan). scanned g (ranges g p) x (drop i part)) f
-        ∙ a .ran .same g p c (s .count)
-        ∙ ap (λ (x : Scan). scanned g (ranges g p) x (drop (r .at) part)) (sym (further-clean s (r .count) f))
-    go false e =
-        let n = a .none (eqb-false (s .due) 0 e) in
-        sym (rw (n .0, n .1, further-none s))
 
 module _ (g rs part : List ℕ) (start here s : Scan) (at b : ℕ) (h : Scanning g rs part start here at) (l : at < length part) (e : b ≡ getD part at 0) (f : s ≡ seen g rs here b) where
   one-on : scanned g rs start part ≡ scanned g rs s (drop (at + 1) part)

@@ -5,7 +5,6 @@ use mathlib.Core.List.{List}
 use mathlib.Core.Bool.{Bool, true}
 use lib.ListN.{length, getD, drop}
 use Rattle.rules.specs.Lexeme.{ranges}
-use Rattle.lexeme.specs.declared.runs.TextRun.{TextRun}
 use Rattle.lexeme.specs.Sets.{bitAt, ClassSet}
 use Rattle.lexeme.specs.Scan.{clean, scanned}
 
@@ -25,8 +24,3 @@ pub record RunsTo (set part : List ℕ) (from to count : ℕ) : Type 0 where
   pub inside : to ≤ length part
   pub same : (g : List ℕ) (p : ℕ) → ClassSet g p set → (n : ℕ)
       → scanned g (ranges g p) (clean n) (drop from part) ≡ scanned g (ranges g p) (clean (n + count)) (drop to part)
-
--- a run from a place, which is empty inside a character
-pub record Ahead (set part : List ℕ) (from due : ℕ) (r : TextRun) : Type 0 where
-  pub ran : RunsTo set part from (r .at) (r .count)
-  pub none : (due ≡ 0 → ⊥) → (r .at ≡ from) × (r .count ≡ 0)

@@ -4,6 +4,7 @@ use mathlib.Core.Path.{_≡_}
 use mathlib.Core.List.{List, [], _∷_}
 use mathlib.Core.Bool.{true, false, cond, _&&_}
 use lib.ListN.{length}
+use Rattle.rules.specs.Records.{fieldD}
 use Rattle.rules.specs.Lexeme.{Decoding, nextByte, allOfClass}
 use Rattle.lexeme.specs.declared.scan.Scan.{Scan}
 use Rattle.lexeme.specs.Sets.{ClassSet}
@@ -17,10 +18,6 @@ clean n = midway n 0 0 0 0
 
 unfoldable pub stopped : Scan
 stopped = record { good = false; due = 0; low = 0; high = 0; bits = 0; count = 0 }
-
--- n characters more
-unfoldable pub further : Scan → ℕ → Scan
-further s n = record { good = s .good; due = s .due; low = s .low; high = s .high; bits = s .bits; count = s .count + n }
 
 -- a decoding as the scan knows it, n characters having gone before; rs are the class's ranges in the grammar g
 unfoldable pub judged : List ℕ → List ℕ → ℕ → Decoding → Scan
@@ -50,15 +47,18 @@ pub record Tidy (s : Scan) : Type 0 where
   pub short : s .due ≤ 3
   pub few : s .bits < 2 ^ (26 - 6 * s .due)
 
--- what a step asks: the class's set, a state that steps have left, a byte, and room to count one character more
-pub record Steps (g : List ℕ) (p : ℕ) (set : List ℕ) (s : Scan) (b : ℕ) : Type 0 where
+-- what a later byte asks: the class's set and the number of its ranges, a state that bytes have left inside a character, and room to count one more
+pub record LaterByte (g : List ℕ) (p many : ℕ) (set : List ℕ) (s : Scan) (b : ℕ) : Type 0 where
   pub class : ClassSet g p set
+  pub range-count : many ≡ fieldD g p
   pub state : Tidy s
+  pub due : 0 < s .due
   pub byte : b < 256
   pub room : s .count + 1 < 2 ^ 64
 
 -- what the scan of a part asks: a part has less than 2^63 bytes
-pub record Scans (g : List ℕ) (p : ℕ) (set : List ℕ) (s : Scan) : Type 0 where
+pub record Scans (g : List ℕ) (p many : ℕ) (set : List ℕ) (s : Scan) : Type 0 where
   pub class : ClassSet g p set
+  pub range-count : many ≡ fieldD g p
   pub state : Tidy s
   pub room : s .count < 2 ^ 63

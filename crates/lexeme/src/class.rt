@@ -39,12 +39,11 @@ pub(crate) fn range_count(g: &[u8], p: u16) -> usize
     head.d as usize
 }
 
-// Whether x is in some range of the class whose record is at p: all ranges, in their order.
-fn search(g: &[u8], p: u16, x: usize) -> bool
-    requires { ⌜ streamLength (now g) ≡ none ⌝ }
+// Whether x is in some range of the class whose record is at p: all of them, which are so many, in their order.
+fn search(g: &[u8], p: u16, count: usize, x: usize) -> bool
+    requires { ⌜ (streamLength (now g) ≡ none) × (count ≡ fieldD (now g) p) × (count < 65536) ⌝ }
     ensures { λ r. ⌜ r ≡ inSome (now (g .entry)) (ranges (now (g .entry)) p) x ⌝ }
 {
-    let count = range_count(g, p);
     let first = p as usize + 1;
     let mut k = 0;
     while k < count {
@@ -57,7 +56,7 @@ fn search(g: &[u8], p: u16, x: usize) -> bool
     false
 }
 
-// Whether range k of the class has x: its ranges are so many.
+// Whether range k of the class has x.
 fn is_kth(g: &[u8], p: u16, count: usize, k: usize, x: usize) -> bool
     requires { ⌜ (streamLength (now g) ≡ none) × (count ≡ fieldD (now g) p) × (k < 65536) ⌝ }
     ensures { λ r. ⌜ (r ≡ true → inSome (now (g .entry)) (ranges (now (g .entry)) p) x ≡ true) ⌝ }
@@ -85,11 +84,10 @@ fn is_hinted(g: &[u8], p: u16, count: usize, hints: &[u16], x: usize) -> bool
 }
 
 // First where a hint says, then everywhere. Only a code point of no range, or a table with no room for hints, costs more than the search for a hint.
-fn in_ranges(g: &[u8], p: u16, table: &[u16], x: usize) -> bool
-    requires { ⌜ streamLength (now g) ≡ none ⌝ }
+fn in_ranges(g: &[u8], p: u16, count: usize, table: &[u16], x: usize) -> bool
+    requires { ⌜ (streamLength (now g) ≡ none) × (count ≡ fieldD (now g) p) × (count < 65536) ⌝ }
     ensures { λ r. ⌜ r ≡ inSome (now (g .entry)) (ranges (now (g .entry)) p) x ⌝ }
 {
-    let count = range_count(g, p);
     let a = area(p, count, table.len());
     let from = a.from;
     let to = a.to;
@@ -98,12 +96,13 @@ fn in_ranges(g: &[u8], p: u16, table: &[u16], x: usize) -> bool
             return true;
         }
     }
-    search(g, p, x)
+    search(g, p, count, x)
 }
 
-// Whether x is a character of the class: at most 2,047 by its bit in the set, any other by the ranges and by XML 1.0.
-pub(crate) fn in_class(g: &[u8], p: u16, set: &[u16], table: &[u16], x: usize) -> bool
+// Whether x is a character of the class: at most 2,047 by its bit in the set, any other by the ranges, which are so many, and by XML 1.0.
+pub(crate) fn in_class(g: &[u8], p: u16, count: u16, set: &[u16], table: &[u16], x: usize) -> bool
     requires { ⌜ ClassSet (now g) p (now set) ⌝ }
+    requires { ⌜ count ≡ fieldD (now g) p ⌝ }
     ensures { λ r. ⌜ r ≡ isOfClass (now (g .entry)) (ranges (now (g .entry)) p) x ⌝ }
 {
     if x < CHARACTERS {
@@ -112,5 +111,5 @@ pub(crate) fn in_class(g: &[u8], p: u16, set: &[u16], table: &[u16], x: usize) -
     if !is_xml_char(x) {
         return false;
     }
-    in_ranges(g, p, table, x)
+    in_ranges(g, p, count as usize, table, x)
 }

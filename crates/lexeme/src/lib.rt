@@ -47,12 +47,13 @@ fn admits_parts(g: &[u8], p: u16, set: &[u16], table: &[u16], s: &[u8], t: Text)
     }
     let least = head.b as usize;
     let most = head.c as usize;
+    let many = head.d;
     let mut state = between(0);
     let mut rest = t;
     while 0 < rest.left {
         let part = text_part(s, rest);
         rest = text_rest(s, rest);
-        state = scan_part(g, p, set, table, part, state);
+        state = scan_part(g, p, many, set, table, part, state);
         if !state.good {
             return false;
         }
@@ -101,6 +102,7 @@ fn admits_escaped(g: &[u8], p: u16, set: &[u16], table: &[u16], s: &[u8], t: Tex
     }
     let least = head.b as usize;
     let most = head.c as usize;
+    let many = head.d;
     let mut state = between(0);
     let mut rest = Text {
         at: t.at,
@@ -113,7 +115,7 @@ fn admits_escaped(g: &[u8], p: u16, set: &[u16], table: &[u16], s: &[u8], t: Tex
         }
         rest = text_skip(rest, plain.length);
         let byte = [plain.byte];
-        state = scan_part(g, p, set, table, &byte[..], state);
+        state = scan_part(g, p, many, set, table, &byte[..], state);
         if !state.good {
             return false;
         }

@@ -7,8 +7,8 @@ ghost use lib.ListN.{length};
 ghost use Rattle.rules.specs.Lexeme.{ranges, firstByte};
 ghost use Rattle.laws.specs.FirstBytes.{leastNext, mostNext};
 ghost use Rattle.lexeme.specs.Sets.{ClassSet};
-ghost use Rattle.lexeme.specs.Scan.{midway, clean, stopped, further, judged, seen, scanned, Steps, Scans};
-ghost use Rattle.lexeme.specs.Runs.{Ahead};
+ghost use Rattle.lexeme.specs.Scan.{midway, clean, stopped, judged, seen, scanned, LaterByte, Scans};
+ghost use Rattle.lexeme.specs.Runs.{RunsTo};
 use crate::class::in_class;
 use crate::runs::TextRun;
 use crate::runs::run_from;
@@ -125,10 +125,9 @@ fn first(g: &[u8], p: u16, set: &[u16], count: usize, b: usize) -> Scan
     lead(count, b)
 }
 
-// A later byte of a character brings six bits.
-fn later(g: &[u8], p: u16, set: &[u16], table: &[u16], s: Scan, b: usize) -> Scan
-    requires { ⌜ Steps (now g) p (now set) s b ⌝ }
-    requires { ⌜ 0 < s .due ⌝ }
+// A later byte of a character brings six bits. The class has so many ranges.
+fn later(g: &[u8], p: u16, many: u16, set: &[u16], table: &[u16], s: Scan, b: usize) -> Scan
+    requires { ⌜ LaterByte (now g) p many (now set) s b ⌝ }
     ensures { λ r. ⌜ r ≡ seen (now (g .entry)) (ranges (now (g .entry)) p) s b ⌝ }
 {
     if b < s.low {
@@ -139,73 +138,55 @@ fn later(g: &[u8], p: u16, set: &[u16], table: &[u16], s: Scan, b: usize) -> Sca
     }
     let bits = s.bits * 64 + (b - 0x80);
     if s.due == 1 {
-        return judge(in_class(g, p, set, table, bits), s.count);
+        return judge(in_class(g, p, many, set, table, bits), s.count);
     }
     inside(s.count, s.due - 1, 0x80, 0xbf, bits)
 }
 
-// A byte more.
-fn step(g: &[u8], p: u16, set: &[u16], table: &[u16], s: Scan, b: usize) -> Scan
-    requires { ⌜ Steps (now g) p (now set) s b ⌝ }
-    ensures { λ r. ⌜ r ≡ seen (now (g .entry)) (ranges (now (g .entry)) p) s b ⌝ }
-{
-    if s.due == 0 {
-        return first(g, p, set, s.count, b);
-    }
-    later(g, p, set, table, s, b)
-}
-
-// How far the hot loops get from here. They begin between two characters; a byte that begins a character of three or four isn't for them.
-fn ahead(part: &[u8], from: usize, set: &[u16], due: usize) -> TextRun
+// How far the hot loops get from a place between two characters. A byte that begins a character of three or four isn't for them.
+fn ahead(part: &[u8], from: usize, set: &[u16]) -> TextRun
     requires { ⌜ (from < length (now part)) × (length (now set) ≡ 128) ⌝ }
-    ensures { λ r. ⌜ Ahead (now (set .entry)) (now (part .entry)) from due r ⌝ }
+    ensures { λ r. ⌜ RunsTo (now (set .entry)) (now (part .entry)) from (r .at) (r .count) ⌝ }
 {
-    if due != 0 {
-        return TextRun { at: from, count: 0 };
-    }
     if 0xe0 <= part[from] {
         return TextRun { at: from, count: 0 };
     }
     run_from(part, from, set)
 }
 
-fn count_on(s: Scan, more: usize) -> Scan
-    requires { ⌜ s .count + more < 2 ^ 64 ⌝ }
-    ensures { λ r. ⌜ r ≡ further s more ⌝ }
-{
-    Scan {
-        good: s.good,
-        due: s.due,
-        low: s.low,
-        high: s.high,
-        bits: s.bits,
-        count: s.count + more,
-    }
-}
-
 // One part of a text, from the state that the part before it left. Runs of characters of one and two bytes go through the hot loops; what they
-// leave, longer characters and the borders of blocks, goes byte by byte.
+// leave, longer characters and the borders of blocks, goes byte by byte; inside a character no run is looked for. The class has so many ranges: who
+// fetched its head hands their number on, so that it isn't fetched for each character.
 pub(crate) fn scan_part(
     g: &[u8],
     p: u16,
+    many: u16,
     set: &[u16],
     table: &[u16],
     part: &[u8],
     start: Scan,
 ) -> Scan
-    requires { ⌜ Scans (now g) p (now set) start ⌝ }
+    requires { ⌜ Scans (now g) p many (now set) start ⌝ }
     ensures { λ r. ⌜ r ≡ scanned (now (g .entry)) (ranges (now (g .entry)) p) start (now (part .entry)) ⌝ }
 {
     let mut s = start;
     let mut i = 0;
     while i < part.len() {
-        let run = ahead(part, i, set, s.due);
-        let at = run.at;
-        let here = count_on(s, run.count);
-        if part.len() <= at {
-            return here;
+        if s.due != 0 {
+            s = later(g, p, many, set, table, s, wide(part[i]));
+            if !s.good {
+                return s;
+            }
+            i += 1;
+            continue;
         }
-        s = step(g, p, set, table, here, wide(part[at]));
+        let run = ahead(part, i, set);
+        let at = run.at;
+        let count = s.count + run.count;
+        if part.len() <= at {
+            return between(count);
+        }
+        s = first(g, p, set, count, wide(part[at]));
         if !s.good {
             return s;
         }

@@ -7,10 +7,10 @@ use Rattle.lexeme.proofs.admits_escaped.Statement.{statement}
 use Rattle.lexeme.proofs.admits_escaped.Tie as tie
 
 abbrev Inv-loop : tie.InvT-loop
-Inv-loop g p set table s least most state₀ rest₀ state rest = Unescaping g p s rest₀ state rest
+Inv-loop g p set table s least most many state₀ rest₀ state rest = Unescaping g p s rest₀ state rest
 
 abbrev μ-loop : tie.MeasureT-loop
-μ-loop g p set table s least most state₀ rest₀ state rest = rest .left
+μ-loop g p set table s least most many state₀ rest₀ state rest = rest .left
 
 fetch-requires : tie.Need-fetch-requires Inv-loop μ-loop
 fetch-requires c κs = search needs
@@ -46,7 +46,7 @@ slice-aggregate-scan-part : tie.Need-slice-aggregate-scan-part Inv-loop μ-loop
 slice-aggregate-scan-part c = search needs
 
 scan-part-requires : tie.Need-scan-part-requires Inv-loop μ-loop
-scan-part-requires c κs = record { class = c .before .before .before .before .before .before .before .before .before .before .before .before .before .before .before .before .before .before .before .pre; state = c .before .before .before .before .before .before .before .loop .inv .tidy; room = omega (arith, c .before .before .before .before .before .before .before .loop .inv .most, c .before .before .before .before .before .before .before .before .before .before .before .before .before .before .fetch .ensures .c, c .before .before .before .before .before .before .before .before .before .before .struct-known3 .given) }
+scan-part-requires c κs = record { class = c .before .before .before .before .before .before .before .before .before .before .before .before .before .before .before .before .before .before .before .pre; range-count = c .before .before .before .before .before .before .before .before .before .before .before .before .before .before .fetch .ensures .d; state = c .before .before .before .before .before .before .before .loop .inv .tidy; room = omega (arith, c .before .before .before .before .before .before .before .loop .inv .most, c .before .before .before .before .before .before .before .before .before .before .before .before .before .before .fetch .ensures .c, c .before .before .before .before .before .before .before .before .before .before .struct-known3 .given) }
 
 returns-3 : tie.Need-returns-3 Inv-loop μ-loop
 returns-3 c = by-unescaped _ _ _ _ _ _ (c .before .before .before .before .before .before .before .before .before .before .before .text-len .ensures) (sym (c .before .before .before .before .before .before .before .before .before .before .before .before .before .before .before .before .before .fetch .ensures .kind) ∙ c .before .before .before .before .before .before .before .before .before .before .before .before .before .before .before .if1 .left) (unescape-bad _ _ _ _ _ _ _ (c .before .before .before .before .before .before .before .before .before .before .loop .inv) (c .before .before .before .before .before .before .before .plain-in .ensures) _ _ _ (c .before .before .before .before .before .if3 .left) (c .before .before .before .before .text-skip .ensures) refl (c .before .before .scan-part .ensures) (not-true _ (c .if4 .taken)))

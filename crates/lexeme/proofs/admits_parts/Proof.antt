@@ -7,10 +7,10 @@ use Rattle.lexeme.proofs.admits_parts.Statement.{statement}
 use Rattle.lexeme.proofs.admits_parts.Tie as tie
 
 abbrev Inv-loop : tie.InvT-loop
-Inv-loop g p set table s least most state₀ rest₀ state rest = Reading g p s rest₀ state rest
+Inv-loop g p set table s least most many state₀ rest₀ state rest = Reading g p s rest₀ state rest
 
 abbrev μ-loop : tie.MeasureT-loop
-μ-loop g p set table s least most state₀ rest₀ state rest = rest .left
+μ-loop g p set table s least most many state₀ rest₀ state rest = rest .left
 
 fetch-requires : tie.Need-fetch-requires Inv-loop μ-loop
 fetch-requires c κs = search needs
@@ -37,7 +37,7 @@ text-rest-requires : tie.Need-text-rest-requires Inv-loop μ-loop
 text-rest-requires c κs = search needs
 
 scan-part-requires : tie.Need-scan-part-requires Inv-loop μ-loop
-scan-part-requires c κs = record { class = c .before .before .before .before .before .before .before .before .before .before .before .before .before .before .before .pre; state = c .before .before .before .before .loop .inv .tidy; room = omega (arith, c .before .before .before .before .loop .inv .most, c .before .before .before .before .before .before .before .before .before .before .fetch .ensures .c, c .before .before .before .before .before .before .struct-known3 .given) }
+scan-part-requires c κs = record { class = c .before .before .before .before .before .before .before .before .before .before .before .before .before .before .before .pre; range-count = c .before .before .before .before .before .before .before .before .before .before .fetch .ensures .d; state = c .before .before .before .before .loop .inv .tidy; room = omega (arith, c .before .before .before .before .loop .inv .most, c .before .before .before .before .before .before .before .before .before .before .fetch .ensures .c, c .before .before .before .before .before .before .struct-known3 .given) }
 
 returns-2 : tie.Need-returns-2 Inv-loop μ-loop
 returns-2 c = by-scan _ _ _ _ _ (sym (c .before .before .before .before .before .before .before .before .before .before .before .before .before .fetch .ensures .kind) ∙ c .before .before .before .before .before .before .before .before .before .before .before .if1 .left) (read-bad _ _ _ _ _ _ _ _ _ (c .before .before .before .before .before .before .before .loop .inv) (c .before .before .before .before .text-part .ensures) (c .before .before .scan-part .ensures) (c .before .before .before .text-rest .ensures) (not-true _ (c .if3 .taken)))

@@ -12,7 +12,7 @@ has-requires : tie.Need-has-requires
 has-requires c κs = search needs
 
 returns : tie.Need-returns
-returns c = c .has .ensures ∙ word-says _ _ _ (c .before .word .ensures) ∙ c .before .before .before .before .before .before .pre .same _ (c .before .before .if1 .taken)
+returns c = c .has .ensures ∙ word-says _ _ _ (c .before .word .ensures) ∙ c .before .before .before .before .before .before .pre .0 .same _ (c .before .before .if1 .taken)
 
 is-xml-char-requires : tie.Need-is-xml-char-requires
 is-xml-char-requires c κs = search needs

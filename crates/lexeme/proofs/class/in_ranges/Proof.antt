@@ -3,9 +3,6 @@ use borrow.Author.Needs.{needs}
 use Rattle.lexeme.proofs.class.in_ranges.Statement.{statement}
 use Rattle.lexeme.proofs.class.in_ranges.Tie as tie
 
-range-count-requires : tie.Need-range-count-requires
-range-count-requires c κs = search needs
-
 area-requires : tie.Need-area-requires
 area-requires c κs = search needs
 
@@ -37,7 +34,6 @@ pub in-ranges-spec : {M : Type 1} → statement M
 in-ranges-spec =
     tie.close
     (tie.spec
-    range-count-requires
     area-requires
     mul-is-hinted
     sub-is-hinted

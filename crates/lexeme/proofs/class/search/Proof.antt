@@ -9,22 +9,19 @@ use Rattle.lexeme.proofs.class.search.Statement.{statement}
 use Rattle.lexeme.proofs.class.search.Tie as tie
 
 abbrev Inv-loop : tie.InvT-loop
-Inv-loop g p x count first k₀ k = inSome g (row (count - k) (first + k)) x ≡ inSome g (ranges g p) x
+Inv-loop g p count x first k₀ k = inSome g (row (count - k) (first + k)) x ≡ inSome g (ranges g p) x
 
 abbrev μ-loop : tie.MeasureT-loop
-μ-loop g p x count first k₀ k = count - k
-
-range-count-requires : tie.Need-range-count-requires Inv-loop μ-loop
-range-count-requires c κs = search needs
+μ-loop g p count x first k₀ k = count - k
 
 add-first : tie.Need-add-first Inv-loop μ-loop
 add-first c = search needs
 
 loop-holds : tie.Need-loop-holds Inv-loop μ-loop
-loop-holds c = left-start _ _ _ _ (c .range-count .ensures .0)
+loop-holds c = left-start _ _ _ _ (c .before .pre .1)
 
 add-range-at : tie.Need-add-range-at Inv-loop μ-loop
-add-range-at c = omega (arith, c .before .before .range-count .ensures .1)
+add-range-at c = search needs
 
 range-at-requires : tie.Need-range-at-requires Inv-loop μ-loop
 range-at-requires c κs = search needs
@@ -36,7 +33,7 @@ returns : tie.Need-returns Inv-loop μ-loop
 returns c = search-found _ _ _ _ _ _ (c .before .before .before .before .loop .inv) _ (c .before .before .before .loop-test .taken) (c .before .before .range-at .ensures) _ (c .before .is-between .ensures) (c .if1 .taken)
 
 add-k : tie.Need-add-k Inv-loop μ-loop
-add-k c = omega (arith, c .before .before .before .before .before .range-count .ensures .1)
+add-k c = search needs
 
 loop-less : tie.Need-loop-less Inv-loop μ-loop
 loop-less c = omega arith
@@ -53,7 +50,6 @@ search-spec =
     (tie.spec
     Inv-loop
     μ-loop
-    range-count-requires
     add-first
     loop-holds
     add-range-at
