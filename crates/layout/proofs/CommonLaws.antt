@@ -15,10 +15,10 @@ use Rattle.rules.specs.Records.{base, byteOf, recordCount, recordsFrom, units, 
 use Rattle.rules.specs.Layout.{tailRight}
 use Rattle.stream.specs.declared.record.Record.{Record}
 use Rattle.stream.specs.declared.record.Place.{Place}
-use Rattle.stream.specs.Record.{Fetched, placeOf, Reach}
+use Rattle.stream.specs.Record.{bytesOf, Fetched, placeOf, Reach}
 use Rattle.laws.specs.Rows.{one-less}
 use Rattle.stream.proofs.RecordLaws.{eight-bytes}
-use Rattle.layout.specs.Common.{bytesOf, numberOf}
+use Rattle.layout.specs.Common.{numberOf}
 
 -- Tests in a row, as code that returns at the first that fails
 

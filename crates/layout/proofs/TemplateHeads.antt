@@ -18,10 +18,9 @@ use Rattle.rules.specs.declared.Form.{Form}
 use Rattle.rules.specs.declared.Form.the-variants.{Build, Literal, Place, Expand, If, For, Sequence, Unknown}
 use Rattle.stream.specs.declared.record.Record.{Record}
 use Rattle.stream.specs.declared.record.Place as place
-use Rattle.stream.specs.Record.{Fetched, placeOf}
+use Rattle.stream.specs.Record.{bytesOf, Fetched, placeOf}
 use Rattle.layout.specs.declared.tree.Head.{Head}
 use Rattle.layout.specs.declared.tree.Head.the-variants.{Right, Wrong}
-use Rattle.layout.specs.Common.{bytesOf}
 use Rattle.layout.specs.Tree.{Node, textHead, pathHead, formHead, formBelow, headEnd, below, Headed, CountsOn, HeadIn}
 use Rattle.layout.specs.Template.{naming, pathRecord, recordEnd}
 use Rattle.layout.proofs.CommonLaws.{recordBytes, fetched-zeros}

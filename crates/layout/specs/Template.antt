@@ -11,8 +11,7 @@ use Rattle.rules.specs.Faults.{onFound}
 use Rattle.rules.specs.Records.{recordCount, zeros, ofKind}
 use Rattle.rules.specs.Layout.{whileIs, namingEnd, pathEnd, typeEnd, templateEnd, tailRight}
 use Rattle.stream.specs.declared.record.Record.{Record}
-use Rattle.stream.specs.Record.{Fetched}
-use Rattle.layout.specs.Common.{bytesOf}
+use Rattle.stream.specs.Record.{bytesOf, Fetched}
 
 -- the tests of a record that was fetched: it names a type and nothing else; it is a path of at most 5 steps, with no field numbers past them
 unfoldable pub naming : Record → ℕ → Bool

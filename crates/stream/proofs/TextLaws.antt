@@ -11,10 +11,7 @@ use lib.Seq.{take-add, take-nil, drop-drop, drop-cons, take-length, take-all}
 use borrow.Author.Tests.{eq-eqb, ne-eqb, leb-true, leb-false, ltb-true, ltb-false}
 use Rattle.rules.specs.Records.{base, recordCount, recordsFrom, units, textOf}
 use Rattle.stream.specs.declared.text.Text.{Text}
-use Rattle.stream.specs.declared.record.Place.{Place}
-use Rattle.stream.specs.Record.{placeOf}
-use Rattle.stream.proofs.RecordLaws.{place-is}
-use Rattle.stream.specs.Text.{onward, payloadFrom, textIn, Begins, BeginsAt, room, partOf, Rest}
+use Rattle.stream.specs.Text.{onward, payloadFrom, textIn, Begins, room, partOf, Rest}
 
 -- the next byte of payload: in the block, and past it
 onward-in : (at : ℕ) → 1 < room at → onward at ≡ at + 1
@@ -151,16 +148,13 @@ text-payload s n p =
     let e : 8 * ((n + 7) / 8) ≡ n + (8 * ((n + 7) / 8) - n) = omega arith in
     rw (records-payload s ((n + 7) / 8) p, e) (payload-take s n (8 * ((n + 7) / 8) - n) (base p))
 
--- Where a text begins: after the head at i, which is given by the place of the record after it; a head past the end has none
-begins-at : (s : List ℕ) (p : Place) (i n : ℕ) → p ≡ placeOf (i + 1) → textIn s (record { at = p .at; left = n }) ≡ textOf s n i
+-- Where a text begins: after the head at i, so at the record behind it; a head past the end has none
+begins : (s : List ℕ) (i n at : ℕ) → at ≡ base (i + 1) → textIn s (record { at = at; left = n }) ≡ textOf s n i
 unfolding textIn textOf
-begins-at s p i n e = rw (place-is p (i + 1) e .0) (sym (text-payload s n (i + 1)))
+begins s i n at e = rw e (sym (text-payload s n (i + 1)))
 
-pub begins-from : (p : Place) (n : ℕ) → BeginsAt p n (record { at = p .at; left = n })
-begins-from p n = record { text = λ s i e. begins-at s p i n e; most = le-refl n }
-
-pub begins-after : (s : List ℕ) (p : Place) (i n : ℕ) (t : Text) → p ≡ placeOf (i + 1) → BeginsAt p n t → Begins s (textOf s n i) n t
-begins-after s p i n t e b = record { text = b .text s i e; most = b .most }
+pub begins-after : (s : List ℕ) (i n at : ℕ) → at ≡ base (i + 1) → Begins s (textOf s n i) n (record { at = at; left = n })
+begins-after s i n at e = record { text = begins s i n at e; most = le-refl n }
 
 nothing : (s : List ℕ) (i n : ℕ) → length s / 8 ≤ i → textIn s (record { at = 0; left = 0 }) ≡ textOf s n i
 unfolding textIn textOf payloadFrom base

@@ -5,10 +5,7 @@ use mathlib.Core.List.{List, [], _++_}
 use mathlib.Core.Bool.{cond}
 use lib.ListN.{length, take, drop}
 use lib.Dec.{eqb, leb}
-use Rattle.rules.specs.Records.{textOf}
-use Rattle.stream.specs.declared.record.Place.{Place}
 use Rattle.stream.specs.declared.text.Text.{Text}
-use Rattle.stream.specs.Record.{placeOf}
 
 -- the address of the payload byte after the one at an address: byte 507 of a block is followed by byte 4 of the next
 unfoldable pub onward : ℕ → ℕ
@@ -26,11 +23,6 @@ textIn s t = payloadFrom s (t .left) (t .at)
 -- t is a text with these bytes, and at most n
 pub record Begins (s bytes : List ℕ) (n : ℕ) (t : Text) : Type 0 where
   pub text : textIn s t ≡ bytes
-  pub most : t .left ≤ n
-
--- t is the text of n bytes after whatever head stands before a place
-pub record BeginsAt (p : Place) (n : ℕ) (t : Text) : Type 0 where
-  pub text : (s : List ℕ) (i : ℕ) → p ≡ placeOf (i + 1) → textIn s t ≡ textOf s n i
   pub most : t .left ≤ n
 
 -- how many bytes of payload a block has from an address on, as far as the check at its byte 508

@@ -22,15 +22,34 @@ pub struct Place {
     pub slot: usize,
 }
 
-// The block that record i is in. Nothing else divides by 63.
-fn block_of(i: usize) -> usize
+// Up to here the quotient by 63 is one product. No stream has a record that far on: it has at most 8,064. And it is more than two numbers of 16 bits come
+// to, so that of an index made of these the compiler sees that it is near, and leaves the test out.
+pub(crate) const NEAR: usize = 262144;
+
+// The block that record i is in: i / 63, by a product and a shift. 63 times 133,153 is 2^23 and 31 more. So of q whole blocks and r records more
+// the product is q times 2^23, and 31 q + 133,153 r more, which stays below 2^23.
+pub(crate) fn block_of(i: usize) -> usize
+    requires { ⌜ i ≤ 2 ^ 18 ⌝ }
     ensures { λ r. ⌜ r ≡ i / 63 ⌝ }
 {
-    i / 63
+    i * 133153 >> 23
+}
+
+// The same of any index. 64 records are a block and one record more: so for every 64 a block goes off, and one is left, until what is left is near.
+fn block_anywhere(i: usize) -> usize
+    ensures { λ r. ⌜ r ≡ i / 63 ⌝ }
+{
+    let mut blocks = 0;
+    let mut left = i;
+    while NEAR <= left {
+        blocks += left / 64;
+        left = left / 64 + left % 64;
+    }
+    blocks + block_of(left)
 }
 
 // The address of record i in its block: 8 bytes for each record before it, 8 for each block's head and check, and the head's 4.
-fn address(i: usize, block: usize) -> usize
+pub(crate) fn address(i: usize, block: usize) -> usize
     requires { ⌜ (block ≡ i / 63) × (i < 2 ^ 60) ⌝ }
     ensures { λ r. ⌜ r ≡ base i ⌝ }
 {
@@ -69,11 +88,14 @@ fn zeros() -> Record
     }
 }
 
-// Record i: one test and one address. Refusal 1 was tried, so that blocks are whole and no record is cut short; past the end all fields are 0.
+// Record i: two tests and one address. Refusal 1 was tried, so that blocks are whole and no record is cut short; past the end all fields are 0.
 pub fn fetch(s: &[u8], i: usize) -> Record
     requires { ⌜ streamLength (now s) ≡ none ⌝ }
     ensures { λ r. ⌜ Fetched (now (s .entry)) i r ⌝ }
 {
+    if NEAR <= i {
+        return zeros();
+    }
     let block = block_of(i);
     if block < s.len() / 512 {
         return inside(s, address(i, block));
@@ -110,14 +132,14 @@ pub fn place_of(i: usize) -> Place
     requires { ⌜ i < 2 ^ 60 ⌝ }
     ensures { λ r. ⌜ r ≡ placeOf i ⌝ }
 {
-    let block = block_of(i);
+    let block = block_anywhere(i);
     Place {
         at: address(i, block),
         slot: i - 63 * block,
     }
 }
 
-// The place n records on. Most steps stay in the block, and divide nothing.
+// The place n records on. Most steps stay in the block, and ask for no quotient.
 pub fn forward(p: Place, n: usize) -> Place
     requires { ⌜ Reach p n ⌝ }
     ensures { λ r. ⌜ ((i : ℕ) → p ≡ placeOf i → r ≡ placeOf (i + n)) ⌝ }
@@ -129,7 +151,7 @@ pub fn forward(p: Place, n: usize) -> Place
             slot: slot,
         };
     }
-    let blocks = block_of(slot);
+    let blocks = block_anywhere(slot);
     Place {
         at: p.at + 8 * (n + blocks),
         slot: slot - 63 * blocks,

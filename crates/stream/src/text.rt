@@ -1,12 +1,15 @@
 // The reader of text. The bytes of a text lie in the payloads of blocks in a row; they are handed on block by block, as parts of the stream.
 ghost use mathlib.Core.Path.{_≡_};
+ghost use mathlib.Core.Option.{none};
 ghost use Prim.Native.Nat.{_+_, _*_, min, _≤_, _<_, _^_};
 ghost use lib.ListN.{length};
+ghost use Rattle.rules.specs.Blocks.{streamLength};
 ghost use Rattle.rules.specs.Records.{textOf};
-ghost use Rattle.stream.specs.Text.{textIn, Begins, BeginsAt, room, partOf, Rest, Skips, Copied};
+ghost use Rattle.stream.specs.Text.{textIn, Begins, room, partOf, Rest, Skips, Copied};
 use crate::copy::copy_into;
-use crate::record::Place;
-use crate::record::place_of;
+use crate::record::NEAR;
+use crate::record::address;
+use crate::record::block_of;
 
 // A text, or what is left of one: the address of its first byte, and the number of its bytes.
 pub struct Text {
@@ -14,21 +17,20 @@ pub struct Text {
     pub left: usize,
 }
 
-// The text of n bytes after the head at record i. A head past the end of the stream has none.
+// The text of n bytes after the head at record i. A head past the end of the stream has none: its text would lie past the end as well, and of what
+// lies there `text_part` hands out nothing.
 pub fn text_after(s: &[u8], i: usize, n: usize) -> Text
+    requires { ⌜ streamLength (now s) ≡ none ⌝ }
     ensures { λ t. ⌜ Begins (now (s .entry)) (textOf (now (s .entry)) n i) n t ⌝ }
 {
-    if s.len() / 8 <= i {
+    if NEAR <= i {
         return Text { at: 0, left: 0 };
     }
-    text_from(place_of(i + 1), n)
-}
-
-// The text of n bytes whose first unit is the record at a place, after a head that was carried there.
-pub fn text_from(p: Place, n: usize) -> Text
-    ensures { λ t. ⌜ BeginsAt p n t ⌝ }
-{
-    Text { at: p.at, left: n }
+    let first = i + 1;
+    Text {
+        at: address(first, block_of(first)),
+        left: n,
+    }
 }
 
 // The lesser of two numbers, for whoever cuts a part off.

@@ -35,7 +35,7 @@ fn has_form(
     w: usize,
     r: Record,
 ) -> bool
-    requires { ⌜ (LexemesReady (now g) (now classes) (now sets)) × (Fetched (now v) w r) ⌝ }
+    requires { ⌜ (LexemesReady (now g) (now classes) (now sets)) × (Fetched (now v) w r) × (streamLength (now v) ≡ none) ⌝ }
     ensures { λ r. ⌜ ((t : List ℕ) → r ≡ hasForm (now (g .entry)) (now (v .entry)) (kindForm t kind) w) ⌝ }
 {
     match kind {

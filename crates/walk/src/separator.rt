@@ -1,7 +1,9 @@
 // What stands between the items of a sequence.
 ghost use Prim.Native.Nat.{ℕ, _≤_};
 ghost use mathlib.Core.Path.{_≡_};
+ghost use mathlib.Core.Option.{none};
 ghost use lib.ListN.{length};
+ghost use Rattle.rules.specs.Blocks.{streamLength};
 ghost use Rattle.walk.specs.Nodes.{fillsAt, Between, dueAt, separateAt};
 ghost use Rattle.walk.specs.Run.{RanFrom};
 use crate::at::At;
@@ -53,7 +55,7 @@ pub fn is_due(sep: Separator, before: usize) -> bool
 
 // Writes the separator before an item that is not the first of its sequence.
 pub fn separate(g: &[u8], sep: Separator, out: &mut [u8], at: At) -> Run
-    requires { ⌜ at .bytes ≤ length (now out) ⌝ }
+    requires { ⌜ (streamLength (now g) ≡ none) × (at .bytes ≤ length (now out)) ⌝ }
     ensures { λ r. ⌜ ((before : ℕ) → (before ≡ 0 → ⊥) → RanFrom (separateAt (now (g .entry)) sep before at (now (out .entry))) at r (now (out .entry)) (now (out .exit))) ⌝ }
 {
     write(g, sep.element, sep.length, out, at.placed(sep.sequence))

@@ -26,7 +26,7 @@ use stream::text::text_after;
 // Writes the n bytes of text after the head at record i, a keyword's, a literal's, a value's or a separator's, behind what is written so far,
 // whole or not at all: it is copied to the beginning of what is left of the output.
 pub fn write(s: &[u8], i: usize, n: u16, out: &mut [u8], at: At) -> Run
-    requires { ⌜ at .bytes ≤ length (now out) ⌝ }
+    requires { ⌜ (streamLength (now s) ≡ none) × (at .bytes ≤ length (now out)) ⌝ }
     ensures { λ r. ⌜ RanFrom (writeAt at (textOf (now (s .entry)) n i) (now (out .entry))) at r (now (out .entry)) (now (out .exit)) ⌝ }
 {
     let bytes = at.bytes;
@@ -37,7 +37,7 @@ pub fn write(s: &[u8], i: usize, n: u16, out: &mut [u8], at: At) -> Run
 
 // The same of the text's escaped form.
 fn write_escaped(s: &[u8], i: usize, n: u16, out: &mut [u8], at: At) -> Run
-    requires { ⌜ at .bytes ≤ length (now out) ⌝ }
+    requires { ⌜ (streamLength (now s) ≡ none) × (at .bytes ≤ length (now out)) ⌝ }
     ensures { λ r. ⌜ RanFrom (writeAt at (escape (textOf (now (s .entry)) n i)) (now (out .entry))) at r (now (out .entry)) (now (out .exit)) ⌝ }
 {
     let bytes = at.bytes;
@@ -65,7 +65,7 @@ fn written(at: At, left: usize, long: usize) -> Run
 // Whether the text of n bytes after the head at record i of v is written as it stands for an element: it is, unless its position asks for a
 // lexeme of an escaped class. Even there most texts have none of the five.
 fn as_it_stands(g: &[u8], heads: &[u16], element: usize, v: &[u8], i: usize, n: u16) -> bool
-    requires { ⌜ (streamLength (now g) ≡ none) × (ProductionHeads (now g) (now heads)) × (1 ≤ length (now heads)) ⌝ }
+    requires { ⌜ (streamLength (now g) ≡ none) × (ProductionHeads (now g) (now heads)) × (1 ≤ length (now heads)) × (streamLength (now v) ≡ none) ⌝ }
     ensures { λ r. ⌜ PlaceText (now (g .entry)) element (textOf (now (v .entry)) n i) r ⌝ }
 {
     if !is_escaped_at(g, heads, element) {

@@ -1,5 +1,6 @@
 use native.Mathlib.Omega.{arith}
-use Rattle.layout.specs.Common.{bytesOf, numberOf}
+use Rattle.stream.specs.Record.{bytesOf}
+use Rattle.layout.specs.Common.{numberOf}
 use borrow.Author.Needs.{needs}
 use Rattle.layout.proofs.common.number_of.Statement.{statement}
 use Rattle.layout.proofs.common.number_of.Tie as tie

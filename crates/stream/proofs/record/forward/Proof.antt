@@ -15,8 +15,8 @@ add-t7 c = search needs
 returns : tie.Need-returns
 returns c = λ i e. forward-within _ i _ e (c .before .if1 .taken)
 
-block-of-requires : tie.Need-block-of-requires
-block-of-requires c κs = search needs
+block-anywhere-requires : tie.Need-block-anywhere-requires
+block-anywhere-requires c κs = search needs
 
 add-t8 : tie.Need-add-t8
 add-t8 c = search needs
@@ -34,7 +34,7 @@ sub-t12 : tie.Need-sub-t12
 sub-t12 c = search needs
 
 returns-2 : tie.Need-returns-2
-returns-2 c = λ i e. forward-past _ i _ _ e (c .before .block-of .ensures)
+returns-2 c = λ i e. forward-past _ i _ _ e (c .before .block-anywhere .ensures)
 
 pub forward-spec : {M : Type 1} → statement M
 forward-spec =
@@ -44,7 +44,7 @@ forward-spec =
     mul-t6
     add-t7
     returns
-    block-of-requires
+    block-anywhere-requires
     add-t8
     mul-t9
     add-t10

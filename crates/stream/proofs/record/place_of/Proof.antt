@@ -4,8 +4,8 @@ use borrow.Author.Needs.{needs}
 use Rattle.stream.proofs.record.place_of.Statement.{statement}
 use Rattle.stream.proofs.record.place_of.Tie as tie
 
-block-of-requires : tie.Need-block-of-requires
-block-of-requires c κs = search needs
+block-anywhere-requires : tie.Need-block-anywhere-requires
+block-anywhere-requires c κs = search needs
 
 address-requires : tie.Need-address-requires
 address-requires c κs = search needs
@@ -20,4 +20,4 @@ returns : tie.Need-returns
 returns c = is-place _ _ _ (c .address .ensures) (omega arith)
 
 pub place-of-spec : {M : Type 1} → statement M
-place-of-spec = tie.close (tie.spec block-of-requires address-requires mul-t4 sub-t5 returns)
+place-of-spec = tie.close (tie.spec block-anywhere-requires address-requires mul-t4 sub-t5 returns)

@@ -58,7 +58,7 @@ values-typed-type-of-requires : (t : ℕ) → values-typed-lts.Need-type-of-requ
 values-typed-type-of-requires t c κs = c .before .before .before .before .before .before .before .before .before .before .before .pre .1 .1
 
 values-typed-has-form-requires : (t : ℕ) → values-typed-lts.Need-has-form-requires (values-typed-claims t) (values-typed-at t) values-typed.Post values-typed-Inv-loop values-typed-μ-loop
-values-typed-has-form-requires t c κs = (c .before .before .before .before .before .before .before .before .before .before .before .before .pre .1 .0, c .before .before .fetch .ensures)
+values-typed-has-form-requires t c κs = (c .before .before .before .before .before .before .before .before .before .before .before .before .pre .1 .0, c .before .before .fetch .ensures, c .before .before .before .before .before .before .before .before .before .before .before .before .pre .1 .2)
 
 values-typed-returns-2 : (t : ℕ) → values-typed-lts.Need-returns-2 (values-typed-claims t) (values-typed-at t) values-typed.Post values-typed-Inv-loop values-typed-μ-loop
 values-typed-returns-2 t c = turn-own (c .before .before .before .before .before .before .before .loop .inv) (c .before .before .before .before .before .before .loop-test .taken) (c .before .before .before .before .before .if1 .left) (c .before .before .before .child-type .ensures) (c .before .before .type-of .result) (c .before .before .type-of .ensures) (c .before .has-form .ensures (c .before .before .before .before .before .before .before .before .before .before .before .before .before .before .args .t .now)) (not-true _ (c .if2 .taken))

@@ -8,7 +8,7 @@ placed-requires : tie.Need-placed-requires
 placed-requires c κs = search needs
 
 write-requires : tie.Need-write-requires
-write-requires c κs = rw (c .placed .ensures) (c .before .before .before .before .pre)
+write-requires c κs = (c .before .before .before .before .pre .0, rw (c .placed .ensures) (c .before .before .before .before .pre .1))
 
 same-length : tie.Need-same-length
 same-length c = search needs

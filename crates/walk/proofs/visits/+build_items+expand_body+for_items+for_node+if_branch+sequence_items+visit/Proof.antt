@@ -226,7 +226,7 @@ build-items-add-turn : (t : ℕ) → build-items-lts.Need-add-turn (build-items-
 build-items-add-turn t c = record { fits = omega (arith, c .before .before .loop .inv .count-few, c .before .loop-test .taken) }
 
 build-items-write-requires : (t : ℕ) → build-items-lts.Need-write-requires (build-items-claims t) (build-items-at t) build-items.Post build-items-Inv-loop build-items-μ-loop
-build-items-write-requires t c κs = write-asks (c .before .before .before .before .before .before .before .before .before .before .before .before .before .before .before .before .before .before .before .before .before .pre .1 .0) (c .before .before .before .before .before .loop .inv) (c .before .before .before .before .loop-test .taken) (c .before .before .before .fetch2 .ensures)
+build-items-write-requires t c κs = (c .before .before .before .before .before .before .before .before .before .before .before .before .before .before .before .before .before .before .before .before .before .pre .1 .0 .visitable .lent .grammar-sized, write-asks (c .before .before .before .before .before .before .before .before .before .before .before .before .before .before .before .before .before .before .before .before .before .pre .1 .0) (c .before .before .before .before .before .loop .inv) (c .before .before .before .before .loop-test .taken) (c .before .before .before .fetch2 .ensures))
 
 build-items-same-length : (t : ℕ) → build-items-lts.Need-same-length (build-items-claims t) (build-items-at t) build-items.Post build-items-Inv-loop build-items-μ-loop
 build-items-same-length t c = c .before .before .before .before .write .kept .1 .1 .1 .0 ∙ c .before .before .before .before .before .before .before .before .before .before .loop .inv .going .len
@@ -394,7 +394,7 @@ for-items-is-due-requires : (t : ℕ) → for-items-lts.Need-is-due-requires (fo
 for-items-is-due-requires t c κs = search needs
 
 for-items-separate-requires : (t : ℕ) → for-items-lts.Need-separate-requires (for-items-claims t) (for-items-at t) for-items.Post for-items-Inv-loop for-items-μ-loop
-for-items-separate-requires t c κs = turn-room (c .before .before .before .before .before .before .before .before .before .before .before .before .before .before .before .pre .1 .0) (c .before .before .before .before .before .before .before .before .before .before .before .before .before .before .before .pre .1 .1) (c .before .before .before .before .loop .inv) (c .before .before .before .loop-test .taken)
+for-items-separate-requires t c κs = (c .before .before .before .before .before .before .before .before .before .before .before .before .before .before .before .pre .1 .0 .visitable .lent .grammar-sized, turn-room (c .before .before .before .before .before .before .before .before .before .before .before .before .before .before .before .pre .1 .0) (c .before .before .before .before .before .before .before .before .before .before .before .before .before .before .before .pre .1 .1) (c .before .before .before .before .loop .inv) (c .before .before .before .loop-test .taken))
 
 for-items-same-length : (t : ℕ) → for-items-lts.Need-same-length (for-items-claims t) (for-items-at t) for-items.Post for-items-Inv-loop for-items-μ-loop
 for-items-same-length t c = c .before .before .before .before .separate .kept .1 .1 .0 ∙ c .before .before .before .before .before .before .before .before .before .loop .inv .going .len
@@ -679,7 +679,7 @@ sequence-items-after-requires-2 : (t : ℕ) → sequence-items-lts.Need-after-re
 sequence-items-after-requires-2 t c κs = search needs
 
 sequence-items-separate-requires : (t : ℕ) → sequence-items-lts.Need-separate-requires (sequence-items-claims t) (sequence-items-at t) sequence-items.Post sequence-items-Inv-loop sequence-items-μ-loop
-sequence-items-separate-requires t c κs = apart-room (c .before .before .before .before .before .before .before .before .before .before .before .before .before .before .before .before .before .before .before .before .before .before .before .before .pre .1 .0) (c .before .before .before .before .before .before .before .before .loop .inv) (c .before .before .before .before .before .before .before .loop-test .taken) (c .before .before .before .before .before .before .fetch2 .ensures) (eqb-false _ _ (sym (c .before .before .before .before .before .is-for .ensures) ∙ c .before .before .before .before .if2 .left)) (c .after2 .ensures)
+sequence-items-separate-requires t c κs = (c .before .before .before .before .before .before .before .before .before .before .before .before .before .before .before .before .before .before .before .before .before .before .before .before .pre .1 .0 .visitable .lent .grammar-sized, apart-room (c .before .before .before .before .before .before .before .before .before .before .before .before .before .before .before .before .before .before .before .before .before .before .before .before .pre .1 .0) (c .before .before .before .before .before .before .before .before .loop .inv) (c .before .before .before .before .before .before .before .loop-test .taken) (c .before .before .before .before .before .before .fetch2 .ensures) (eqb-false _ _ (sym (c .before .before .before .before .before .is-for .ensures) ∙ c .before .before .before .before .if2 .left)) (c .after2 .ensures))
 
 sequence-items-same-length-3 : (t : ℕ) → sequence-items-lts.Need-same-length-3 (sequence-items-claims t) (sequence-items-at t) sequence-items.Post sequence-items-Inv-loop sequence-items-μ-loop
 sequence-items-same-length-3 t c = c .before .before .before .before .separate .kept .1 .1 .0 ∙ c .before .before .before .before .before .before .before .before .before .before .before .before .before .loop .inv .going .len
@@ -772,7 +772,7 @@ visit-enum-told-2 : (t : ℕ) → visit-lts.Need-enum-told-2 (visit-claims t) (v
 visit-enum-told-2 t c = search needs
 
 visit-write-requires : (t : ℕ) → visit-lts.Need-write-requires (visit-claims t) (visit-at t) visit.Post
-visit-write-requires t c κs = form-formed (c .before .before .before .before .before .before .before .before .before .before .before .before .before .before .before .before .before .before .before .pre .1) (leb-false _ _ (sym (c .before .before .before .before .before .before .before .before .before .spent .ensures) ∙ c .before .before .before .before .before .before .before .before .if1 .left)) (c .before .before .before .before .before .before .before .counted .ensures) (c .before .before .before .before .before .if2 .left) (form-here (c .before .before .before .before .before .before .before .before .before .before .before .before .before .before .before .before .before .before .before .pre .1) (leb-false _ _ (sym (c .before .before .before .before .before .before .before .before .before .spent .ensures) ∙ c .before .before .before .before .before .before .before .before .if1 .left)) (c .before .before .before .before .before .before .before .counted .ensures) (c .before .before .before .before .fetch .ensures) _ (c .before .before .before .form-of .ensures) ∙ c .before .enum-told2 .given .1) .visitable .room
+visit-write-requires t c κs = (c .before .before .before .before .before .before .before .before .before .before .before .before .before .before .before .before .before .before .before .pre .1 .lent .templates-sized, form-formed (c .before .before .before .before .before .before .before .before .before .before .before .before .before .before .before .before .before .before .before .pre .1) (leb-false _ _ (sym (c .before .before .before .before .before .before .before .before .before .spent .ensures) ∙ c .before .before .before .before .before .before .before .before .if1 .left)) (c .before .before .before .before .before .before .before .counted .ensures) (c .before .before .before .before .before .if2 .left) (form-here (c .before .before .before .before .before .before .before .before .before .before .before .before .before .before .before .before .before .before .before .pre .1) (leb-false _ _ (sym (c .before .before .before .before .before .before .before .before .before .spent .ensures) ∙ c .before .before .before .before .before .before .before .before .if1 .left)) (c .before .before .before .before .before .before .before .counted .ensures) (c .before .before .before .before .fetch .ensures) _ (c .before .before .before .form-of .ensures) ∙ c .before .enum-told2 .given .1) .visitable .room)
 
 visit-enum-told-3 : (t : ℕ) → visit-lts.Need-enum-told-3 (visit-claims t) (visit-at t) visit.Post
 visit-enum-told-3 t c = search needs

@@ -36,10 +36,10 @@ returns-2 : tie.Need-returns-2
 returns-2 c = ran-stuck (c .before .before .before .before .before .before .before .before .before .before .before .before .before .before .before .before .before .args .at) (c .before .before .before .before .before .before .before .before .before .before .before .before .before .before .before .before .before .pre .2) (c .stuck2 .ensures) (place-other _ _ _ _ _ _ _ (got (c .before .before .before .before .before .before .before .path-value .ensures .is) (c .before .before .before .before .before .w .given .1)) _ (c .before .before .before .fetch .ensures .kind) (c .before .if1 .taken))
 
 as-it-stands-requires : tie.Need-as-it-stands-requires
-as-it-stands-requires c κs = search needs
+as-it-stands-requires c κs = (c .before .before .before .before .before .before .before .before .before .before .before .before .before .before .before .before .pre .3, c .before .before .before .before .before .before .before .before .before .before .before .before .before .before .before .before .pre .4, c .before .before .before .before .before .before .before .before .before .before .before .before .before .before .before .before .pre .5, c .before .before .before .before .before .before .before .before .before .before .before .before .before .before .before .before .pre .0 .value-lent .sized)
 
 write-requires : tie.Need-write-requires
-write-requires c κs = c .before .before .before .before .before .before .before .before .before .before .before .before .before .before .before .before .before .before .before .pre .2
+write-requires c κs = (c .before .before .before .before .before .before .before .before .before .before .before .before .before .before .before .before .before .before .before .pre .0 .value-lent .sized, c .before .before .before .before .before .before .before .before .before .before .before .before .before .before .before .before .before .before .before .pre .2)
 
 same-length : tie.Need-same-length
 same-length c = search needs
@@ -48,7 +48,7 @@ returns-3 : tie.Need-returns-3
 returns-3 c = ran-is (place-text _ _ _ _ _ _ _ (got (c .before .before .before .before .before .before .before .before .before .before .before .before .path-value .ensures .is) (c .before .before .before .before .before .before .before .before .before .before .w .given .1)) _ (c .before .before .before .before .before .before .before .before .fetch .ensures .kind) (c .before .before .before .before .before .before .if1 .left) _ (c .before .before .before .before .before .before .before .before .fetch .ensures .b) (c .before .before .before .before .before .as-it-stands .ensures) (c .before .before .before .before .if2 .taken)) (c .before .before .write .ensures)
 
 write-escaped-requires : tie.Need-write-escaped-requires
-write-escaped-requires c κs = c .before .before .before .before .before .before .before .before .before .before .before .before .before .before .before .before .before .before .before .pre .2
+write-escaped-requires c κs = (c .before .before .before .before .before .before .before .before .before .before .before .before .before .before .before .before .before .before .before .pre .0 .value-lent .sized, c .before .before .before .before .before .before .before .before .before .before .before .before .before .before .before .before .before .before .before .pre .2)
 
 same-length-2 : tie.Need-same-length-2
 same-length-2 c = search needs

@@ -29,7 +29,7 @@ same-length : tie.Need-same-length
 same-length c = search needs
 
 returns : tie.Need-returns
-returns c = wrote _ _ _ (c .before .before .before .before .before .before .before .before .args .at) _ _ (c .before .before .before .before .before .text-after .ensures .text) refl (c .before .before .before .before .before .before .before .before .pre) (c .before .before .before .copy-text .ensures) _ (c .written .ensures)
+returns c = wrote _ _ _ (c .before .before .before .before .before .before .before .before .args .at) _ _ (c .before .before .before .before .before .text-after .ensures .text) refl (c .before .before .before .before .before .before .before .before .pre .1) (c .before .before .before .copy-text .ensures) _ (c .written .ensures)
 
 pub write-spec : {M : Type 1} → statement M
 write-spec =

@@ -30,7 +30,7 @@ same-length : tie.Need-same-length
 same-length c = search needs
 
 returns : tie.Need-returns
-returns c = wrote _ _ _ (c .before .before .before .before .before .before .before .before .args .at) _ _ (ap escape (c .before .before .before .before .before .text-after .ensures .text)) refl (c .before .before .before .before .before .before .before .before .pre) (c .before .before .before .copy-escaped .ensures) _ (c .written .ensures)
+returns c = wrote _ _ _ (c .before .before .before .before .before .before .before .before .args .at) _ _ (ap escape (c .before .before .before .before .before .text-after .ensures .text)) refl (c .before .before .before .before .before .before .before .before .pre .1) (c .before .before .before .copy-escaped .ensures) _ (c .written .ensures)
 
 pub write-escaped-spec : {M : Type 1} → statement M
 write-escaped-spec =
