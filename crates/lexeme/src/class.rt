@@ -8,6 +8,7 @@ ghost use Rattle.rules.specs.Blocks.{streamLength};
 ghost use Rattle.rules.specs.Records.{fieldD};
 ghost use Rattle.rules.specs.Lexeme.{within, ranges, inSome, isOfClass};
 ghost use Rattle.lexeme.specs.Sets.{ClassSet};
+use crate::hints::MANY;
 use crate::hints::area;
 use crate::hints::find;
 use crate::hints::guess;
@@ -18,9 +19,6 @@ use crate::xml::is_xml_char;
 use records::range::Range;
 use records::range::range_at;
 use stream::record::fetch;
-
-// From so many ranges on it pays to look first where even steps would have a code point.
-const MANY: usize = 64;
 
 fn is_between(r: Range, x: usize) -> bool
     ensures { λ b. ⌜ b ≡ within (r .lowest) (r .highest) x ⌝ }
@@ -68,15 +66,15 @@ fn is_kth(g: &[u8], p: u16, count: usize, k: usize, x: usize) -> bool
     is_between(r, x)
 }
 
-// Whether a range that the hints name has x.
-fn is_hinted(g: &[u8], p: u16, count: usize, hints: &[u16], x: usize) -> bool
+// Whether a range that the hints name has x: of many ranges the one that their pace leads to, then the one that a search among the hints finds.
+fn is_hinted(g: &[u8], p: u16, count: usize, hints: &[u16], pace: u16, x: usize) -> bool
     requires { ⌜ (streamLength (now g) ≡ none) × (count ≡ fieldD (now g) p) ⌝ }
     requires { ⌜ (0 < length (now hints)) × (length (now hints) ≤ 65536) ⌝ }
     ensures { λ r. ⌜ (r ≡ true → inSome (now (g .entry)) (ranges (now (g .entry)) p) x ≡ true) ⌝ }
 {
     let first = p as usize + 1;
     if MANY <= hints.len() {
-        if is_kth(g, p, count, guess(g, first, hints, x), x) {
+        if is_kth(g, p, count, guess(g, first, hints, pace, x), x) {
             return true;
         }
     }
@@ -92,7 +90,7 @@ fn in_ranges(g: &[u8], p: u16, count: usize, table: &[u16], x: usize) -> bool
     let from = a.from;
     let to = a.to;
     if from < to {
-        if is_hinted(g, p, count, &table[from..to], x) {
+        if is_hinted(g, p, count, &table[from..to], table[to], x) {
             return true;
         }
     }

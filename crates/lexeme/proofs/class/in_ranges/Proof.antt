@@ -18,6 +18,12 @@ part-is-hinted-start c = search needs
 part-is-hinted-end : tie.Need-part-is-hinted-end
 part-is-hinted-end c = search needs
 
+mul-is-hinted-2 : tie.Need-mul-is-hinted-2
+mul-is-hinted-2 c = search needs
+
+shared-slice-read-is-hinted : tie.Need-shared-slice-read-is-hinted
+shared-slice-read-is-hinted c = c .before .before .before .area .ensures .1 (c .before .before .if1 .taken)
+
 is-hinted-requires : tie.Need-is-hinted-requires
 is-hinted-requires c κs = search needs
 
@@ -39,6 +45,8 @@ in-ranges-spec =
     sub-is-hinted
     part-is-hinted-start
     part-is-hinted-end
+    mul-is-hinted-2
+    shared-slice-read-is-hinted
     is-hinted-requires
     returns
     search-requires
