@@ -1,4 +1,4 @@
-//! The shared vectors of the latest request that has landed, when they are there
+//! The shared vectors of the latest landed request that has any, when they are there
 //! (`PAGE_MACHINE_VECTORS`, or `shared/vectors` beside the repository), held against both machines.
 //! A later request may change the answers of an earlier folder. Each folder has three streams, what
 //! the paper's program prints, and more calls; `vectors.txt` has checks, packing, unpacking and
@@ -12,7 +12,8 @@ use trials::generate::Streams;
 use trials::run::try_streams;
 use trials::{Fields, Machine, Random, Reference, SECOND};
 
-/// The folder of vectors: `base`, or the letter of the latest request that has landed.
+/// The folder of vectors: `base`, or the letter of the latest landed request that has any (e changes
+/// no answer and has none).
 const STAGE: &str = "d";
 
 const MACHINES: [&dyn Machine; 2] = [&Reference, &SECOND];
