@@ -1,35 +1,24 @@
-//! The kit: assembles, prints, packs anew and explains the page machine's streams.
+//! The kit for designers: from a description and its data to a feed, and to words about what is refused.
 //!
-//! - [`mod@assemble`] makes the three streams from a description in the format of `FORMAT.md`;
-//! - [`mod@dump`] prints a stream record by record;
-//! - [`mod@repack`] packs a stream anew whose checks are of the old kind;
-//! - [`mod@explain`] runs the proved library on three streams and shows what it refuses, and where.
+//! - [`commands`] are the tool's commands, each in a file;
+//! - [`language`] reads descriptions in the format of `FORMAT.md`, and [`json`] data;
+//! - [`assembly`] makes streams of them, with a map of where each record comes from;
+//! - [`streams`] reads streams as they are found, sound or damaged;
+//! - [`reasons`] tells why the proved library refuses a set, and [`lint`] what is most likely not meant.
 
 #![forbid(unsafe_code)]
 #![deny(missing_docs)]
 
-pub mod assemble;
-pub mod characters;
-pub mod checks;
-pub mod classes;
-pub mod description;
-pub mod due;
-pub mod dump;
-pub mod escapes;
-pub mod explain;
-pub mod heads;
-pub mod layout;
-pub mod lexer;
+pub mod assembly;
+pub mod commands;
+pub mod files;
+pub mod json;
+pub mod language;
+pub mod lint;
 pub mod mistake;
-pub mod paper;
-pub mod parser;
-pub mod position;
-pub mod record;
-pub mod repack;
-pub mod rows;
-pub mod separator;
+pub mod reasons;
+pub mod streams;
 pub mod words;
 
-pub use assemble::{assemble, Streams};
+pub use assembly::assemble::{assemble, Streams};
 pub use mistake::Mistake;
-pub use repack::{repack, Repacked};

@@ -142,7 +142,11 @@ evaluate: the templates, record 9: a node is reached with all fuel used (refusal
 >         9            place, size 2
          10              path: variable 1
       11-62  52 zero records
-  the walk took 6 steps with fuel 6 and wrote 6 of 65536 bytes; the text so far ends with \"[<ab><\"
+  = the way there:
+      template 0
+      for (variable 1), item 2 of 2
+  = the walk took 6 steps with fuel 6 and wrote 6 of 65536 bytes; the text so far ends with \"[<ab><\"
+  = fuel of 7 would do
 "
     );
 }
@@ -169,7 +173,18 @@ fn explain_of_a_pasted_title() {
 
 #[test]
 fn explain_of_missing_files() {
-    let output = kit(&["explain", &name_of(&folder("empty"))]);
+    let folder = folder("empty");
+    let output = kit(&["explain", &name_of(&folder)]);
+    assert_eq!(output.status.code(), Some(2));
+    let missing = format!(
+        "kit: {}/grammar.blk: there is no such file\n",
+        name_of(&folder)
+    );
+    assert_eq!(String::from_utf8_lossy(&output.stderr), missing);
+    for name in FILES {
+        fs::write(folder.join(name), "").expect("written");
+    }
+    let output = kit(&["explain", &name_of(&folder)]);
     assert_eq!(output.status.code(), Some(1));
     assert!(printed(&output).starts_with("check: the grammar: the length is zero"));
 }

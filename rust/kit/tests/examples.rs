@@ -1,8 +1,8 @@
 //! The examples: their descriptions give their streams, and their streams their texts.
 
-use kit::characters::is_admitted;
-use kit::description::{ClassForm, Value, ValueForm};
-use kit::parser::parse;
+use kit::language::description::{ClassForm, Value, ValueForm};
+use kit::language::parser::parse;
+use kit::reasons::characters::is_admitted;
 use kit::{assemble, Streams};
 use std::fs;
 use std::io::Write;
@@ -222,7 +222,7 @@ fn ranged(example: &str) -> impl Iterator<Item = char> {
         ClassForm::Escaped(_) => Vec::new(),
     });
     ranges
-        .flat_map(|(lowest, highest)| lowest..=highest)
+        .flat_map(|range| range.lowest..=range.highest)
         .filter_map(char::from_u32)
 }
 

@@ -1,7 +1,7 @@
 //! The kit's marks against the proved library: a stream has a mark exactly when the library answers 3.
 
-use kit::layout::lines;
-use kit::record::{Found, Kind};
+use kit::streams::layout::lines;
+use kit::streams::record::{Found, Kind};
 use std::fs;
 use std::path::Path;
 

@@ -1,0 +1,49 @@
+//! The path to a part of the data, as `episodes[3].title`.
+
+use crate::words::shown;
+use std::fmt;
+
+/// The longest path that is shown.
+const WIDEST: usize = 200;
+
+/// A path: fields by their names, items by their numbers from 0.
+#[derive(Clone, Debug, Default, PartialEq, Eq)]
+pub struct DataPath {
+    written: String,
+}
+
+/// The length of a path before a step was made.
+pub struct Outside(usize);
+
+impl DataPath {
+    /// Steps into a field.
+    pub fn field(&mut self, name: &str) -> Outside {
+        let outside = Outside(self.written.len());
+        if !self.written.is_empty() {
+            self.written.push('.');
+        }
+        self.written.push_str(name);
+        outside
+    }
+
+    /// Steps to an item.
+    pub fn item(&mut self, number: usize) -> Outside {
+        let outside = Outside(self.written.len());
+        self.written.push_str(&format!("[{number}]"));
+        outside
+    }
+
+    /// Steps back.
+    pub fn leave(&mut self, outside: Outside) {
+        self.written.truncate(outside.0);
+    }
+}
+
+impl fmt::Display for DataPath {
+    fn fmt(&self, f: &mut fmt::Formatter<'_>) -> fmt::Result {
+        match self.written.is_empty() {
+            true => f.write_str("the whole data"),
+            false => f.write_str(&shown(&self.written, WIDEST)),
+        }
+    }
+}

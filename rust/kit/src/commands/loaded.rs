@@ -1,0 +1,136 @@
+//! Descriptions and data, read from their files.
+
+use super::{Done, Step};
+use crate::assembly::assemble::{end_of, Assembled, Made};
+use crate::assembly::data;
+use crate::assembly::map::Map;
+use crate::files::{self, MOST_TEXT};
+use crate::json;
+use crate::language::description::Description;
+use crate::language::parser::parse;
+use crate::mistake::{Mistake, Position, Source};
+use crate::reasons::explain::Set;
+use crate::streams::record::Kind;
+use std::path::Path;
+
+/// A text and the name of its file.
+pub struct Text {
+    /// The name of the file, as it was given.
+    pub name: String,
+    /// The text.
+    pub text: String,
+}
+
+impl Text {
+    /// Reads a file; what is no UTF-8 in it is shown, and the command ends.
+    fn read(file: &Path, what: &str) -> Step<Self> {
+        let name = file.display().to_string();
+        let bytes = files::read(file, MOST_TEXT).map_err(Done::file)?;
+        String::from_utf8(bytes)
+            .map_err(|error| Done::refused(no_text(&name, what, error.as_bytes())))
+            .map(|text| Self { name, text })
+    }
+
+    /// Mistakes in it, with their lines.
+    pub fn shown(&self, mistakes: &[Mistake]) -> String {
+        Source::new(&self.name, &self.text).shown(mistakes)
+    }
+}
+
+/// Where bytes stop being UTF-8.
+fn no_text(name: &str, what: &str, bytes: &[u8]) -> String {
+    let lossy = String::from_utf8_lossy(bytes);
+    let valid = match std::str::from_utf8(bytes) {
+        Ok(text) => text.len(),
+        Err(error) => error.valid_up_to(),
+    };
+    let before = String::from_utf8_lossy(&bytes[..valid]);
+    let Position { line, column } = end_of(&before);
+    let message = format!("the {what} is no UTF-8 here");
+    let mistake = Mistake::new(Position { line, column }, message);
+    Source::new(name, &lossy).shown(&[mistake])
+}
+
+/// A description that has no mistake of its own.
+pub struct Loaded {
+    /// Its text.
+    pub source: Text,
+    /// Its tree.
+    pub tree: Description,
+    /// Its streams.
+    pub set: Assembled,
+}
+
+impl Loaded {
+    /// Reads and assembles a description.
+    ///
+    /// # Errors
+    /// The file can't be read, or the description has mistakes, which are shown.
+    pub fn read(file: &Path) -> Step<Self> {
+        let source = Text::read(file, "description")?;
+        let shown = |mistakes: Vec<Mistake>| Done::refused(source.shown(&mistakes));
+        let tree = parse(&source.text).map_err(shown)?;
+        let set = Assembled::of(&tree, end_of(&source.text)).map_err(shown)?;
+        Ok(Self { source, tree, set })
+    }
+
+    /// The map of its streams, which calls it by its file's name alone.
+    pub fn map(&self) -> Map {
+        let name = Path::new(&self.source.name).file_name();
+        let name = name.map_or_else(String::new, |name| name.to_string_lossy().into_owned());
+        Map::of(&name, &self.set)
+    }
+
+    /// The data for it: from a JSON file, else the value that it has itself.
+    pub fn data(self, file: Option<&Path>) -> Step<(Self, Option<Data>)> {
+        match file {
+            Some(file) => Data::read(&self, file).map(|data| (self, Some(data))),
+            None => Ok(self.own_data()),
+        }
+    }
+
+    fn own_data(mut self) -> (Self, Option<Data>) {
+        let own = self.set.value.take();
+        let source = || Text {
+            name: self.source.name.clone(),
+            text: self.source.text.clone(),
+        };
+        let data = own.map(|made| Data {
+            source: source(),
+            made,
+        });
+        (self, data)
+    }
+
+    /// The streams, with a value or none.
+    pub fn streams<'a>(&'a self, data: Option<&'a Data>) -> Set<'a> {
+        Set {
+            grammar: &self.set.grammar.blocks,
+            templates: &self.set.templates.blocks,
+            value: data.map_or(&[], |data| &data.made.blocks),
+        }
+    }
+}
+
+/// A value, and the text that it comes from.
+pub struct Data {
+    /// The text.
+    pub source: Text,
+    /// The stream.
+    pub made: Made,
+}
+
+impl Data {
+    /// Reads JSON data for a description.
+    ///
+    /// # Errors
+    /// The file can't be read, is no JSON, or isn't of the declared type; all mistakes are shown.
+    pub fn read(loaded: &Loaded, file: &Path) -> Step<Self> {
+        let source = Text::read(file, "data")?;
+        let shown = |mistakes: Vec<Mistake>| Done::refused(source.shown(&mistakes));
+        let json = json::parse(source.text.as_bytes()).map_err(|mistake| shown(vec![mistake]))?;
+        let sheet = data::value(&loaded.tree, &loaded.set, &json).map_err(shown)?;
+        let made = Made::of(Kind::Value, sheet, json.at).map_err(|it| shown(vec![it]))?;
+        Ok(Self { source, made })
+    }
+}

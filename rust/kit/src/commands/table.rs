@@ -1,0 +1,233 @@
+//! The table of the commands, and their pages.
+
+use super::words::{bad_use, Words};
+use super::{assemble, check, dump, explain, lint, new, render, repack, size, value};
+use super::{Done, Step, VERSION};
+use crate::language::rows::meant;
+use crate::words::named;
+use std::ffi::OsString;
+
+/// A command.
+pub struct Command {
+    /// Its name.
+    pub name: &'static str,
+    /// Its operands, those that may be left out in brackets.
+    pub operands: &'static [&'static str],
+    /// Whether it evaluates, and so takes what is lent as options.
+    pub evaluates: bool,
+    /// What it does, in a line.
+    pub summary: &'static str,
+    /// What more there is to know.
+    pub page: &'static str,
+    run: fn(&Words) -> Step<Done>,
+}
+
+/// All commands, in the order in which a designer meets them.
+pub const COMMANDS: [Command; 10] = [
+    Command {
+        name: "new",
+        operands: &["DIR"],
+        evaluates: false,
+        summary: "make a folder with a small feed to start from",
+        page: "\
+Makes DIR with feed.txt, the description of a small RSS feed, and data.json, its data.
+docs/TUTORIAL.md goes on from there. A folder that has one of these files stays as it is.
+",
+        run: new::run,
+    },
+    Command {
+        name: "check",
+        operands: &["FILE", "[DATA.json]"],
+        evaluates: true,
+        summary: "say what is wrong with a description, and where",
+        page: "\
+Reads the description in FILE, assembles it and asks the proved library. All mistakes of the
+description itself are shown at once; what the library refuses is shown at its line, with the
+rule that failed. With DATA.json, or if the description has a value, it is evaluated, too.
+",
+        run: check::run,
+    },
+    Command {
+        name: "render",
+        operands: &["FILE", "[DATA.json]"],
+        evaluates: true,
+        summary: "print the text of a description and its data",
+        page: "\
+Prints the text that the description in FILE gives for the data in DATA.json or, without
+DATA.json, for the value that the description has. What is refused is shown as by kit check.
+",
+        run: render::run,
+    },
+    Command {
+        name: "size",
+        operands: &["FILE", "[DATA.json]"],
+        evaluates: true,
+        summary: "say how full each stream is, and how many more items fit",
+        page: "\
+A stream holds 8,064 records in 128 blocks. Says how many the grammar, the templates and the
+value take, the steps and bytes of the text, and for each list of the data how many items more,
+of the size of those it has, would fit.
+",
+        run: size::run,
+    },
+    Command {
+        name: "lint",
+        operands: &["FILE"],
+        evaluates: false,
+        summary: "say what is allowed, but most likely not meant",
+        page: "\
+Warns of a plain class that admits & or < and stands between keywords of markup, of a class
+that admits nothing, of productions, templates, classes and types that nothing uses, and of a
+for whose body writes nothing. Exit status 1 if there is a warning.
+",
+        run: lint::run,
+    },
+    Command {
+        name: "value",
+        operands: &["FILE", "DATA.json", "OUT.blk"],
+        evaluates: false,
+        summary: "make a value stream from JSON",
+        page: "\
+Makes the value stream of the data in DATA.json, by the type that the description in FILE
+declares: an object for a record, by the names of its fields, an array for a list, a string for
+a text, true or false for yes or no. All mistakes are shown at once, each with its path in the
+data, as episodes[3].title.
+",
+        run: value::run,
+    },
+    Command {
+        name: "assemble",
+        operands: &["FILE", "DIR"],
+        evaluates: false,
+        summary: "make the streams of a description, and their map",
+        page: "\
+Makes grammar.blk and template.blk in DIR from the description in FILE (rust/kit/FORMAT.md),
+value.blk if the description has a value, and map.json, which tells for each record the line
+and column that it comes from, and its names. Files are written all or none.
+",
+        run: assemble::run,
+    },
+    Command {
+        name: "explain",
+        operands: &["DIR"],
+        evaluates: true,
+        summary: "check and evaluate the streams in a folder, and explain what is refused",
+        page: "\
+Asks the proved library about grammar.blk, template.blk and value.blk in DIR, and shows what is
+refused, where, and by which rule. Where map.json is there and fits the streams, lines and names
+are those of the description; without it things are called by their numbers.
+",
+        run: explain::run,
+    },
+    Command {
+        name: "dump",
+        operands: &["FILE.blk"],
+        evaluates: false,
+        summary: "print a stream record by record",
+        page: "\
+Prints the records of a stream, damaged or not, and marks what is damaged or odd. With a map.json
+beside it that fits the stream, names and places of the description stand with the numbers.
+",
+        run: dump::run,
+    },
+    Command {
+        name: "repack",
+        operands: &["FILE.blk or DIR"],
+        evaluates: false,
+        summary: "give streams with checks of the old kind those of now",
+        page: "\
+Packs a stream, or the three streams of a folder, anew in its place, if its checks are of the
+kind from before request b. A stream that is damaged stays as it is, and so do those beside it.
+",
+        run: repack::run,
+    },
+];
+
+const OPTIONS: &str = "  --fuel N      the most nodes visited (1000000)
+  --output N    the bytes of the output (65536)
+  --scratch N   the 16-bit numbers of the scratch (4800)
+";
+
+const STATUS: &str = "\
+Exit status: 0 done; 1 refused; 2 bad use, or a file that can't be read or written.
+";
+
+impl Command {
+    /// The options that it takes.
+    pub fn options(&self) -> &'static [&'static str] {
+        match self.evaluates {
+            true => &["--fuel", "--output", "--scratch"],
+            false => &[],
+        }
+    }
+
+    /// How it is called.
+    pub fn usage(&self) -> String {
+        let options = match self.evaluates {
+            true => " [--fuel N] [--output N] [--scratch N]",
+            false => "",
+        };
+        format!("kit {} {}{options}", self.name, self.operands.join(" "))
+    }
+
+    fn help(&self) -> String {
+        let options = if self.evaluates { OPTIONS } else { "" };
+        let gap = if self.evaluates { "\n" } else { "" };
+        format!(
+            "{}: {}\n\n{}{gap}{options}\n{STATUS}",
+            self.usage(),
+            self.summary,
+            self.page
+        )
+    }
+}
+
+/// The page of the kit itself.
+fn help() -> String {
+    let mut text = String::from("kit: the page machine's kit for designers\n\n");
+    for command in &COMMANDS {
+        let call = format!("kit {} {}", command.name, command.operands.join(" "));
+        text.push_str(&format!("  {call:<32}  {}\n", command.summary));
+    }
+    text + "\n`kit COMMAND --help` says more of a command, `kit --version` which kit this is.\n"
+        + STATUS
+}
+
+/// Runs the command that the words name.
+pub(super) fn run(words: &[OsString]) -> Step<Done> {
+    let Some((name, rest)) = words.split_first() else {
+        return Err(unknown("a command is missing"));
+    };
+    let name = name.to_string_lossy();
+    match name.as_ref() {
+        "help" | "--help" | "-h" => return Ok(Done::fine(help())),
+        "--version" | "-V" => return Ok(Done::fine(VERSION)),
+        _ => {}
+    }
+    let Some(command) = COMMANDS.iter().find(|command| command.name == name) else {
+        let near = meant(&name, COMMANDS.iter().map(|command| command.name));
+        let message = format!("there is no command {}{near}", named(&name));
+        return Err(unknown(&message));
+    };
+    let words = Words::read(command, rest)?;
+    match words.help {
+        true => Ok(Done::fine(command.help())),
+        false => (command.run)(&words),
+    }
+}
+
+fn unknown(message: &str) -> Done {
+    Done {
+        err: format!("kit: {message}\n`kit --help` lists the commands\n"),
+        status: 2,
+        ..Done::default()
+    }
+}
+
+/// The end of a command whose words don't fit together.
+pub(super) fn misused(name: &str, message: &str) -> Done {
+    match COMMANDS.iter().find(|command| command.name == name) {
+        Some(command) => bad_use(command, message),
+        None => unknown(message),
+    }
+}

@@ -1,0 +1,106 @@
+//! Nodes of templates and their paths.
+
+use super::{Parsed, Parser};
+use crate::language::description::{By, Node, NodeForm, Path, Step};
+use crate::language::lexer::Token;
+use crate::mistake::Mistake;
+
+impl Parser {
+    pub(super) fn node(&mut self) -> Parsed<Node> {
+        self.deeper(|parser| {
+            let at = parser.at();
+            let form = parser.node_form()?;
+            Ok(Node { at, form })
+        })
+    }
+
+    fn node_form(&mut self) -> Parsed<NodeForm> {
+        let Token::Word(word) = self.peek().clone() else {
+            return self.expected("a node");
+        };
+        let form: fn(&mut Self) -> Parsed<NodeForm> = match word.as_str() {
+            "build" => Self::build,
+            "literal" => |parser| Ok(NodeForm::Literal(parser.text()?)),
+            "place" => |parser| Ok(NodeForm::Place(parser.path()?)),
+            "expand" => Self::expand,
+            "if" => Self::if_node,
+            "for" => Self::for_node,
+            "sequence" => Self::sequence,
+            _ => {
+                return self.expected(
+                    "a node (`build`, `literal`, `place`, `expand`, `if`, `for` or `sequence`)",
+                )
+            }
+        };
+        self.take();
+        form(self)
+    }
+
+    /// `build PRODUCTION` and, in brackets, its children.
+    fn build(&mut self) -> Parsed<NodeForm> {
+        let production = self.name("the name of a production")?;
+        let children = if self.sees_sign('(') {
+            self.bracketed(['(', ')'], Self::node)?
+        } else {
+            Vec::new()
+        };
+        Ok(NodeForm::Build(production, children))
+    }
+
+    /// `expand TEMPLATE (PATH..)`
+    fn expand(&mut self) -> Parsed<NodeForm> {
+        let template = self.name("the name of a template")?;
+        let paths = self.bracketed(['(', ')'], Self::path)?;
+        Ok(NodeForm::Expand(template, paths))
+    }
+
+    /// `if PATH then NODE else NODE`
+    fn if_node(&mut self) -> Parsed<NodeForm> {
+        let path = self.path()?;
+        self.word("then")?;
+        let yes = Box::new(self.node()?);
+        self.word("else")?;
+        let no = Box::new(self.node()?);
+        Ok(NodeForm::If(path, yes, no))
+    }
+
+    /// `for NAME in PATH do NODE`
+    fn for_node(&mut self) -> Parsed<NodeForm> {
+        let item = self.name("a name for the item")?;
+        self.word("in")?;
+        let path = self.path()?;
+        self.word("do")?;
+        let body = Box::new(self.node()?);
+        Ok(NodeForm::For(item, path, body))
+    }
+
+    /// `sequence (NODE..)`
+    fn sequence(&mut self) -> Parsed<NodeForm> {
+        let items = self.bracketed(['(', ')'], Self::node)?;
+        Ok(NodeForm::Sequence(items))
+    }
+
+    /// `VARIABLE` or `VARIABLE.FIELD..`
+    fn path(&mut self) -> Parsed<Path> {
+        let variable = self.step("a variable")?;
+        let mut fields = Vec::new();
+        while self.accept_sign('.') {
+            fields.push(self.step("a field")?);
+        }
+        Ok(Path { variable, fields })
+    }
+
+    fn step(&mut self, what: &str) -> Parsed<Step> {
+        let at = self.at();
+        let by = match *self.peek() {
+            Token::Number(number) => {
+                let number = u8::try_from(number)
+                    .map_err(|_| Mistake::new(at, format!("{what} has a number of at most 255")))?;
+                self.take();
+                By::Number(number)
+            }
+            _ => By::Name(self.name(what)?.word),
+        };
+        Ok(Step { by, at })
+    }
+}

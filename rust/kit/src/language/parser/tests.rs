@@ -1,0 +1,150 @@
+use super::*;
+use crate::language::description::{NodeForm, Value, ValueForm};
+
+fn mistake(description: &str) -> String {
+    parse(description).expect_err("a mistake")[0].to_string()
+}
+
+#[test]
+fn every_form_of_node_is_read() {
+    let found = parse(
+        "template t (a: b) of n = build p (literal \"x\" place a.f.0 expand t (a 3) \
+         if a.f then build p else sequence () sequence (for i in a do build p (place i)))",
+    )
+    .expect("a description");
+    let NodeForm::Build(_, children) = &found.templates[0].body.form else {
+        panic!("a build")
+    };
+    assert_eq!(children.len(), 5);
+}
+
+#[test]
+fn every_form_of_element_is_read() {
+    let found = parse(r#"production p of n = "x" a b* c*(", ") "y" d* ("") e"#);
+    let elements = &found.expect("a description").productions[0].elements;
+    let said: Vec<String> = elements
+        .iter()
+        .map(|element| match element {
+            Element::Keyword(text) => format!("{:?}", text.bytes),
+            Element::One(name) => name.word.clone(),
+            Element::Many(name, None) => format!("{}*", name.word),
+            Element::Many(name, Some(text)) => format!("{}*{:?}", name.word, text.bytes),
+        })
+        .collect();
+    assert_eq!(
+        said,
+        ["[120]", "a", "b*", "c*[44, 32]", "[121]", "d*[]", "e"]
+    );
+}
+
+#[test]
+fn every_form_of_value_is_read() {
+    let found = parse("value { name: \"x\" yes: no [yes, {}] }").expect("a description");
+    let Some(Value {
+        form: ValueForm::Record(children),
+        ..
+    }) = found.value
+    else {
+        panic!("a record")
+    };
+    let labels: Vec<_> = children
+        .iter()
+        .map(|(l, _)| l.as_ref().map(|n| n.word.as_str()))
+        .collect();
+    assert_eq!(labels, [Some("name"), Some("yes"), None]);
+}
+
+#[test]
+fn a_mistake_says_what_is_expected_and_where() {
+    assert_eq!(
+        mistake("clas t"),
+        "line 1, column 1: `class`, `production`, `type`, `template` or `value` is expected here, not `clas`"
+    );
+    assert_eq!(
+        mistake("class t 1 4"),
+        "line 1, column 11: `to` is expected here, not the number 4"
+    );
+    assert_eq!(
+        mistake("class t 1 to 70000 {}"),
+        "line 1, column 14: the most characters is at most 65,535"
+    );
+    assert_eq!(
+        mistake("class type 1"),
+        "line 1, column 7: the class's name is expected here; `type` begins a part and is no name"
+    );
+    assert_eq!(
+        mistake("type t = set t"),
+        "line 1, column 10: `text`, `yesno`, `list` or `record` is expected here, not `set`"
+    );
+    assert_eq!(
+        mistake("value [\n \"a\"\n"),
+        "line 1, column 7: this `[` is not closed before the end of the description"
+    );
+    assert_eq!(
+        mistake("value yes value no"),
+        "line 1, column 11: there is one value only"
+    );
+    assert_eq!(
+        mistake("class t"),
+        "line 1, column 8: the least number of characters is expected here, \
+         not the end of the description"
+    );
+    assert_eq!(
+        mistake("class t x"),
+        "line 1, column 9: the least number of characters is expected here, not `x`"
+    );
+    assert_eq!(
+        mistake("production p of n = m*(x)"),
+        "line 1, column 24: a text in quotes is expected here, not `x`"
+    );
+    assert_eq!(
+        mistake("production p of n = m*(\",\" \";\")"),
+        "line 1, column 28: `)` is expected here, not a text"
+    );
+    assert_eq!(
+        mistake("template t (a: b) of n = place 256"),
+        "line 1, column 32: a variable has a number of at most 255"
+    );
+}
+
+#[test]
+fn nesting_is_bounded() {
+    let deep = format!("value {}{}", "[".repeat(DEEPEST), "]".repeat(DEEPEST));
+    assert!(parse(&deep).is_ok());
+    let deeper = format!("value {}", "[".repeat(100_000));
+    assert!(mistake(&deeper).ends_with("this nests over 300 deep"));
+}
+
+fn mistakes(description: &str) -> Vec<String> {
+    let mistakes = parse(description).expect_err("mistakes");
+    mistakes.iter().map(ToString::to_string).collect()
+}
+
+#[test]
+fn each_part_may_have_its_mistake() {
+    assert_eq!(
+        mistakes("class t 1 4 {}\ntype class = yesno\n  type x\nvalue \"a\n"),
+        [
+            "line 4, column 7: this text has no closing quote on its line",
+            "line 1, column 11: `to` is expected here, not the number 4",
+            "line 2, column 6: the type's name is expected here; `class` begins a part and is no name",
+            "line 4, column 1: `=` is expected here, not `value`",
+        ]
+    );
+}
+
+#[test]
+fn an_unclosed_bracket_names_its_opener() {
+    assert_eq!(
+        mistakes("template t (a: b) of n =\n  build p (place a\nvalue {}\n"),
+        ["line 3, column 1: the `(` at line 2, column 11 is not closed before `value`, which begins a part and is no name"]
+    );
+    assert_eq!(
+        mistakes("type r = record { type: t }"),
+        ["line 1, column 19: the `{` at line 1, column 17 is not closed before `type`, which begins a part and is no name"]
+    );
+    assert_eq!(
+        mistakes("value { a: [ yes\n}"),
+        ["line 2, column 1: the `[` at line 1, column 12 is closed by `]`, not by `}`"]
+    );
+}

@@ -1,0 +1,186 @@
+//! Rows of names with their numbers.
+
+use crate::language::description::{Description, Name, Production, TypeForm};
+use crate::mistake::{Mistake, Position};
+use crate::streams::record::STREAM_RECORDS;
+use crate::words::named;
+use std::collections::HashMap;
+
+/// The numbers of a row of names, by the order of the description.
+pub type Row<'a> = HashMap<&'a str, u16>;
+
+/// All names of a description, and what they stand for.
+pub struct Rows<'a> {
+    /// The classes.
+    pub classes: Row<'a>,
+    /// The nonterminals, by their first productions.
+    pub nonterminals: Row<'a>,
+    /// The productions.
+    pub productions: Row<'a>,
+    /// The types.
+    pub types: Row<'a>,
+    /// The templates.
+    pub templates: Row<'a>,
+    /// The types by their numbers, with their names.
+    pub forms: Vec<(&'a str, &'a TypeForm)>,
+}
+
+impl<'a> Rows<'a> {
+    /// The rows of a description; names that stand twice are mistakes.
+    pub fn of(tree: &'a Description, mistakes: &mut Vec<Mistake>) -> Self {
+        let classes = row(
+            names(&tree.classes, |it| &it.name),
+            "a class",
+            256,
+            mistakes,
+        );
+        let productions = names(&tree.productions, |it| &it.name);
+        let types = names(&tree.types, |it| &it.name);
+        let templates = names(&tree.templates, |it| &it.name);
+        Self {
+            nonterminals: nonterminals(&tree.productions, &classes, mistakes),
+            classes,
+            productions: row(productions, "a production", 256, mistakes),
+            types: row(types, "a type", STREAM_RECORDS, mistakes),
+            templates: row(templates, "a template", STREAM_RECORDS, mistakes),
+            forms: tree
+                .types
+                .iter()
+                .map(|it| (it.name.word.as_str(), &it.form))
+                .collect(),
+        }
+    }
+
+    /// The number of the type with a name, if there is one.
+    pub fn type_named(&self, name: &Name) -> Option<u16> {
+        self.types.get(name.word.as_str()).copied()
+    }
+
+    /// What the type with a number is.
+    pub fn form(&self, number: Option<u16>) -> Option<&'a TypeForm> {
+        self.forms.get(usize::from(number?)).map(|(_, form)| *form)
+    }
+
+    /// The declared type of the value: that of template 0's one parameter.
+    pub fn declared(&self, tree: &Description) -> Option<u16> {
+        match tree.templates.first()?.parameters.as_slice() {
+            [only] => self.type_named(&only.of),
+            _ => None,
+        }
+    }
+}
+
+fn names<'a, T>(
+    things: &'a [T],
+    name: impl Fn(&'a T) -> &'a Name,
+) -> impl Iterator<Item = &'a Name> {
+    things.iter().map(name)
+}
+
+/// The numbers of names in their order; all differ, and there are at most so many.
+pub fn row<'a>(
+    names: impl Iterator<Item = &'a Name>,
+    what: &str,
+    most: usize,
+    mistakes: &mut Vec<Mistake>,
+) -> Row<'a> {
+    let mut found: HashMap<&str, (u16, Position)> = HashMap::new();
+    for (number, name) in names.enumerate() {
+        if let Some((_, first)) = found.get(name.word.as_str()) {
+            let word = named(&name.word);
+            let message = format!("{word} is {what} already, at line {}", first.line);
+            mistakes.push(Mistake::new(name.at, message));
+            continue;
+        }
+        if number == most {
+            let message = format!("this is {what} past the {most} that fit");
+            mistakes.push(Mistake::new(name.at, message));
+        }
+        let number = u16::try_from(number).unwrap_or(u16::MAX);
+        found.insert(&name.word, (number, name.at));
+    }
+    found
+        .into_iter()
+        .map(|(word, (number, _))| (word, number))
+        .collect()
+}
+
+/// The nonterminals in the order of their first productions. None has a class's name.
+fn nonterminals<'a>(
+    productions: &'a [Production],
+    classes: &Row<'a>,
+    mistakes: &mut Vec<Mistake>,
+) -> Row<'a> {
+    let mut found = Row::new();
+    for Name { word, at } in productions.iter().map(|production| &production.nonterminal) {
+        if classes.contains_key(word.as_str()) {
+            let message = format!("{} is a class already, and no nonterminal", named(word));
+            mistakes.push(Mistake::new(*at, message));
+        }
+        let next = u16::try_from(found.len()).unwrap_or(u16::MAX);
+        found.entry(word.as_str()).or_insert(next);
+    }
+    found
+}
+
+/// The number that a name stands for; a name that stands for nothing is a mistake.
+pub fn numbered(row: &Row<'_>, name: &Name, what: &str, mistakes: &mut Vec<Mistake>) -> u16 {
+    row.get(name.word.as_str()).copied().unwrap_or_else(|| {
+        mistakes.push(unknown(what, name, row.keys().copied()));
+        0
+    })
+}
+
+/// The mistake of a name that stands for nothing, with the name that may be meant.
+pub fn unknown<'a>(what: &str, name: &Name, known: impl Iterator<Item = &'a str>) -> Mistake {
+    let message = format!("no {what} is named {}", named(&name.word));
+    Mistake::new(name.at, message + &meant(&name.word, known))
+}
+
+/// A word about the known name that is nearest to a misspelt one, if one is near.
+pub fn meant<'a>(word: &str, known: impl Iterator<Item = &'a str>) -> String {
+    let near = known.filter_map(|other| distance(word, other).map(|far| (far, other)));
+    match near.min() {
+        Some((_, other)) => format!(": did you mean {}?", named(other)),
+        None => String::new(),
+    }
+}
+
+/// The longest word for which a near one is looked for.
+const LONGEST_MISSPELT: usize = 40;
+
+/// How many letters are to be put in, left out or exchanged to come from one word to another, if these
+/// are few.
+fn distance(word: &str, other: &str) -> Option<usize> {
+    let (word, other): (Vec<char>, Vec<char>) = (word.chars().collect(), other.chars().collect());
+    let most = 2.min(word.len().min(other.len()) / 2);
+    if word.len() > LONGEST_MISSPELT || word.len().abs_diff(other.len()) > most {
+        return None;
+    }
+    let mut row: Vec<usize> = (0..=other.len()).collect();
+    for (index, letter) in word.iter().enumerate() {
+        let mut diagonal = std::mem::replace(&mut row[0], index + 1);
+        for (place, found) in other.iter().enumerate() {
+            let exchanged = diagonal + usize::from(letter != found);
+            diagonal = row[place + 1];
+            row[place + 1] = exchanged.min(row[place] + 1).min(diagonal + 1);
+        }
+    }
+    Some(row[other.len()]).filter(|&far| far <= most)
+}
+
+#[cfg(test)]
+mod tests {
+    use super::*;
+
+    #[test]
+    fn near_names_are_offered() {
+        let known = ["title", "note", "episode"];
+        let offer = |word| meant(word, known.into_iter());
+        assert_eq!(offer("titel"), ": did you mean `title`?");
+        assert_eq!(offer("nots"), ": did you mean `note`?");
+        assert_eq!(offer("episodes"), ": did you mean `episode`?");
+        assert_eq!(offer("sound"), "");
+        assert_eq!(offer("x"), "");
+    }
+}

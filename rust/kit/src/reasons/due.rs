@@ -1,0 +1,238 @@
+//! What the declared type asks for at a record of the value, for a person who wants to mend it.
+//!
+//! The streams that are read have a sound layout here: types are judged only after it.
+
+use crate::reasons::characters::{characters_due, text_found};
+use crate::reasons::classes::{classes, Class};
+use crate::reasons::names::Names;
+use crate::reasons::types::{Shape, Types};
+use crate::reasons::values::down_to;
+use crate::streams::record::{Record, RECORD};
+use crate::words::{bare, counted, cut, listed};
+
+/// What is due at the record `place` of the value, a line for each part of it.
+pub fn due(
+    grammar: &[Record],
+    templates: &[Record],
+    value: &[Record],
+    names: &Names,
+    place: usize,
+) -> Vec<String> {
+    let types = Types::of(templates);
+    let found = declared(templates, &types)
+        .and_then(|declared| along(&types, names, value, declared, place))
+        .and_then(|(number, path)| Some((number, types.shape(number)?, path)));
+    let Some((number, shape, path)) = found else {
+        return Vec::new();
+    };
+    let own = names.type_of(number);
+    let mut said = vec![path];
+    match shape {
+        Shape::Text(class) => said.extend(text_due(grammar, names, class, value, place)),
+        Shape::YesNo => said.push(format!("{own} is due here: yes or no")),
+        Shape::List(item) => {
+            let item = names.type_of(item);
+            said.push(format!("{own} is due here: a list of {item}"));
+        }
+        Shape::Record(fields) => said.push(format!(
+            "{own} is due here: a record of {}{}",
+            counted(fields, "field", "fields"),
+            fields_named(names, number, fields)
+        )),
+    }
+    said
+}
+
+/// The declared type: that of template 0's one parameter.
+fn declared(templates: &[Record], types: &Types<'_>) -> Option<usize> {
+    let parameter = templates.get(types.end + 1)?;
+    Some(usize::from(parameter.b()))
+}
+
+/// The longest path that is shown.
+const WIDEST: usize = 200;
+
+/// The type that is due at a place, and the path to it from the whole value downwards: fields by name where
+/// they have one, and items by their numbers from 0.
+fn along(
+    types: &Types<'_>,
+    names: &Names,
+    value: &[Record],
+    declared: usize,
+    place: usize,
+) -> Option<(usize, String)> {
+    let (mut number, mut path) = (declared, String::new());
+    for (child, _) in down_to(value, place)? {
+        number = match types.shape(number)? {
+            Shape::List(item) => {
+                path.push_str(&format!("[{child}]"));
+                item
+            }
+            _ => {
+                let field = bare(&names.field(number, child));
+                let dot = if path.is_empty() { "" } else { "." };
+                path.push_str(&format!("{dot}{}", field.trim_matches('`')));
+                types.field(number, child)?
+            }
+        };
+    }
+    let said = match path.is_empty() {
+        true => "this is the whole value".to_string(),
+        false => format!("at `{}`", cut(&path, WIDEST)),
+    };
+    Some((number, said))
+}
+
+/// The names of a record's fields, where they are known.
+fn fields_named(names: &Names, number: usize, fields: usize) -> String {
+    match names.fields.get(number).is_some_and(|own| !own.is_empty()) {
+        true => {
+            let own = (0..fields).map(|field| bare(&names.field(number, field)));
+            format!(": {}", listed(&own.collect::<Vec<_>>()))
+        }
+        false => String::new(),
+    }
+}
+
+fn text_due(
+    grammar: &[Record],
+    names: &Names,
+    number: u16,
+    value: &[Record],
+    place: usize,
+) -> Vec<String> {
+    let Some(&Class::Plain { head, ranges }) = classes(grammar).get(usize::from(number)) else {
+        return Vec::new();
+    };
+    let text = value.get(place).filter(|text| text.kind() == 1);
+    let bytes = text.and_then(|text| text_bytes(value, place, usize::from(text.b())));
+    text_lines(&names.class(number), head, ranges, bytes.as_deref())
+}
+
+/// What a class asks of a text, and what stands there if it is a text.
+pub fn text_lines(
+    class: &str,
+    head: Record,
+    ranges: &[Record],
+    bytes: Option<&[u8]>,
+) -> Vec<String> {
+    let due = characters_due(head, ranges);
+    let mut found = vec![format!("a text of {class} is due here: {due}")];
+    found.extend(bytes.map(|bytes| text_found(bytes, ranges)));
+    found
+}
+
+/// The text behind a head.
+pub fn text_bytes(records: &[Record], place: usize, length: usize) -> Option<Vec<u8>> {
+    let units = records.get(place + 1..place + 1 + length.div_ceil(RECORD))?;
+    Some(units.iter().flat_map(|unit| unit.0).take(length).collect())
+}
+
+#[cfg(test)]
+mod tests {
+    use crate::reasons::explain::{explained_by_name, explained_with, remarks_of, words};
+    use crate::reasons::names::Names;
+
+    const SMALL: &str = r#"class c 1 to 4 { 'a'-'z' U+0370-U+03FF } production p of n =
+        type t = text c type f = yesno type l = list t type e = record { word: t }
+        type r = record { done: f, words: l, last: e } template a (x: r) of n = build p
+        value { done: yes words: ["ab" "cd"] last: { word: "ef" } }"#;
+
+    /// What `explain` adds for a value that is not of its type.
+    fn said(from: &str, to: &str) -> Vec<String> {
+        remarks_of(&explained_with(SMALL, from, to), 8)
+    }
+
+    const CLASS: &str =
+        "a text of class 0 is due here: 1 to 4 characters of U+0061-U+007A U+0370-U+03FF";
+
+    #[test]
+    fn a_text_that_is_no_lexeme() {
+        assert_eq!(
+            said("\"cd\"", "\"αβγδε\""),
+            ["at `1[1]`", CLASS, "this text has 5 characters"]
+        );
+        assert_eq!(
+            said("\"ef\"", "\"\""),
+            ["at `2.0`", CLASS, "this text has 0 characters"]
+        );
+        assert_eq!(
+            said("\"cd\"", "\"cD\"")[2],
+            "this text has 2 characters, and number 2, U+0044, is in no range"
+        );
+        assert_eq!(
+            said("\"cd\"", "\"\\xC0\\x80\"")[2],
+            "this text is no well-formed UTF-8"
+        );
+    }
+
+    #[test]
+    fn a_value_of_another_kind() {
+        assert_eq!(said("\"cd\"", "yes"), ["at `1[1]`", CLASS]);
+        assert_eq!(
+            said("done: yes", "done: []"),
+            ["at `0`", "type 1 is due here: yes or no"]
+        );
+        assert_eq!(
+            said("[\"ab\" \"cd\"]", "no"),
+            ["at `1`", "type 2 is due here: a list of type 0"]
+        );
+        assert_eq!(
+            said("{ word: \"ef\" }", "{}"),
+            ["at `2`", "type 3 is due here: a record of 1 field"]
+        );
+        assert_eq!(
+            said("value {", "value \"\" # "),
+            [
+                "this is the whole value",
+                "type 4 is due here: a record of 3 fields"
+            ]
+        );
+    }
+
+    /// What is said with names.
+    fn said_by_name(from: &str, to: &str) -> Vec<String> {
+        let names = Names {
+            classes: words("word"),
+            types: words("word flag words entry page"),
+            fields: ["", "", "", "word", "done words last"].map(words).to_vec(),
+            ..Names::default()
+        };
+        remarks_of(&explained_by_name(SMALL, from, to, &names), 8)
+    }
+
+    #[test]
+    fn what_is_due_by_name() {
+        assert_eq!(
+            said_by_name("\"cd\"", "\"\""),
+            [
+                "at `words[1]`",
+                "a text of class `word` is due here: 1 to 4 characters of U+0061-U+007A U+0370-U+03FF",
+                "this text has 0 characters"
+            ]
+        );
+        assert_eq!(said_by_name("\"ef\"", "no")[0], "at `last.word`");
+        assert_eq!(
+            said_by_name("[\"ab\" \"cd\"]", "no")[1],
+            "type `words` is due here: a list of type `word`"
+        );
+        assert_eq!(
+            said_by_name("value {", "value \"\" # ")[1],
+            "type `page` is due here: a record of 3 fields: `done`, `words`, `last`"
+        );
+    }
+
+    #[test]
+    fn items_of_the_whole_value_and_long_paths() {
+        let deep = r#"class c 1 to 4 { 'a'-'z' } production p of n = type t = list t
+            template a (x: t) of n = build p value VALUE"#;
+        let said = |value: &str| {
+            let text = crate::reasons::explain::explained_with(deep, "VALUE", value);
+            remarks_of(&text, 8)[0].clone()
+        };
+        assert_eq!(said("[[] [[] [] yes]]"), "at `[1][2]`");
+        let (open, close) = ("[".repeat(150), "]".repeat(150));
+        let cut = format!("at `{} ..`", &"[0]".repeat(150)[..200]);
+        assert_eq!(said(&format!("{open}yes{close}")), cut);
+    }
+}

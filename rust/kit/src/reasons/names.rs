@@ -1,0 +1,148 @@
+//! What the things of a set are called: by the names of its description where they are known, else by
+//! their numbers.
+
+use crate::assembly::sheet::{Origin, What};
+use crate::words::named;
+use std::collections::BTreeMap;
+
+/// The names of a set's things. What isn't known is called by its number.
+#[derive(Clone, Debug, Default, PartialEq, Eq)]
+pub struct Names {
+    /// The classes, by number.
+    pub classes: Vec<String>,
+    /// The productions, by number.
+    pub productions: Vec<String>,
+    /// The nonterminals, by number.
+    pub nonterminals: Vec<String>,
+    /// The types, by number.
+    pub types: Vec<String>,
+    /// The fields of each type, by number; of a type that is no record there are none.
+    pub fields: Vec<Vec<String>>,
+    /// The templates, by number.
+    pub templates: Vec<String>,
+    /// The variables, by the record of the parameter or of the for that brings them in.
+    pub variables: BTreeMap<usize, String>,
+    /// The paths as they are written, by their records.
+    pub paths: BTreeMap<usize, String>,
+}
+
+impl Names {
+    /// The names that a grammar and templates have by their maps. A nonterminal has the number in the
+    /// order of the first productions, as the assembler gives it.
+    pub fn of(grammar: &[Origin], templates: &[Origin]) -> Self {
+        let mut names = Self::default();
+        grammar.iter().for_each(|origin| names.of_grammar(origin));
+        for (index, origin) in templates.iter().enumerate() {
+            names.of_templates(origin, index);
+        }
+        names
+    }
+
+    /// Classes come before productions; behind these a class's name is that of an element.
+    fn of_grammar(&mut self, origin: &Origin) {
+        match origin.names.as_slice() {
+            [(What::Class, name)] if self.productions.is_empty() => self.classes.push(name.clone()),
+            [(What::Production, name), (What::Nonterminal, of)] => {
+                self.productions.push(name.clone());
+                if !self.nonterminals.contains(of) {
+                    self.nonterminals.push(of.clone());
+                }
+            }
+            _ => {}
+        }
+    }
+
+    fn of_templates(&mut self, origin: &Origin, index: usize) {
+        let [(what, name)] = origin.names.as_slice() else {
+            return;
+        };
+        let name = name.clone();
+        match what {
+            What::Type => {
+                self.types.push(name);
+                self.fields.push(Vec::new());
+            }
+            What::Field => self
+                .fields
+                .last_mut()
+                .into_iter()
+                .for_each(|it| it.push(name.clone())),
+            What::Template => self.templates.push(name),
+            What::Parameter | What::Loop => drop(self.variables.insert(index, name)),
+            What::Path => drop(self.paths.insert(index, name)),
+            What::Class | What::Production | What::Nonterminal => {}
+        }
+    }
+
+    /// A class.
+    pub fn class(&self, number: u16) -> String {
+        called(
+            "class",
+            usize::from(number),
+            self.classes.get(usize::from(number)),
+        )
+    }
+
+    /// A production.
+    pub fn production(&self, number: u16) -> String {
+        let name = self.productions.get(usize::from(number));
+        called("production", usize::from(number), name)
+    }
+
+    /// A nonterminal.
+    pub fn nonterminal(&self, number: u16) -> String {
+        called(
+            "nonterminal",
+            usize::from(number),
+            self.nonterminals.get(usize::from(number)),
+        )
+    }
+
+    /// A type.
+    pub fn type_of(&self, number: usize) -> String {
+        called("type", number, self.types.get(number))
+    }
+
+    /// A field of a type.
+    pub fn field(&self, of: usize, number: usize) -> String {
+        let name = self.fields.get(of).and_then(|fields| fields.get(number));
+        called("field", number, name)
+    }
+
+    /// A template.
+    pub fn template(&self, number: usize) -> String {
+        called("template", number, self.templates.get(number))
+    }
+
+    /// A variable, whose parameter or for is at a record of the templates.
+    pub fn variable(&self, number: usize, binder: usize) -> String {
+        called("variable", number, self.variables.get(&binder))
+    }
+}
+
+/// ``class `title` ``, or `class 3` where the name isn't known.
+fn called(what: &str, number: usize, name: Option<&String>) -> String {
+    match name {
+        Some(name) => format!("{what} {}", named(name)),
+        None => format!("{what} {number}"),
+    }
+}
+
+#[cfg(test)]
+mod tests {
+    use super::*;
+
+    #[test]
+    fn names_where_they_are_known() {
+        let names = Names {
+            classes: vec!["title".to_string()],
+            fields: vec![Vec::new(), vec!["start".to_string()]],
+            ..Names::default()
+        };
+        assert_eq!(names.class(0), "class `title`");
+        assert_eq!(names.class(1), "class 1");
+        assert_eq!(names.field(1, 0), "field `start`");
+        assert_eq!(names.field(0, 0), "field 0");
+        assert_eq!(names.variable(2, 7), "variable 2");
+    }
+}
