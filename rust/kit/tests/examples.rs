@@ -1,5 +1,7 @@
 //! The examples: their descriptions give their streams, and their streams their texts.
 
+use kit::assembly::assemble::{end_of, Assembled};
+use kit::assembly::map::Map;
 use kit::language::description::{ClassForm, Value, ValueForm};
 use kit::language::parser::parse;
 use kit::reasons::characters::is_admitted;
@@ -156,6 +158,18 @@ fn the_papers_text() {
 #[test]
 fn the_podcast_description_gives_its_streams() {
     assert_eq!(assembled("podcast"), streams("podcast"));
+}
+
+/// `explain` and `dump` of an example go by its map.
+#[test]
+fn the_examples_have_their_maps() {
+    for example in ["harbour", "podcast"] {
+        let map = Map::read(&read(&format!("examples/{example}/map.json"))).expect("a map");
+        assert_eq!(map.description, "feed.txt");
+        let tree = parse(&description(example)).expect("a tree");
+        let set = Assembled::of(&tree, end_of(&description(example))).expect("streams");
+        assert_eq!(map, Map::of("feed.txt", &set));
+    }
 }
 
 #[test]
