@@ -138,7 +138,11 @@ impl<'a> Reader<'a> {
             .iter()
             .filter(|(key, _)| !known.contains(key.word.as_str()))
         {
-            let near = meant(&key.word, fields.iter().map(|it| it.name.word.as_str()));
+            let near = meant(
+                &key.word,
+                fields.iter().map(|it| it.name.word.as_str()),
+                self.mistakes.len(),
+            );
             let outside = self.path.field(&key.word);
             let message = format!(
                 "{}: this key is surplus: type {} has no such field{near}",

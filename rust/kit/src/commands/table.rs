@@ -205,7 +205,7 @@ pub(super) fn run(words: &[OsString]) -> Step<Done> {
         _ => {}
     }
     let Some(command) = COMMANDS.iter().find(|command| command.name == name) else {
-        let near = meant(&name, COMMANDS.iter().map(|command| command.name));
+        let near = meant(&name, COMMANDS.iter().map(|command| command.name), 0);
         let message = format!("there is no command {}{near}", named(&name));
         return Err(unknown(&message));
     };

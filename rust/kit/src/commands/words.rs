@@ -86,7 +86,7 @@ impl Words {
             return Ok(());
         }
         if !command.options().contains(&option) {
-            let near = meant(option, command.options().iter().copied());
+            let near = meant(option, command.options().iter().copied(), 0);
             let message = format!("there is no option {}{near}", named(option));
             return Err(bad_use(command, &message));
         }

@@ -126,19 +126,33 @@ fn nonterminals<'a>(
 /// The number that a name stands for; a name that stands for nothing is a mistake.
 pub fn numbered(row: &Row<'_>, name: &Name, what: &str, mistakes: &mut Vec<Mistake>) -> u16 {
     row.get(name.word.as_str()).copied().unwrap_or_else(|| {
-        mistakes.push(unknown(what, name, row.keys().copied()));
+        mistakes.push(unknown(what, name, row.keys().copied(), mistakes.len()));
         0
     })
 }
 
-/// The mistake of a name that stands for nothing, with the name that may be meant.
-pub fn unknown<'a>(what: &str, name: &Name, known: impl Iterator<Item = &'a str>) -> Mistake {
+/// The mistake of a name that stands for nothing, with the name that may be meant; so many mistakes were
+/// met before it.
+pub fn unknown<'a>(
+    what: &str,
+    name: &Name,
+    known: impl Iterator<Item = &'a str>,
+    before: usize,
+) -> Mistake {
     let message = format!("no {what} is named {}", named(&name.word));
-    Mistake::new(name.at, message + &meant(&name.word, known))
+    Mistake::new(name.at, message + &meant(&name.word, known, before))
 }
 
-/// A word about the known name that is nearest to a misspelt one, if one is near.
-pub fn meant<'a>(word: &str, known: impl Iterator<Item = &'a str>) -> String {
+/// How many mistakes are told with a near name. Not all of more are shown, and looking for names takes
+/// its time where there are thousands.
+const MOST_OFFERED: usize = 50;
+
+/// A word about the known name that is nearest to a misspelt one, if one is near; so many mistakes were
+/// met before.
+pub fn meant<'a>(word: &str, known: impl Iterator<Item = &'a str>, before: usize) -> String {
+    if before >= MOST_OFFERED {
+        return String::new();
+    }
     let near = known.filter_map(|other| distance(word, other).map(|far| (far, other)));
     match near.min() {
         Some((_, other)) => format!(": did you mean {}?", named(other)),
@@ -176,11 +190,12 @@ mod tests {
     #[test]
     fn near_names_are_offered() {
         let known = ["title", "note", "episode"];
-        let offer = |word| meant(word, known.into_iter());
+        let offer = |word| meant(word, known.into_iter(), 0);
         assert_eq!(offer("titel"), ": did you mean `title`?");
         assert_eq!(offer("nots"), ": did you mean `note`?");
         assert_eq!(offer("episodes"), ": did you mean `episode`?");
         assert_eq!(offer("sound"), "");
         assert_eq!(offer("x"), "");
+        assert_eq!(meant("titel", known.into_iter(), MOST_OFFERED), "");
     }
 }

@@ -91,7 +91,7 @@ impl Assembler<'_> {
             (None, Some(&nonterminal)) => (2, nonterminal, What::Nonterminal),
             (None, None) => {
                 let known = classes.keys().chain(nonterminals.keys()).copied();
-                let mistake = unknown("class or nonterminal", name, known);
+                let mistake = unknown("class or nonterminal", name, known, self.mistakes.len());
                 return self.mistakes.push(mistake);
             }
         };

@@ -46,7 +46,11 @@ impl Assembler<'_> {
             By::Name(word) => match variables.iter().rposition(|(name, _)| name == word) {
                 Some(number) => number,
                 None => {
-                    let near = meant(word, variables.iter().map(|(name, _)| name.as_str()));
+                    let near = meant(
+                        word,
+                        variables.iter().map(|(name, _)| name.as_str()),
+                        self.mistakes.len(),
+                    );
                     let message = format!("no variable is named {} here{near}", named(word));
                     self.mistake(step.at, message);
                     return (0, None);
@@ -68,7 +72,11 @@ impl Assembler<'_> {
             By::Name(word) => match fields.iter().position(|field| field.name.word == *word) {
                 Some(number) => number,
                 None => {
-                    let near = meant(word, fields.iter().map(|field| field.name.word.as_str()));
+                    let near = meant(
+                        word,
+                        fields.iter().map(|field| field.name.word.as_str()),
+                        self.mistakes.len(),
+                    );
                     self.no_field(word, step, known, &near);
                     return (0, None);
                 }
