@@ -1,7 +1,7 @@
 //! The lists of a value, and how much of its stream each takes.
 
 use crate::assembly::path::DataPath;
-use crate::assembly::sheet::Sheet;
+use crate::assembly::sheet::{word, Sheet};
 use crate::language::description::{Description, TypeForm};
 use crate::language::rows::Rows;
 use crate::streams::record::Record;
@@ -15,6 +15,25 @@ pub struct List {
     pub items: usize,
     /// How many records these take.
     pub records: usize,
+    /// The records of the list's head and of the heads around it, from outside in.
+    heads: Vec<usize>,
+}
+
+impl List {
+    /// The records of the value without this list's items.
+    pub fn emptied(&self, records: &[Record]) -> Vec<Record> {
+        let mut left = records.to_vec();
+        let Some(&head) = self.heads.last() else {
+            return left;
+        };
+        for &around in &self.heads {
+            let size = usize::from(left[around].c()).saturating_sub(self.records);
+            left[around].0[4..6].copy_from_slice(&word(size).to_le_bytes());
+        }
+        left[head].0[6..].fill(0);
+        left.drain(head + 1..head + 1 + self.records);
+        left
+    }
 }
 
 /// The lists of a value of the declared type that stand in no other list.
@@ -24,6 +43,7 @@ pub fn lists(tree: &Description, value: &Sheet) -> Vec<List> {
         rows: &rows,
         records: &value.records,
         path: DataPath::default(),
+        heads: Vec::new(),
         found: Vec::new(),
     };
     reader.value(0, rows.declared(tree));
@@ -34,6 +54,7 @@ struct Reader<'a> {
     rows: &'a Rows<'a>,
     records: &'a [Record],
     path: DataPath,
+    heads: Vec<usize>,
     found: Vec<List>,
 }
 
@@ -43,11 +64,13 @@ impl Reader<'_> {
         let Some(&head) = self.records.get(at) else {
             return;
         };
+        self.heads.push(at);
         match (self.rows.form(of), head.kind()) {
             (Some(TypeForm::List(_)), 3) => self.found.push(List {
                 path: self.path.to_string(),
                 items: usize::from(head.d()),
                 records: usize::from(head.c()).saturating_sub(1),
+                heads: self.heads.clone(),
             }),
             (Some(TypeForm::Record(fields)), 4) => {
                 let mut child = at + 1;
@@ -60,6 +83,7 @@ impl Reader<'_> {
             }
             _ => {}
         }
+        self.heads.pop();
     }
 
     /// The records of a value; a yes/no has no size field.
@@ -68,5 +92,46 @@ impl Reader<'_> {
             Some(head) if head.kind() != 2 => usize::from(head.c()).max(1),
             _ => 1,
         }
+    }
+}
+
+#[cfg(test)]
+mod tests {
+    use super::*;
+    use crate::assembly::assemble::{end_of, Assembled};
+    use crate::language::parser::parse;
+
+    fn value(text: &str) -> (Description, Sheet) {
+        let description = format!(
+            "class c 0 to 9 {{ 'a'-'z' }} production p of n = type t = text c type l = list t
+             type f = yesno type i = record {{ words: l }} type r = record {{ one: t inner: i flag: f many: l }}
+             template a (r: r) of n = build p value {text}"
+        );
+        let tree = parse(&description).expect("a tree");
+        let set = Assembled::of(&tree, end_of(&description)).expect("streams");
+        (tree, set.value.expect("a value").sheet)
+    }
+
+    const FULL: &str = r#"{ "x" { ["ab" "cd"] } yes ["abcdefghi"] }"#;
+
+    #[test]
+    fn lists_with_their_paths() {
+        let (tree, sheet) = value(FULL);
+        let found: Vec<(String, usize, usize)> = lists(&tree, &sheet)
+            .into_iter()
+            .map(|list| (list.path, list.items, list.records))
+            .collect();
+        let list = |path: &str, items, records| (path.to_string(), items, records);
+        assert_eq!(found, [list("`inner.words`", 2, 4), list("`many`", 1, 3)]);
+    }
+
+    #[test]
+    fn a_list_without_its_items() {
+        let (tree, sheet) = value(FULL);
+        let found = lists(&tree, &sheet);
+        let (_, without) = value(r#"{ "x" { [] } yes ["abcdefghi"] }"#);
+        assert_eq!(found[0].emptied(&sheet.records), without.records);
+        let (_, without) = value(r#"{ "x" { ["ab" "cd"] } yes [] }"#);
+        assert_eq!(found[1].emptied(&sheet.records), without.records);
     }
 }

@@ -65,8 +65,9 @@ DATA.json, for the value that the description has. What is refused is shown as b
         summary: "say how full each stream is, and how many more items fit",
         page: "\
 A stream holds 8,064 records in 128 blocks. Says how many the grammar, the templates and the
-value take, the steps and bytes of the text, and for each list of the data how many items more,
-of the size of those it has, would fit.
+value take, and the steps and bytes of the text. For each list of the data that stands in no
+other it says how many items more would fit, if they are like those that it has, and what is
+full then: the value stream, the output or the fuel.
 ",
         run: size::run,
     },

@@ -2,6 +2,7 @@
 
 use crate::mistake::{Mistake, Position};
 use crate::words::named;
+use std::collections::HashSet;
 use std::iter::Peekable;
 use std::str::Chars;
 
@@ -36,10 +37,22 @@ impl Token {
     }
 }
 
+/// What is read of a description.
+#[derive(Debug)]
+pub struct Tokens {
+    /// The tokens.
+    pub found: Vec<(Token, Position)>,
+    /// The mistakes in them.
+    pub mistakes: Vec<Mistake>,
+    /// The lines in which a word follows a text's closing quote at once. That is allowed, but where such
+    /// a line has a mistake, the quote was most likely meant to stand in the text.
+    pub tight: HashSet<usize>,
+}
+
 /// All tokens of a description, each with its place, and the mistakes in them; the last token is
 /// [`Token::End`]. Where a token has a mistake, another of its kind stands for it, so that the parser can
 /// go on.
-pub fn tokens(description: &str) -> (Vec<(Token, Position)>, Vec<Mistake>) {
+pub fn tokens(description: &str) -> Tokens {
     let mut lexer = Lexer::new(description);
     let mut found = Vec::new();
     lexer.skip_mark();
@@ -52,7 +65,11 @@ pub fn tokens(description: &str) -> (Vec<(Token, Position)>, Vec<Mistake>) {
         let last = token == Token::End;
         found.push((token, at));
         if last {
-            return (found, lexer.mistakes);
+            return Tokens {
+                found,
+                mistakes: lexer.mistakes,
+                tight: lexer.tight,
+            };
         }
     }
 }
@@ -64,6 +81,7 @@ struct Lexer<'a> {
     rest: Peekable<Chars<'a>>,
     at: Position,
     mistakes: Vec<Mistake>,
+    tight: HashSet<usize>,
 }
 
 impl<'a> Lexer<'a> {
@@ -72,6 +90,7 @@ impl<'a> Lexer<'a> {
             rest: description.chars().peekable(),
             at: Position { line: 1, column: 1 },
             mistakes: Vec::new(),
+            tight: HashSet::new(),
         }
     }
 
@@ -229,12 +248,22 @@ impl<'a> Lexer<'a> {
                     return Token::Text(bytes);
                 }
                 _ => match self.next() {
-                    Some('"') => return Token::Text(bytes),
+                    Some('"') => {
+                        self.closed();
+                        return Token::Text(bytes);
+                    }
                     Some('\\') => self.escape(at, &mut bytes),
                     Some(c) => push(&mut bytes, c),
                     None => {}
                 },
             }
+        }
+    }
+
+    /// Takes down the line if a word follows a text at once.
+    fn closed(&mut self) {
+        if self.peek().is_some_and(char::is_alphanumeric) {
+            self.tight.insert(self.at.line);
         }
     }
 

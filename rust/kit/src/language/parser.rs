@@ -1,13 +1,11 @@
 //! Reads a description into its tree.
 
+mod grammar;
 mod nodes;
 mod values;
 
-use crate::language::description::{
-    Class, ClassForm, Description, Element, Field, Name, Production, Range, Template, Text, Type,
-    TypeForm,
-};
-use crate::language::lexer::{tokens, Token};
+use crate::language::description::{Description, Field, Name, Template, Text, Type, TypeForm};
+use crate::language::lexer::{tokens, Token, Tokens};
 use crate::mistake::{Mistake, Position};
 
 /// The words that begin a part of a description, and so are no names.
@@ -15,6 +13,9 @@ const PARTS: [&str; 5] = ["class", "production", "type", "template", "value"];
 
 /// How deep nodes and values may nest in a description: past the 200 that the machine takes.
 const DEEPEST: usize = 300;
+
+/// What helps where the quotes of an attribute end a text.
+const QUOTE: &str = r#"a " inside a text is written \""#;
 
 type Parsed<T> = Result<T, Mistake>;
 
@@ -24,7 +25,11 @@ type Parsed<T> = Result<T, Mistake>;
 /// The mistakes in its form, one for each part that has any, and those in its words; names are not
 /// looked up here.
 pub fn parse(description: &str) -> Result<Description, Vec<Mistake>> {
-    let (tokens, mut mistakes) = tokens(description);
+    let Tokens {
+        found: tokens,
+        mut mistakes,
+        tight,
+    } = tokens(description);
     let mut parser = Parser {
         tokens,
         next: 0,
@@ -36,6 +41,11 @@ pub fn parse(description: &str) -> Result<Description, Vec<Mistake>> {
             mistakes.push(mistake);
             parser.depth = 0;
             parser.skip_to_part();
+        }
+    }
+    for mistake in &mut mistakes {
+        if tight.contains(&mistake.at.line) {
+            mistake.remarks.push(QUOTE.to_string());
         }
     }
     match mistakes.is_empty() {
@@ -228,101 +238,6 @@ impl Parser {
             token => return Err(no_part(at, &token)),
         }
         Ok(())
-    }
-
-    /// `class NAME LEAST to MOST { RANGE.. }` or `class NAME = escaped CLASS`
-    fn class(&mut self) -> Parsed<Class> {
-        let name = self.name("the class's name")?;
-        let form = match self.accept_sign('=') {
-            true => {
-                self.word("escaped")?;
-                ClassForm::Escaped(self.name("the class that is escaped")?)
-            }
-            false => self.plain_class()?,
-        };
-        Ok(Class { name, form })
-    }
-
-    fn plain_class(&mut self) -> Parsed<ClassForm> {
-        let least = self.count("the least number of characters")?;
-        self.word("to")?;
-        let most = self.count("the most characters")?;
-        let ranges = self.bracketed(['{', '}'], Self::range)?;
-        Ok(ClassForm::Plain {
-            least,
-            most,
-            ranges,
-        })
-    }
-
-    /// `POINT` or `POINT-POINT`
-    fn range(&mut self) -> Parsed<Range> {
-        let at = self.at();
-        let lowest = self.point()?;
-        let highest = if self.accept_sign('-') {
-            self.point()?
-        } else {
-            lowest
-        };
-        Ok(Range {
-            at,
-            lowest,
-            highest,
-        })
-    }
-
-    fn point(&mut self) -> Parsed<u32> {
-        match *self.peek() {
-            Token::Point(point) => {
-                self.take();
-                Ok(point)
-            }
-            _ => self.expected("a code point, as U+0061 or 'a',"),
-        }
-    }
-
-    /// `production NAME of NONTERMINAL = ELEMENT..`
-    fn production(&mut self) -> Parsed<Production> {
-        let name = self.name("the production's name")?;
-        self.word("of")?;
-        let nonterminal = self.name("the production's nonterminal")?;
-        self.sign('=')?;
-        let mut elements = Vec::new();
-        while let Some(element) = self.element()? {
-            elements.push(element);
-        }
-        Ok(Production {
-            name,
-            nonterminal,
-            elements,
-        })
-    }
-
-    /// An element, unless the production ends here.
-    fn element(&mut self) -> Parsed<Option<Element>> {
-        match self.peek() {
-            Token::End => Ok(None),
-            Token::Word(word) if PARTS.contains(&word.as_str()) => Ok(None),
-            Token::Text(_) => Ok(Some(Element::Keyword(self.text()?))),
-            _ => {
-                let name = self.name("a keyword, a class or a nonterminal")?;
-                Ok(Some(if self.accept_sign('*') {
-                    Element::Many(name, self.separator()?)
-                } else {
-                    Element::One(name)
-                }))
-            }
-        }
-    }
-
-    /// `("text")` after a repetition, if it has a separator.
-    fn separator(&mut self) -> Parsed<Option<Text>> {
-        if !self.accept_sign('(') {
-            return Ok(None);
-        }
-        let text = self.text()?;
-        self.sign(')')?;
-        Ok(Some(text))
     }
 
     /// `type NAME = FORM`

@@ -164,10 +164,10 @@ pub fn meant<'a>(word: &str, known: impl Iterator<Item = &'a str>, before: usize
 const LONGEST_MISSPELT: usize = 40;
 
 /// How many letters are to be put in, left out or exchanged to come from one word to another, if these
-/// are few.
+/// are few: two of five or more, one of a shorter word.
 fn distance(word: &str, other: &str) -> Option<usize> {
     let (word, other): (Vec<char>, Vec<char>) = (word.chars().collect(), other.chars().collect());
-    let most = 2.min(word.len().min(other.len()) / 2);
+    let most = 2.min((word.len().min(other.len()) + 1) / 3);
     if word.len() > LONGEST_MISSPELT || word.len().abs_diff(other.len()) > most {
         return None;
     }
@@ -195,6 +195,7 @@ mod tests {
         assert_eq!(offer("nots"), ": did you mean `note`?");
         assert_eq!(offer("episodes"), ": did you mean `episode`?");
         assert_eq!(offer("sound"), "");
+        assert_eq!(offer("date"), "");
         assert_eq!(offer("x"), "");
         assert_eq!(meant("titel", known.into_iter(), MOST_OFFERED), "");
     }

@@ -103,8 +103,8 @@ fn names_must_be_there() {
         "no production is named `al`: did you mean `all`?"
     );
     assert_eq!(
-        mistake("expand tail", "expand tale"),
-        "no template is named `tale`: did you mean `tail`?"
+        mistake("expand tail", "expand tall"),
+        "no template is named `tall`: did you mean `tail`?"
     );
     assert_eq!(
         mistake("place p.title", "place q.title"),

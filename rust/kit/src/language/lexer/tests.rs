@@ -1,13 +1,15 @@
 use super::*;
 
 fn kinds(description: &str) -> Vec<Token> {
-    let (found, mistakes) = tokens(description);
+    let Tokens {
+        found, mistakes, ..
+    } = tokens(description);
     assert_eq!(mistakes, []);
     found.into_iter().map(|(token, _)| token).collect()
 }
 
 fn mistake(description: &str) -> (usize, usize) {
-    let at = tokens(description).1[0].at;
+    let at = tokens(description).mistakes[0].at;
     (at.line, at.column)
 }
 
@@ -68,13 +70,15 @@ fn a_mistake_has_its_line_and_column() {
 }
 
 fn mistakes(description: &str) -> Vec<String> {
-    let (_, mistakes) = tokens(description);
+    let mistakes = tokens(description).mistakes;
     mistakes.iter().map(ToString::to_string).collect()
 }
 
 #[test]
 fn the_tokens_behind_a_mistake_are_read() {
-    let (found, mistakes) = tokens("a ; \"b\\q\\xZ\" 'xy' \"c\nU+ d");
+    let Tokens {
+        found, mistakes, ..
+    } = tokens("a ; \"b\\q\\xZ\" 'xy' \"c\nU+ d");
     let kinds: Vec<Token> = found.into_iter().map(|(token, _)| token).collect();
     let word = |w: &str| Token::Word(w.to_string());
     assert_eq!(

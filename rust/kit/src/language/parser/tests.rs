@@ -1,5 +1,5 @@
 use super::*;
-use crate::language::description::{NodeForm, Value, ValueForm};
+use crate::language::description::{Element, NodeForm, Value, ValueForm};
 
 fn mistake(description: &str) -> String {
     parse(description).expect_err("a mistake")[0].to_string()
@@ -147,4 +147,16 @@ fn an_unclosed_bracket_names_its_opener() {
         mistakes("value { a: [ yes\n}"),
         ["line 2, column 1: the `[` at line 1, column 12 is closed by `]`, not by `}`"]
     );
+}
+
+#[test]
+fn a_quote_inside_a_text_is_told_how_to_write() {
+    let description = r#"production p of n = "<?xml version="1.0"?>" c"#;
+    let mistakes = parse(description).expect_err("mistakes");
+    assert_eq!(
+        mistakes[0].to_string(),
+        "line 1, column 37: a keyword, a class or a nonterminal is expected here, not the number 1"
+    );
+    assert_eq!(mistakes[0].remarks, [r#"a " inside a text is written \""#]);
+    assert!(parse(r#"production p of n = "<"c">" "x" d"#).is_ok());
 }
