@@ -1,6 +1,7 @@
 //! The commands of the kit: what each is given, what it prints, and its exit status.
 
 mod assemble;
+mod beside;
 mod check;
 mod dump;
 mod explain;

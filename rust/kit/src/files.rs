@@ -1,5 +1,6 @@
 //! Files, read with a bound and written whole or not at all.
 
+use crate::words::file_called;
 use std::ffi::OsString;
 use std::fs::{self, File, OpenOptions};
 use std::io::{self, ErrorKind, Read, Write};
@@ -24,7 +25,7 @@ pub fn read(file: &Path, most: usize) -> FileResult<Vec<u8>> {
     match bytes.len() > most {
         true => Err(format!(
             "{}: this file has over {most} bytes, and no more are read",
-            file.display()
+            file_called(file)
         )),
         false => Ok(bytes),
     }
@@ -45,17 +46,35 @@ pub fn start(file: &Path, most: usize) -> FileResult<Vec<u8>> {
 }
 
 fn unreadable(file: &Path, error: &io::Error) -> String {
-    let name = file.display();
+    let name = file_called(file);
     match error.kind() {
         ErrorKind::NotFound => format!("{name}: there is no such file"),
-        ErrorKind::IsADirectory => format!("{name}: this is a folder, and a file is expected"),
+        ErrorKind::IsADirectory => format!("{name}: {A_FOLDER}"),
         ErrorKind::PermissionDenied => format!("{name}: this file may not be read"),
         _ => format!("{name}: this file can't be read: {error}"),
     }
 }
 
+const A_FOLDER: &str = "this is a folder, and a file is expected";
+
 fn unwritable(file: &Path, error: &io::Error) -> String {
-    format!("{}: this can't be written: {error}", file.display())
+    let name = file_called(file);
+    let above = file.parent().filter(|it| !it.as_os_str().is_empty());
+    let why = match above.is_some_and(|folder| !folder.exists()) {
+        true => "there is no such folder".to_string(),
+        false => cause(error),
+    };
+    format!("{name}: this can't be written: {why}")
+}
+
+/// Why something can't be written: in plain words where that happens to people, else in the system's.
+pub fn cause(error: &io::Error) -> String {
+    match error.kind() {
+        ErrorKind::NotADirectory => "a part of its path is no folder".to_string(),
+        ErrorKind::PermissionDenied => "that is not permitted".to_string(),
+        ErrorKind::StorageFull => "there is no space left".to_string(),
+        _ => error.to_string(),
+    }
 }
 
 /// Makes a folder, unless it is there.
@@ -63,7 +82,21 @@ fn unwritable(file: &Path, error: &io::Error) -> String {
 /// # Errors
 /// It can't be made.
 pub fn folder(folder: &Path) -> FileResult<()> {
-    fs::create_dir_all(folder).map_err(|error| unwritable(folder, &error))
+    fs::create_dir_all(folder).map_err(|error| match error.kind() {
+        ErrorKind::AlreadyExists => {
+            let name = file_called(folder);
+            format!("{name}: this is a file, and a folder is expected")
+        }
+        _ => unwritable(folder, &error),
+    })
+}
+
+/// Whether two names are names of one file that is there.
+pub fn are_one(file: &Path, other: &Path) -> bool {
+    match (fs::canonicalize(file), fs::canonicalize(other)) {
+        (Ok(file), Ok(other)) => file == other,
+        _ => false,
+    }
 }
 
 /// Writes files, all of them or none: each is written beside its place first, and they take their
@@ -87,30 +120,48 @@ fn is_device(file: &Path) -> bool {
     fs::metadata(file).is_ok_and(|found| !found.is_file() && !found.is_dir())
 }
 
+/// A file that is written beside its place.
+struct Beside {
+    file: PathBuf,
+    place: PathBuf,
+    beside: PathBuf,
+}
+
 /// Files that are written beside their places. What didn't take its place is removed.
 #[derive(Default)]
 struct Waiting {
-    files: Vec<(PathBuf, PathBuf)>,
+    files: Vec<Beside>,
 }
 
 impl Waiting {
     fn put(&mut self, file: &Path, bytes: &[u8]) -> FileResult<()> {
-        // Through a link the file that it names is written.
-        let place = fs::canonicalize(file).unwrap_or_else(|_| file.to_path_buf());
+        let place = place(file);
+        // Told before any file takes its place: a folder would stand in the way of one of them.
+        if place.is_dir() {
+            return Err(format!("{}: {A_FOLDER}", file_called(file)));
+        }
         let beside = beside(&place);
         let opened = OpenOptions::new()
             .write(true)
             .create_new(true)
             .open(&beside);
         let mut opened = opened.map_err(|error| unwritable(file, &error))?;
-        self.files.push((beside, place));
+        let file = file.to_path_buf();
+        let waiting = Beside {
+            file,
+            place,
+            beside,
+        };
         let written = opened.write_all(bytes).and_then(|()| opened.sync_all());
-        written.map_err(|error| unwritable(file, &error))
+        let done = written.map_err(|error| unwritable(&waiting.file, &error));
+        self.files.push(waiting);
+        done
     }
 
     fn take_places(mut self) -> FileResult<()> {
-        while let Some((beside, place)) = self.files.first() {
-            fs::rename(beside, place).map_err(|error| unwritable(place, &error))?;
+        while let Some(first) = self.files.first() {
+            let taken = fs::rename(&first.beside, &first.place);
+            taken.map_err(|error| unwritable(&first.file, &error))?;
             self.files.remove(0);
         }
         Ok(())
@@ -119,10 +170,21 @@ impl Waiting {
 
 impl Drop for Waiting {
     fn drop(&mut self) {
-        for (beside, _) in &self.files {
-            let _ = fs::remove_file(beside);
+        for waiting in &self.files {
+            let _ = fs::remove_file(&waiting.beside);
         }
     }
+}
+
+/// Where a file's bytes come to stand: through a link it is the file that the link names, also if that
+/// isn't there yet.
+fn place(file: &Path) -> PathBuf {
+    let named = || {
+        let target = fs::read_link(file)?;
+        Ok(file.with_file_name(target))
+    };
+    let found = fs::canonicalize(file).or_else(|_: io::Error| named());
+    found.unwrap_or_else(|_: io::Error| file.to_path_buf())
 }
 
 /// A name in the same folder that no other process takes.

@@ -13,7 +13,8 @@ fn main() -> ExitCode {
     let printed = print(io::stdout(), &done.out);
     if let Err(error) = &printed {
         // If this can't be written either, the status still tells.
-        let _ = writeln!(io::stderr(), "kit: the output can't be written: {error}");
+        let why = kit::files::cause(error);
+        let _ = writeln!(io::stderr(), "kit: the output can't be written: {why}");
     }
     match (said, printed) {
         (Ok(()), Ok(())) => ExitCode::from(done.status),

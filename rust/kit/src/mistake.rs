@@ -1,7 +1,8 @@
 //! What is wrong with a text that somebody wrote, shown with its line, as a compiler does.
 
-use crate::words::{line_around, visible};
+use crate::words::{file_called, line_around};
 use std::fmt;
+use std::path::Path;
 
 /// A place in a text; lines and columns count from 1, columns in characters.
 #[derive(Clone, Copy, Debug, PartialEq, Eq, PartialOrd, Ord)]
@@ -55,9 +56,6 @@ impl std::error::Error for Mistake {}
 /// The most mistakes that are shown at once.
 const MOST_SHOWN: usize = 20;
 
-/// The most characters of a file's name that are shown.
-const WIDEST_NAME: usize = 200;
-
 /// A text with the name of its file, for showing what is wrong with it.
 pub struct Source<'a> {
     name: String,
@@ -67,7 +65,7 @@ pub struct Source<'a> {
 impl<'a> Source<'a> {
     /// A text and the name of its file.
     pub fn new(name: &str, text: &'a str) -> Self {
-        let name = name.chars().take(WIDEST_NAME).map(visible).collect();
+        let name = file_called(Path::new(name));
         Self { name, text }
     }
 
@@ -96,10 +94,13 @@ impl<'a> Source<'a> {
     fn with_line(&self, mistake: &Mistake, line: &str) -> String {
         let Position { line: row, column } = mistake.at;
         let (excerpt, before) = line_around(line, column - 1);
+        let shown = format!("    {excerpt}");
         let mark = " ".repeat(before);
         let mut text = format!(
-            "{}:{row}:{column}: {}\n    {excerpt}\n    {mark}^\n",
-            self.name, mistake.message
+            "{}:{row}:{column}: {}\n{}\n    {mark}^\n",
+            self.name,
+            mistake.message,
+            shown.trim_end()
         );
         for remark in &mistake.remarks {
             text.push_str(&format!("  = {remark}\n"));

@@ -1,5 +1,7 @@
 //! How texts and counts are written for a person.
 
+use std::path::Path;
+
 /// A count and what it counts, in the singular or the plural.
 pub fn counted(count: usize, one: &str, many: &str) -> String {
     format!("{count} {}", if count == 1 { one } else { many })
@@ -66,25 +68,61 @@ pub fn named(word: &str) -> String {
 /// The most characters of a name that a message shows.
 const WIDEST_WORD: usize = 60;
 
-/// How many characters of a line are shown before and after a place in it.
+/// A line of so many characters is shown whole.
+const WHOLE: usize = 120;
+
+/// How many characters of a longer line are shown before and after a place in it.
 const BEFORE: usize = 60;
 const AFTER: usize = 40;
 
-/// The part of a line around its character number `place` (from 0), as it is shown, and how many
-/// characters of what is shown stand before that character.
+/// A line as it is shown, or the part of a long one around its character number `place` (from 0), and
+/// how many columns of a screen what is shown takes before that character.
 pub fn line_around(line: &str, place: usize) -> (String, usize) {
     let line = line.strip_suffix('\r').unwrap_or(line);
-    let first = place.saturating_sub(BEFORE);
+    let (first, after) = match line.chars().nth(WHOLE) {
+        None => (0, WHOLE),
+        Some(_) => (place.saturating_sub(BEFORE), AFTER),
+    };
     let mut shown = String::from(if first > 0 { ".. " } else { "" });
     let mut rest = line.chars().skip(first);
     let before: String = rest.by_ref().take(place - first).map(visible).collect();
     shown.push_str(&before);
-    let width = shown.chars().count();
-    shown.extend(rest.by_ref().take(AFTER).map(visible));
+    let width = shown.chars().map(columns).sum();
+    shown.extend(rest.by_ref().take(after).map(visible));
     if rest.next().is_some() {
         shown.push_str(" ..");
     }
     (shown, width)
+}
+
+/// The columns of a screen that a character takes which can be seen: two for emoji and for what East
+/// Asian scripts write, so that a mark stands below what it marks.
+fn columns(character: char) -> usize {
+    let is_wide = matches!(
+        character,
+        '\u{1100}'..='\u{115F}'
+            | '\u{2E80}'..='\u{303E}'
+            | '\u{3041}'..='\u{A4CF}'
+            | '\u{AC00}'..='\u{D7A3}'
+            | '\u{F900}'..='\u{FAFF}'
+            | '\u{FE30}'..='\u{FE6F}'
+            | '\u{FF00}'..='\u{FF60}'
+            | '\u{FFE0}'..='\u{FFE6}'
+            | '\u{1F300}'..='\u{1F64F}'
+            | '\u{1F680}'..='\u{1F6FF}'
+            | '\u{1F900}'..='\u{1F9FF}'
+            | '\u{20000}'..='\u{3FFFD}'
+    );
+    1 + usize::from(is_wide)
+}
+
+/// The most characters of a file's name that are shown: as many as a file's path has at most.
+const WIDEST_PATH: usize = 4096;
+
+/// The name of a file as a message shows it: what can't be seen in it is escaped.
+pub fn file_called(file: &Path) -> String {
+    let name = file.to_string_lossy();
+    cut(&name, WIDEST_PATH).chars().map(visible).collect()
 }
 
 /// A line cut at so many characters, with a mark if it was longer.
@@ -177,5 +215,23 @@ mod tests {
         assert_eq!(line_around("ab\u{1}cd", 3), ("ab\\u{1}cd".to_string(), 7));
         assert_eq!(line_around("ab", 2), ("ab".to_string(), 2));
         assert_eq!(line_around("ab", 9), ("ab".to_string(), 2));
+        assert_eq!(line_around("😀漢a", 2), ("😀漢a".to_string(), 4));
+    }
+
+    #[test]
+    fn a_line_is_cut_only_if_it_is_long() {
+        let whole = "x".repeat(120);
+        assert_eq!(line_around(&whole, 0), (whole.clone(), 0));
+        assert_eq!(line_around(&whole, 120), (whole.clone(), 120));
+        let long = format!("{whole}x");
+        assert_eq!(line_around(&long, 0), (format!("{} ..", &whole[..40]), 0));
+        let end = format!(".. {}", &whole[..60]);
+        assert_eq!(line_around(&long, 121), (end, 63));
+    }
+
+    #[test]
+    fn names_of_files() {
+        assert_eq!(file_called(Path::new("a b/α.txt")), "a b/α.txt");
+        assert_eq!(file_called(Path::new("a\u{1b}[2J\n")), "a\\u{1b}[2J\\n");
     }
 }

@@ -95,12 +95,22 @@ impl Assembled {
         if !assembler.mistakes.is_empty() {
             return Err(assembler.mistakes);
         }
-        let made = |kind, sheet| Made::of(kind, sheet, end).map_err(|mistake| vec![mistake]);
-        Ok(Self {
-            grammar: made(Kind::Grammar, grammar)?,
-            templates: made(Kind::Templates, templates)?,
-            value: value.map(|value| made(Kind::Value, value)).transpose()?,
-        })
+        let mut mistakes = Vec::new();
+        let mut made = |kind, sheet| {
+            let made = Made::of(kind, sheet, end);
+            made.map_err(|mistake| mistakes.push(mistake)).ok()
+        };
+        let grammar = made(Kind::Grammar, grammar);
+        let templates = made(Kind::Templates, templates);
+        let value = value.map(|value| made(Kind::Value, value));
+        match (grammar, templates, mistakes.is_empty()) {
+            (Some(grammar), Some(templates), true) => Ok(Self {
+                grammar,
+                templates,
+                value: value.flatten(),
+            }),
+            _ => Err(mistakes),
+        }
     }
 }
 

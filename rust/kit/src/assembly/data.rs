@@ -159,7 +159,7 @@ impl<'a> Reader<'a> {
         let due = match form {
             TypeForm::Text(class) => format!("a text of class {}", named(&class.word)),
             TypeForm::YesNo => "true or false".to_string(),
-            TypeForm::List(of) => format!("an array, for a list of type {}", named(&of.word)),
+            TypeForm::List(of) => format!("an array (a list of type {})", named(&of.word)),
             TypeForm::Record(fields) => {
                 let keys: Vec<&str> = fields.iter().map(|it| it.name.word.as_str()).collect();
                 format!("an object with the keys {}", shown(&keys.join(", "), 100))

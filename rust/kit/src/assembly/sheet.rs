@@ -114,7 +114,12 @@ impl Sheet {
     pub fn packed(&self, kind: Kind, end: Position) -> Result<Vec<u8>, Mistake> {
         let count = self.records.len();
         if count == 0 {
-            let message = format!("the description has nothing for the {kind}");
+            let parts = match kind {
+                Kind::Grammar => "no `class` and no `production`",
+                Kind::Templates => "no `type` and no `template`",
+                Kind::Value => "no `value`",
+            };
+            let message = format!("the description has nothing for the {kind}: {parts}");
             return Err(Mistake::new(end, message));
         }
         if let Some(first) = self.origins.get(STREAM_RECORDS) {

@@ -5,6 +5,7 @@ use super::{Done, Step, Words};
 use crate::assembly::map;
 use crate::files;
 use crate::streams::record::Kind;
+use crate::words::file_called;
 use std::path::PathBuf;
 
 pub(super) fn run(words: &Words) -> Step<Done> {
@@ -19,7 +20,7 @@ pub(super) fn run(words: &Words) -> Step<Done> {
     let mut text = String::new();
     for (kind, stream) in streams {
         let path = folder.join(kind.file());
-        let name = path.display();
+        let name = file_called(&path);
         match stream {
             Some(stream) => {
                 text.push_str(&format!("{name}: {} bytes\n", stream.len()));
@@ -31,7 +32,7 @@ pub(super) fn run(words: &Words) -> Step<Done> {
         }
     }
     let path = folder.join(map::FILE);
-    text.push_str(&format!("{}: {} bytes\n", path.display(), map.len()));
+    text.push_str(&format!("{}: {} bytes\n", file_called(&path), map.len()));
     files.push((path, map));
     files::folder(folder).map_err(Done::file)?;
     files::write(&files).map_err(Done::file)?;

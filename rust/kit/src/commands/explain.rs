@@ -1,20 +1,20 @@
 //! `kit explain DIR`
 
-use super::{Done, Step, Words};
-use crate::assembly::map::{self, Guide, Map};
-use crate::files::{self, MOST_STREAM, MOST_TEXT};
+use super::{beside, Done, Step, Words};
+use crate::assembly::map::Guide;
+use crate::files::{self, MOST_STREAM};
 use crate::reasons::explain::{explain_with, Set};
 use crate::streams::record::Kind;
-use std::path::Path;
+use crate::words::file_called;
 
 pub(super) fn run(words: &Words) -> Step<Done> {
     let folder = words.operand(0);
     if !folder.is_dir() {
         let why = match folder.exists() {
-            true => "this is no folder",
+            true => "this is a file, and a folder is expected",
             false => "there is no such folder",
         };
-        return Err(Done::file(format!("{}: {why}", folder.display())));
+        return Err(Done::file(format!("{}: {why}", file_called(folder))));
     }
     let stream =
         |kind: Kind| files::start(&folder.join(kind.file()), MOST_STREAM).map_err(Done::file);
@@ -25,35 +25,15 @@ pub(super) fn run(words: &Words) -> Step<Done> {
         templates: &templates,
         value: &value,
     };
-    let (guide, note) = guide(folder, set);
+    let mapped = [
+        (Kind::Grammar, set.grammar),
+        (Kind::Templates, set.templates),
+    ];
+    let (map, note) = beside::map(folder, &mapped);
+    let guide = map.as_ref().map(Guide::of).unwrap_or_default();
     let explanation = explain_with(set, words.lent, &guide);
     Ok(Done {
         err: note,
         ..Done::report(explanation.text, explanation.finished)
     })
-}
-
-/// What the map beside the streams tells, and a note if it can't be used.
-fn guide(folder: &Path, set: Set<'_>) -> (Guide, String) {
-    let file = folder.join(map::FILE);
-    if !file.exists() {
-        return (Guide::default(), String::new());
-    }
-    let name = file.display();
-    let without = |why: String| {
-        let note = format!("{name}: {why}, so things are called by their numbers\n");
-        (Guide::default(), note)
-    };
-    match files::read(&file, MOST_TEXT).map(|bytes| Map::read(&bytes)) {
-        Err(_) => without("this can't be read".to_string()),
-        Ok(Err(mistake)) => without(format!("this is no map ({mistake})")),
-        Ok(Ok(map)) => {
-            let fits =
-                map.fits(Kind::Grammar, set.grammar) && map.fits(Kind::Templates, set.templates);
-            match fits {
-                true => (Guide::of(&map), String::new()),
-                false => without("this is the map of other streams".to_string()),
-            }
-        }
-    }
 }

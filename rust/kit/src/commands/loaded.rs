@@ -1,5 +1,6 @@
 //! Descriptions and data, read from their files.
 
+use super::check::accepted;
 use super::{Done, Step};
 use crate::assembly::assemble::{end_of, Assembled, Made};
 use crate::assembly::data;
@@ -8,9 +9,11 @@ use crate::files::{self, MOST_TEXT};
 use crate::json;
 use crate::language::description::Description;
 use crate::language::parser::parse;
-use crate::mistake::{Mistake, Position, Source};
+use crate::language::rows::Rows;
+use crate::mistake::{Mistake, Source};
 use crate::reasons::explain::Set;
 use crate::streams::record::Kind;
+use crate::words::file_called;
 use std::path::Path;
 
 /// A text and the name of its file.
@@ -24,7 +27,7 @@ pub struct Text {
 impl Text {
     /// Reads a file; what is no UTF-8 in it is shown, and the command ends.
     fn read(file: &Path, what: &str) -> Step<Self> {
-        let name = file.display().to_string();
+        let name = file_called(file);
         let bytes = files::read(file, MOST_TEXT).map_err(Done::file)?;
         String::from_utf8(bytes)
             .map_err(|error| Done::refused(no_text(&name, what, error.as_bytes())))
@@ -37,18 +40,23 @@ impl Text {
     }
 }
 
-/// Where bytes stop being UTF-8.
+/// Where bytes stop being UTF-8. UTF-16, in which some editors save, is named if its mark tells.
 fn no_text(name: &str, what: &str, bytes: &[u8]) -> String {
     let lossy = String::from_utf8_lossy(bytes);
     let valid = match std::str::from_utf8(bytes) {
         Ok(text) => text.len(),
         Err(error) => error.valid_up_to(),
     };
-    let before = String::from_utf8_lossy(&bytes[..valid]);
-    let Position { line, column } = end_of(&before);
-    let message = format!("the {what} is no UTF-8 here");
-    let mistake = Mistake::new(Position { line, column }, message);
-    Source::new(name, &lossy).shown(&[mistake])
+    let at = end_of(&String::from_utf8_lossy(&bytes[..valid]));
+    let message = match bytes {
+        [0xFF, 0xFE, ..] | [0xFE, 0xFF, ..] => {
+            format!(
+                "the {what} begins with a byte-order mark of UTF-16: save it as UTF-8, without one"
+            )
+        }
+        _ => format!("the {what} is no UTF-8 here: save it as UTF-8"),
+    };
+    Source::new(name, &lossy).shown(&[Mistake::new(at, message)])
 }
 
 /// A description that has no mistake of its own.
@@ -126,6 +134,13 @@ impl Data {
     /// # Errors
     /// The file can't be read, is no JSON, or isn't of the declared type; all mistakes are shown.
     pub fn read(loaded: &Loaded, file: &Path) -> Step<Self> {
+        if Rows::of(&loaded.tree, &mut Vec::new())
+            .declared(&loaded.tree)
+            .is_none()
+        {
+            // The first template is at fault then, and not the data.
+            accepted(loaded, None)?;
+        }
         let source = Text::read(file, "data")?;
         let shown = |mistakes: Vec<Mistake>| Done::refused(source.shown(&mistakes));
         let json = json::parse(source.text.as_bytes()).map_err(|mistake| shown(vec![mistake]))?;

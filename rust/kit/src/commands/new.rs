@@ -2,6 +2,7 @@
 
 use super::{Done, Step, Words};
 use crate::files;
+use crate::words::file_called;
 
 /// The files of a new folder.
 const FILES: [(&str, &str); 2] = [
@@ -15,13 +16,13 @@ pub(super) fn run(words: &Words) -> Step<Done> {
     if let Some((there, _)) = paths.iter().find(|(path, _)| path.exists()) {
         let why = format!(
             "{}: this is there already, and stays as it is",
-            there.display()
+            file_called(there)
         );
         return Err(Done::file(why));
     }
     files::folder(folder).map_err(Done::file)?;
     files::write(&paths).map_err(Done::file)?;
-    let [feed, data] = paths.map(|(path, _)| path.display().to_string());
+    let [feed, data] = paths.map(|(path, _)| file_called(&path));
     Ok(Done::fine(format!(
         "{feed}: the description\n{data}: its data\n`kit render {feed} {data}` prints the feed\n"
     )))

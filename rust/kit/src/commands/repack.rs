@@ -4,6 +4,7 @@ use super::{Done, Step, Words};
 use crate::files::{self, MOST_STREAM};
 use crate::streams::record::Kind;
 use crate::streams::repack::{repack, Repacked};
+use crate::words::file_called;
 use std::path::PathBuf;
 
 /// Packs a stream or the three of a folder anew. If one of them is refused, all stay as they are.
@@ -17,7 +18,7 @@ pub(super) fn run(words: &Words) -> Step<Done> {
     };
     let (mut anew, mut text) = (Vec::new(), String::new());
     for (file, kind) in files {
-        let name = file.display();
+        let name = file_called(&file);
         let bytes = files::start(&file, MOST_STREAM).map_err(Done::file)?;
         match repack(&bytes, kind) {
             Ok(Repacked::Kept) => text.push_str(&format!("{name}: kept, its checks are right\n")),

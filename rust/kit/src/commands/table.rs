@@ -5,7 +5,7 @@ use super::{assemble, check, dump, explain, lint, new, render, repack, size, val
 use super::{Done, Step, VERSION};
 use crate::language::rows::meant;
 use crate::words::named;
-use std::ffi::OsString;
+use std::ffi::{OsStr, OsString};
 
 /// A command.
 pub struct Command {
@@ -175,7 +175,7 @@ impl Command {
         let options = if self.evaluates { OPTIONS } else { "" };
         let gap = if self.evaluates { "\n" } else { "" };
         format!(
-            "{}: {}\n\n{}{gap}{options}\n{STATUS}",
+            "{}\n{}\n\n{}{gap}{options}\n{STATUS}",
             self.usage(),
             self.summary,
             self.page
@@ -199,22 +199,29 @@ pub(super) fn run(words: &[OsString]) -> Step<Done> {
     let Some((name, rest)) = words.split_first() else {
         return Err(unknown("a command is missing"));
     };
-    let name = name.to_string_lossy();
-    match name.as_ref() {
-        "help" | "--help" | "-h" => return Ok(Done::fine(help())),
-        "--version" | "-V" => return Ok(Done::fine(VERSION)),
+    match (name.to_str(), rest.first()) {
+        (Some("help"), Some(of)) => return Ok(Done::fine(named_by(of)?.help())),
+        (Some("help" | "--help" | "-h"), _) => return Ok(Done::fine(help())),
+        (Some("--version" | "-V"), _) => return Ok(Done::fine(VERSION)),
         _ => {}
     }
-    let Some(command) = COMMANDS.iter().find(|command| command.name == name) else {
-        let near = meant(&name, COMMANDS.iter().map(|command| command.name), 0);
-        let message = format!("there is no command {}{near}", named(&name));
-        return Err(unknown(&message));
-    };
+    let command = named_by(name)?;
     let words = Words::read(command, rest)?;
     match words.help {
         true => Ok(Done::fine(command.help())),
         false => (command.run)(&words),
     }
+}
+
+/// The command with a name.
+fn named_by(name: &OsStr) -> Step<&'static Command> {
+    let name = name.to_string_lossy();
+    let Some(command) = COMMANDS.iter().find(|command| command.name == name) else {
+        let near = meant(&name, COMMANDS.iter().map(|command| command.name), 0);
+        let message = format!("there is no command {}{near}", named(&name));
+        return Err(unknown(&message));
+    };
+    Ok(command)
 }
 
 fn unknown(message: &str) -> Done {

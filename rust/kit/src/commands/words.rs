@@ -39,6 +39,7 @@ impl Words {
         while let Some(word) = words.next() {
             match word.to_str() {
                 Some("--") if !only_operands => only_operands = true,
+                Some("-h") if !only_operands => found.help = true,
                 Some(option) if option.starts_with("--") && !only_operands => {
                     found.option(command, option, &mut words)?;
                 }

@@ -1,5 +1,6 @@
 //! Reads a description into its tree.
 
+mod brackets;
 mod grammar;
 mod nodes;
 mod values;
@@ -151,48 +152,6 @@ impl Parser {
         u16::try_from(number).map_err(|_| Mistake::new(at, format!("{what} is at most 65,535")))
     }
 
-    /// Things between two brackets.
-    fn bracketed<T>(
-        &mut self,
-        [open, close]: [char; 2],
-        mut thing: impl FnMut(&mut Self) -> Parsed<T>,
-    ) -> Parsed<Vec<T>> {
-        let start = self.at();
-        self.sign(open)?;
-        let mut found = Vec::new();
-        while !self.accept_sign(close) {
-            self.is_open([open, close], start)?;
-            found.push(thing(self)?);
-        }
-        Ok(found)
-    }
-
-    /// A bracket must be closed by its own, before the description or its part ends.
-    fn is_open(&self, [open, close]: [char; 2], start: Position) -> Parsed<()> {
-        let opener = format!(
-            "the `{open}` at line {}, column {}",
-            start.line, start.column
-        );
-        let (at, message) = match self.peek() {
-            Token::End => (
-                start,
-                format!("this `{open}` is not closed before the end of the description"),
-            ),
-            Token::Sign(other @ (')' | ']' | '}')) => (
-                self.at(),
-                format!("{opener} is closed by `{close}`, not by `{other}`"),
-            ),
-            Token::Word(word) if PARTS.contains(&word.as_str()) => (
-                self.at(),
-                format!(
-                    "{opener} is not closed before `{word}`, which begins a part and is no name"
-                ),
-            ),
-            _ => return Ok(()),
-        };
-        Err(Mistake::new(at, message))
-    }
-
     /// Skips to the next part that begins a line: one in a line that has a mistake may be none.
     fn skip_to_part(&mut self) {
         while *self.peek() != Token::End && !self.begins_part() {
@@ -281,7 +240,7 @@ impl Parser {
     /// `template NAME (PARAMETER..) of NONTERMINAL = NODE`
     fn template(&mut self) -> Parsed<Template> {
         let name = self.name("the template's name")?;
-        let parameters = self.bracketed(['(', ')'], |p| p.field("a parameter's name"))?;
+        let parameters = self.parameters()?;
         self.word("of")?;
         let nonterminal = self.name("the template's nonterminal")?;
         self.sign('=')?;

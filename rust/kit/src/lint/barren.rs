@@ -5,7 +5,7 @@
 use super::admits::{holds_any, Classes, Plain, Texts};
 use crate::language::description::{Class, ClassForm, Description, Range};
 use crate::mistake::Mistake;
-use crate::words::counted;
+use crate::words::{counted, named};
 
 /// What is said of the classes.
 pub fn barren(tree: &Description) -> Vec<Mistake> {
@@ -29,21 +29,23 @@ fn escaped(classes: &Classes<'_>, class: &Class, plain: &str) -> Option<Mistake>
     let name = &class.name.word;
     let barren = classes.texts(name) == Some(Texts::None);
     let message = format!(
-        "class `{name}` admits no text at all: it is the escaped form of class `{plain}`, which admits none"
+        "class {} admits no text at all: it is the escaped form of class {}, which admits none",
+        named(name),
+        named(plain)
     );
     barren.then(|| Mistake::new(class.name.at, message))
 }
 
 /// The class as a whole comes first. Its ranges aren't told one by one where that says it of all of them.
 fn said_of(class: &Class, plain: Plain<'_>) -> Vec<Mistake> {
-    let name = &class.name.word;
+    let name = named(&class.name.word);
     let whole = match plain.texts() {
         Texts::None => Some(format!(
-            "class `{name}` admits no text at all: {}",
+            "class {name} admits no text at all: {}",
             why_no_text(plain)
         )),
         Texts::Empty => {
-            why_empty(plain).map(|why| format!("class `{name}` admits only the empty text: {why}"))
+            why_empty(plain).map(|why| format!("class {name} admits only the empty text: {why}"))
         }
         Texts::Others => None,
     };
@@ -51,7 +53,7 @@ fn said_of(class: &Class, plain: Plain<'_>) -> Vec<Mistake> {
     let mut said: Vec<Mistake> = whole.into_iter().collect();
     if plain.ranges.iter().any(holds_any) {
         let unfit = plain.ranges.iter().filter(|range| !holds_any(range));
-        said.extend(unfit.map(|range| range_said(name, range)));
+        said.extend(unfit.map(|range| range_said(&name, range)));
     }
     said
 }
@@ -99,7 +101,7 @@ fn range_said(name: &str, range: &Range) -> Mistake {
         true => format!("U+{lowest:04X}"),
         false => format!("U+{lowest:04X}-U+{highest:04X}"),
     };
-    let message = format!("the range {range} of class `{name}` admits no character: {why}");
+    let message = format!("the range {range} of class {name} admits no character: {why}");
     Mistake::new(at, message)
 }
 

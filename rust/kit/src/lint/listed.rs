@@ -1,5 +1,7 @@
 //! Names and characters in a row, for a person.
 
+use crate::words::named;
+
 /// `` `a` ``, `` `a` and `b` ``, `` `a`, `b` and `c` ``.
 pub fn listed(things: &[impl AsRef<str>]) -> String {
     let each: Vec<String> = things
@@ -11,7 +13,7 @@ pub fn listed(things: &[impl AsRef<str>]) -> String {
 
 /// The same of at most three names, and how many more there are.
 pub fn some_listed(names: &[&str]) -> String {
-    let mut each: Vec<String> = names.iter().take(3).map(|it| format!("`{it}`")).collect();
+    let mut each: Vec<String> = names.iter().take(3).map(|it| named(it)).collect();
     if names.len() > each.len() {
         each.push(format!("{} more", names.len() - each.len()));
     }

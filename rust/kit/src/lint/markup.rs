@@ -8,7 +8,7 @@ use super::inside::{begins_tag, Inside, Reader};
 use super::listed::listed;
 use crate::language::description::{Class, ClassForm, Description, Element, Name, Production};
 use crate::mistake::Mistake;
-use crate::words::cut;
+use crate::words::{self, cut, named, visible};
 use std::collections::HashMap;
 
 /// So many bytes behind a class are looked through for what ends its place.
@@ -88,8 +88,8 @@ impl Rule<'_> {
         let before = shown(reader.shown());
         let after = shown(&until(rest, end_of(inside)));
         let message = format!(
-            "class `{}` admits {} here, between `{before}` and `{after}`, {}",
-            name.word,
+            "class {} admits {} here, between `{before}` and `{after}`, {}",
+            named(&name.word),
             listed(&characters),
             self.why_and_cure(inside, &name.word, &characters)
         );
@@ -107,9 +107,10 @@ impl Rule<'_> {
             );
         }
         match self.escaped.get(class) {
-            Some(escaped) => format!("{why}: ask for its escaped form `{escaped}`"),
+            Some(escaped) => format!("{why}: ask for its escaped form {}", named(escaped)),
             None => {
-                format!("{why}: ask for an escaped form of it (`class NAME = escaped {class}`)")
+                let cure = words::shown(&format!("class NAME = escaped {class}"), 2 * SHOWN);
+                format!("{why}: ask for an escaped form of it ({cure})")
             }
         }
     }
@@ -215,7 +216,7 @@ fn until(elements: &[Element], end: u8) -> Vec<u8> {
 fn shown(bytes: &[u8]) -> String {
     let text = String::from_utf8_lossy(bytes);
     let words: Vec<&str> = text.split_whitespace().collect();
-    cut(&words.join(" "), SHOWN)
+    cut(&words.join(" "), SHOWN).chars().map(visible).collect()
 }
 
 #[cfg(test)]
@@ -349,7 +350,7 @@ mod tests {
         let around = format!("between `<p class='{} ..` and `</p>`", "x".repeat(30));
         assert!(message.contains(&around), "{message}");
         let bytes = said(r#""<p>\xFF\n\t\x00" and "\xFF</p>""#);
-        assert!(bytes[0].contains("between `<p>\u{FFFD} \0` and `\u{FFFD}</p>`"));
+        assert!(bytes[0].contains("between `<p>\u{FFFD} \\u{0}` and `\u{FFFD}</p>`"));
     }
 
     #[test]

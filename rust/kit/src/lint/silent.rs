@@ -7,7 +7,8 @@
 use super::admits::{Classes, Texts};
 use crate::language::description::{Description, Element, Node, NodeForm, Production};
 use crate::mistake::Mistake;
-use crate::words::quoted;
+use crate::reasons::context::WIDEST;
+use crate::words::{cut, quoted};
 use std::collections::HashMap;
 
 /// What is said of the templates' fors.
@@ -145,7 +146,7 @@ fn message(due: Option<&Element>) -> String {
         None => nothing.to_string(),
         Some(text) => format!(
             "{nothing}: only the separators {} are written",
-            quoted(text)
+            cut(&quoted(text), WIDEST)
         ),
     }
 }

@@ -8,6 +8,7 @@ use crate::language::description::{
     ClassForm, Description, Element, Name, Node, NodeForm, Template, TypeForm,
 };
 use crate::mistake::Mistake;
+use crate::words::named;
 use std::collections::{HashMap, HashSet};
 
 /// What is said of the four rows.
@@ -129,7 +130,10 @@ impl<'a> Said<'a> {
         match others {
             [] if users == 0 => format!("no template {builds} it"),
             [] => format!("only it {builds} itself"),
-            [only] => format!("only template `{only}` {builds} it, which is not used itself"),
+            [only] => format!(
+                "only template {} {builds} it, which is not used itself",
+                named(only)
+            ),
             several => format!(
                 "only templates {} {build} it, which are not used themselves",
                 some_listed(several)
@@ -141,7 +145,7 @@ impl<'a> Said<'a> {
 fn not_used(what: &str, name: &Name, why: &str) -> Mistake {
     Mistake::new(
         name.at,
-        format!("{what} `{}` is not used: {why}", name.word),
+        format!("{what} {} is not used: {why}", named(&name.word)),
     )
 }
 

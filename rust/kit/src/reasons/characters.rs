@@ -1,7 +1,8 @@
 //! What a class asks of a text, and which of a text's characters it doesn't take.
 
+use crate::reasons::paper::{ADMITTED, LEXEME};
 use crate::streams::record::Record;
-use crate::words::{counted, listed_by};
+use crate::words::{counted, listed_by, visible};
 
 /// How many characters of which ranges a plain class has.
 pub fn characters_due(head: Record, ranges: &[Record]) -> String {
@@ -36,8 +37,17 @@ pub fn is_lexeme(bytes: &[u8], head: Record, ranges: &[Record]) -> bool {
     })
 }
 
+/// The rule that a text breaks which is no lexeme. A character that XML 1.0 doesn't admit comes first: no
+/// other ranges or counts would help.
+pub fn lexeme_rule(text: &[u8]) -> &'static str {
+    match has_unadmitted(text) {
+        true => ADMITTED,
+        false => LEXEME,
+    }
+}
+
 /// Whether a text has a character that XML 1.0 doesn't admit; one that is no UTF-8 has no characters.
-pub fn has_unadmitted(bytes: &[u8]) -> bool {
+fn has_unadmitted(bytes: &[u8]) -> bool {
     std::str::from_utf8(bytes).is_ok_and(|text| first_without(text, is_admitted).is_some())
 }
 
@@ -53,7 +63,10 @@ fn unfit(text: &str, ranges: &[Record]) -> Option<String> {
     }
     let (number, character) = first_without(text, |character| is_in(ranges, character))?;
     let point = u32::from(character);
-    Some(format!("number {number}, U+{point:04X}, is in no range"))
+    let seen = visible(character);
+    Some(format!(
+        "number {number}, U+{point:04X} ('{seen}'), is in no range"
+    ))
 }
 
 /// The first character that a test doesn't pass, and its number from 1.
@@ -107,15 +120,14 @@ mod tests {
           build p (literal "one" literal "two" place v sequence (build q build q))
         value "a&b""#;
 
-    /// The lines that `explain` adds to a refusal of the description with another part; of a literal the
-    /// rule is quoted that failed, of a value all that a text has to keep.
+    /// The lines that `explain` adds to a refusal of the description with another part, and the rule is
+    /// quoted that failed.
     fn said(from: &str, to: &str, number: u8) -> Vec<String> {
         let text = explained_with(SMALL, from, to);
         let admitted = text.contains("XML 1.0 admits only U+0009, U+000A, U+000D, ");
         let counted = text.contains("A lexeme of a class is well-formed UTF-8");
         let nowhere = text.contains("is one that XML 1.0 admits nowhere");
-        assert_eq!(admitted, number == 8 || nowhere, "{text}");
-        assert_eq!(counted, number == 8 || !nowhere, "{text}");
+        assert_eq!((admitted, counted), (nowhere, !nowhere), "{text}");
         remarks_of(&text, number)
     }
 
@@ -182,7 +194,7 @@ mod tests {
         assert_eq!(lines[1], nowhere(2, "2, U+000B (vertical tab)"));
         assert_eq!(
             said("two", r"A\t", 7)[1],
-            "this text has 2 characters, and number 1, U+0041, is in no range"
+            "this text has 2 characters, and number 1, U+0041 ('A'), is in no range"
         );
     }
 
@@ -207,7 +219,8 @@ mod tests {
             said("1 to 4 { U+0000-U+10FFFF }", "0 to 4 { }", 7),
             [
                 format!("{FIRST}: 0 to 4 characters, but the class has no range"),
-                "this text has 3 characters, and number 1, U+006F, is in no range".to_string()
+                "this text has 3 characters, and number 1, U+006F ('o'), is in no range"
+                    .to_string()
             ]
         );
     }

@@ -2,45 +2,71 @@
 //!
 //! The streams that are read have a sound layout here: types are judged only after it.
 
-use crate::reasons::characters::{characters_due, text_found};
+use crate::reasons::characters::{characters_due, lexeme_rule, text_found};
 use crate::reasons::classes::{classes, Class};
 use crate::reasons::names::Names;
+use crate::reasons::paper::VALUE;
 use crate::reasons::types::{Shape, Types};
 use crate::reasons::values::down_to;
 use crate::streams::record::{Record, RECORD};
 use crate::words::{bare, counted, cut, listed};
 
-/// What is due at the record `place` of the value, a line for each part of it.
+/// The rule that fails at the record `place` of the value, and what is due there, a line for each part of
+/// it.
 pub fn due(
     grammar: &[Record],
     templates: &[Record],
     value: &[Record],
     names: &Names,
     place: usize,
-) -> Vec<String> {
+) -> Option<(&'static str, Vec<String>)> {
     let types = Types::of(templates);
-    let found = declared(templates, &types)
-        .and_then(|declared| along(&types, names, value, declared, place))
-        .and_then(|(number, path)| Some((number, types.shape(number)?, path)));
-    let Some((number, shape, path)) = found else {
-        return Vec::new();
+    let declared = declared(templates, &types)?;
+    let (number, path) = along(&types, names, value, declared, place)?;
+    let here = *value.get(place)?;
+    let text = match here.kind() {
+        1 => text_bytes(value, place, usize::from(here.b())),
+        _ => None,
     };
-    let own = names.type_of(number);
     let mut said = vec![path];
+    let shape = types.shape(number)?;
+    let Shape::Text(class) = shape else {
+        said.extend([kind_due(shape, names, number), standing(here)]);
+        return Some((VALUE, said));
+    };
+    said.extend(text_due(grammar, names, class, text.as_deref()));
+    let Some(text) = text else {
+        said.push(standing(here));
+        return Some((VALUE, said));
+    };
+    Some((lexeme_rule(&text), said))
+}
+
+/// What a type asks for that is no text.
+fn kind_due(shape: Shape, names: &Names, number: usize) -> String {
+    let own = names.type_of(number);
     match shape {
-        Shape::Text(class) => said.extend(text_due(grammar, names, class, value, place)),
-        Shape::YesNo => said.push(format!("{own} is due here: yes or no")),
-        Shape::List(item) => {
-            let item = names.type_of(item);
-            said.push(format!("{own} is due here: a list of {item}"));
-        }
-        Shape::Record(fields) => said.push(format!(
+        Shape::List(item) => format!("{own} is due here: a list of {}", names.type_of(item)),
+        Shape::Record(fields) => format!(
             "{own} is due here: a record of {}{}",
             counted(fields, "field", "fields"),
             fields_named(names, number, fields)
-        )),
+        ),
+        _ => format!("{own} is due here: yes or no"),
     }
-    said
+}
+
+/// What stands at a value's head.
+fn standing(head: Record) -> String {
+    let count = usize::from(head.d());
+    let what = match (head.kind(), head.a()) {
+        (1, _) => "a text".to_string(),
+        (2, 0) => "no".to_string(),
+        (2, _) => "yes".to_string(),
+        (3, _) => format!("a list of {}", counted(count, "item", "items")),
+        _ => format!("a record of {}", counted(count, "field", "fields")),
+    };
+    format!("{what} stands here")
 }
 
 /// The declared type: that of template 0's one parameter.
@@ -94,19 +120,11 @@ fn fields_named(names: &Names, number: usize, fields: usize) -> String {
     }
 }
 
-fn text_due(
-    grammar: &[Record],
-    names: &Names,
-    number: u16,
-    value: &[Record],
-    place: usize,
-) -> Vec<String> {
-    let Some(&Class::Plain { head, ranges }) = classes(grammar).get(usize::from(number)) else {
+fn text_due(grammar: &[Record], names: &Names, class: u16, bytes: Option<&[u8]>) -> Vec<String> {
+    let Some(&Class::Plain { head, ranges }) = classes(grammar).get(usize::from(class)) else {
         return Vec::new();
     };
-    let text = value.get(place).filter(|text| text.kind() == 1);
-    let bytes = text.and_then(|text| text_bytes(value, place, usize::from(text.b())));
-    text_lines(&names.class(number), head, ranges, bytes.as_deref())
+    text_lines(&names.class(class), head, ranges, bytes)
 }
 
 /// What a class asks of a text, and what stands there if it is a text.
@@ -158,7 +176,7 @@ mod tests {
         );
         assert_eq!(
             said("\"cd\"", "\"cD\"")[2],
-            "this text has 2 characters, and number 2, U+0044, is in no range"
+            "this text has 2 characters, and number 2, U+0044 ('D'), is in no range"
         );
         assert_eq!(
             said("\"cd\"", "\"\\xC0\\x80\"")[2],
@@ -168,24 +186,40 @@ mod tests {
 
     #[test]
     fn a_value_of_another_kind() {
-        assert_eq!(said("\"cd\"", "yes"), ["at `1[1]`", CLASS]);
+        assert_eq!(
+            said("\"cd\"", "yes"),
+            ["at `1[1]`", CLASS, "yes stands here"]
+        );
         assert_eq!(
             said("done: yes", "done: []"),
-            ["at `0`", "type 1 is due here: yes or no"]
+            [
+                "at `0`",
+                "type 1 is due here: yes or no",
+                "a list of 0 items stands here"
+            ]
         );
         assert_eq!(
             said("[\"ab\" \"cd\"]", "no"),
-            ["at `1`", "type 2 is due here: a list of type 0"]
+            [
+                "at `1`",
+                "type 2 is due here: a list of type 0",
+                "no stands here"
+            ]
         );
         assert_eq!(
             said("{ word: \"ef\" }", "{}"),
-            ["at `2`", "type 3 is due here: a record of 1 field"]
+            [
+                "at `2`",
+                "type 3 is due here: a record of 1 field",
+                "a record of 0 fields stands here"
+            ]
         );
         assert_eq!(
             said("value {", "value \"\" # "),
             [
                 "this is the whole value",
-                "type 4 is due here: a record of 3 fields"
+                "type 4 is due here: a record of 3 fields",
+                "a text stands here"
             ]
         );
     }

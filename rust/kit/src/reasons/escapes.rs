@@ -270,7 +270,7 @@ mod tests {
             [
                 "it stands for \"&é\"",
                 due,
-                "this text has 2 characters, and number 2, U+00E9, is in no range"
+                "this text has 2 characters, and number 2, U+00E9 ('é'), is in no range"
             ]
         );
     }

@@ -19,15 +19,14 @@ pub enum Why {
 pub fn quotes(refusal: Refusal, why: Why) -> Vec<&'static str> {
     match why {
         Why::Separator => return vec![SEPARATOR],
+        Why::Escaped => return vec![ESCAPED_NAMES],
         Why::Rule(rule) => return vec![rule],
-        Why::Escaped | Why::Number => {}
+        Why::Number => {}
     }
     let mut found = vec![what_stops(refusal)];
     found.extend(match refusal {
         Refusal::Block { .. } => &[CHAIN],
         Refusal::Layout { .. } => LAYOUT,
-        Refusal::Name { .. } if why == Why::Escaped => &[ESCAPED_NAMES],
-        Refusal::ValueType { .. } => &[VALUE, LEXEME, ADMITTED],
         _ => &[],
     });
     found
@@ -128,7 +127,9 @@ pub const COUNTS: &str = "A build with another number of children, \
 pub const REPETITION: &str = "Repetition: a sequence, whose items are nodes in the position \
                           of its nonterminal or a for over a list, whose body is one such node.";
 
-const VALUE: &str = "A value is of type text if it is a 1 whose text is a lexeme of the class; \
+/// When a value is of a type.
+pub const VALUE: &str =
+    "A value is of type text if it is a 1 whose text is a lexeme of the class; \
                      of yes/no if a 2; of a list if a 3 whose children are all of its item type; \
                      of a record if a 4 with one child for each field, in order, \
                      of that field's type.";

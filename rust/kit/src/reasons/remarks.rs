@@ -58,9 +58,14 @@ pub fn told(refusal: Refusal, records: &Records, names: &Names) -> Told {
             },
             None => plainly(Vec::new()),
         },
-        Refusal::ValueType { record } => {
-            plainly(due(grammar, templates, value, names, place(record)))
-        }
+        Refusal::ValueType { record } => match due(grammar, templates, value, names, place(record))
+        {
+            Some((rule, said)) => Told {
+                why: Why::Rule(rule),
+                said,
+            },
+            None => plainly(Vec::new()),
+        },
         Refusal::OutputFull { node } if is_sequence(templates, place(node)) => Told {
             why: Why::Separator,
             said: Vec::new(),

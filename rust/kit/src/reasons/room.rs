@@ -37,7 +37,8 @@ pub fn walked(
                 names,
                 answer,
             );
-            said.extend(joined(&way));
+            said.extend(joined(&way.levels));
+            said.extend(way.why);
             said.push(so_far(answer, lent, output));
             said.extend(enough(set, lent, refusal));
         }

@@ -11,7 +11,7 @@ use crate::reasons::limits::LEVELS;
 use crate::reasons::names::Names;
 use crate::reasons::tables::Tables;
 use crate::streams::record::Record;
-use crate::words::bare;
+use crate::words::{bare, named};
 use feed::Answer;
 use walk::{chain, Level};
 
@@ -21,26 +21,34 @@ const MOST_STEPS: u64 = 20_000_000;
 /// The levels shown at the beginning and at the end of a long chain.
 const SHOWN: (usize, usize) = (4, 5);
 
-/// How a walk came to the node where it stopped: the outermost first. It is empty where the answer is no
-/// walk's that met a limit, and where the steps are too many to be taken again.
+/// How a walk came to the node where it stopped.
+#[derive(Debug, Default, PartialEq, Eq)]
+pub struct Way {
+    /// The templates and fors, the outermost first.
+    pub levels: Vec<String>,
+    /// Why it came too deep, if it did.
+    pub why: Option<String>,
+}
+
+/// How a walk came to the node where it stopped. It is empty where the answer is no walk's that met a
+/// limit, and where the steps are too many to be taken again.
 pub fn trace(
     grammar: &[Record],
     templates: &[Record],
     value: &[Record],
     names: &Names,
     answer: Answer,
-) -> Vec<String> {
+) -> Way {
     if !(10..=12).contains(&answer.number) || answer.steps > MOST_STEPS {
-        return Vec::new();
+        return Way::default();
     }
     let Some(levels) = chain(&Tables::of(grammar, templates), value, answer) else {
-        return Vec::new();
+        return Way::default();
     };
-    let mut said = bounded(levels.iter().map(|level| line(level, names)).collect());
-    if answer.number == 11 {
-        said.push(deep(&levels, names));
+    Way {
+        levels: bounded(levels.iter().map(|level| line(level, names)).collect()),
+        why: (answer.number == 11).then(|| deep(&levels, names)),
     }
-    said
 }
 
 fn line(level: &Level, names: &Names) -> String {
@@ -53,7 +61,7 @@ fn line(level: &Level, names: &Names) -> String {
             items,
         } => {
             let which = match names.variables.get(&node) {
-                Some(name) => format!("for `{name}`"),
+                Some(name) => format!("for {}", named(name)),
                 None => format!("for (variable {variable})"),
             };
             format!("{which}, item {item} of {items}")

@@ -166,11 +166,11 @@ fn what_no_stream_holds_is_a_mistake() {
     );
     assert_eq!(
         assemble("value yes").expect_err("no grammar")[0].message,
-        "the description has nothing for the grammar"
+        "the description has nothing for the grammar: no `class` and no `production`"
     );
     assert_eq!(
         assemble("").expect_err("no grammar")[0].message,
-        "the description has nothing for the grammar"
+        "the description has nothing for the grammar: no `class` and no `production`"
     );
 }
 

@@ -46,13 +46,15 @@ impl Assembler<'_> {
     }
 
     fn children(&mut self, children: &[(Option<Name>, Value)], known: Known, sheet: &mut Sheet) {
-        let fields = match self.rows.form(known) {
+        let form = self.rows.form(known);
+        let fields = match form {
             Some(TypeForm::Record(fields)) => fields.as_slice(),
             _ => &[],
         };
         for (number, (label, value)) in children.iter().enumerate() {
             let field = fields.get(number);
-            if let Some(label) = label {
+            // Where no type is known, something before the value is wrong, and the label may be right.
+            if let (Some(label), Some(_)) = (label, form) {
                 self.label(label, field);
             }
             let of = field.and_then(|field| self.rows.type_named(&field.of));

@@ -1,7 +1,7 @@
 //! Classes and productions.
 
 use super::{Parsed, Parser, PARTS};
-use crate::language::description::{Class, ClassForm, Element, Production, Range, Text};
+use crate::language::description::{Class, ClassForm, Element, Production, Range};
 use crate::language::lexer::Token;
 
 impl Parser {
@@ -21,7 +21,7 @@ impl Parser {
     fn plain_class(&mut self) -> Parsed<ClassForm> {
         let least = self.count("the least number of characters")?;
         self.word("to")?;
-        let most = self.count("the most characters")?;
+        let most = self.count("the greatest number of characters")?;
         let ranges = self.bracketed(['{', '}'], Self::range)?;
         Ok(ClassForm::Plain {
             least,
@@ -88,15 +88,5 @@ impl Parser {
                 }))
             }
         }
-    }
-
-    /// `("text")` after a repetition, if it has a separator.
-    fn separator(&mut self) -> Parsed<Option<Text>> {
-        if !self.accept_sign('(') {
-            return Ok(None);
-        }
-        let text = self.text()?;
-        self.sign(')')?;
-        Ok(Some(text))
     }
 }

@@ -66,7 +66,7 @@ fn a_mistake_says_what_is_expected_and_where() {
     );
     assert_eq!(
         mistake("class t 1 to 70000 {}"),
-        "line 1, column 14: the most characters is at most 65,535"
+        "line 1, column 14: the greatest number of characters is at most 65,535"
     );
     assert_eq!(
         mistake("class type 1"),
@@ -99,7 +99,7 @@ fn a_mistake_says_what_is_expected_and_where() {
     );
     assert_eq!(
         mistake("production p of n = m*(\",\" \";\")"),
-        "line 1, column 28: `)` is expected here, not a text"
+        "line 1, column 28: `)` is expected here, not a text: the `(` at line 1, column 23 is not closed"
     );
     assert_eq!(
         mistake("template t (a: b) of n = place 256"),

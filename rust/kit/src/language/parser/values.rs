@@ -35,8 +35,7 @@ impl Parser {
 
     /// A child of a record: a value, with a label before it or not.
     fn child(&mut self) -> Parsed<(Option<Name>, Value)> {
-        let labelled = matches!(self.tokens.get(self.next + 1), Some((Token::Sign(':'), _)));
-        if !labelled {
+        if !self.is_labelled() {
             return Ok((None, self.value()?));
         }
         let label = self.name("a label")?;

@@ -42,7 +42,7 @@ fn a_value_of_another_type() {
     assert!(text.starts_with(
         "check: accepted\nevaluate: the value, record 3: the value isn't of its declared type (refusal 8)\n"
     ));
-    assert!(text.contains("\"The value isn't of its declared type.\""));
+    assert!(text.contains("\n    \"A lexeme of a class is well-formed UTF-8"));
     assert!(
         text.contains(">         3    text of 2 bytes, size 2\n          4      \"CD\"\n"),
         "{text}"
@@ -65,7 +65,7 @@ fn a_node_that_does_not_suit() {
     assert!(
         text.ends_with(
             "  = class 0 is asked for here, by element 2 of production 1 (child 1): 1 to 4 characters of U+0061-U+007A\n  \
-             = this text has 2 characters, and number 1, U+0041, is in no range\n\
+             = this text has 2 characters, and number 1, U+0041 ('A'), is in no range\n\
              evaluate: the same refusal\n"
         ),
         "{text}"

@@ -33,9 +33,11 @@ impl Set {
         feed::evaluate(grammar, templates, value, fuel, &mut output, &mut scratch)
     }
 
+    /// The way, and behind it why it is too deep.
     fn traced(&self, names: &Names, answer: Answer) -> Vec<String> {
         let [grammar, templates, value] = &self.records;
-        trace(grammar, templates, value, names, answer)
+        let way = trace(grammar, templates, value, names, answer);
+        way.levels.into_iter().chain(way.why).collect()
     }
 
     /// The way of a walk with so much fuel and output, which ends with this number.

@@ -1,15 +1,16 @@
 //! What stands where a class is asked for: a literal or a place.
 
 use super::{Fault, Here};
-use crate::reasons::characters::{characters_due, has_unadmitted, is_lexeme, text_found};
+use crate::reasons::characters::{characters_due, is_lexeme, lexeme_rule, text_found};
 use crate::reasons::classes::Class;
+use crate::reasons::context::WIDEST;
 use crate::reasons::due::text_bytes;
 use crate::reasons::escapes::{bare_character, plain_of};
 use crate::reasons::nodes::Form;
-use crate::reasons::paper::{ADMITTED, CLASS, ESCAPED, LEXEME};
+use crate::reasons::paper::{CLASS, ESCAPED, LEXEME};
 use crate::reasons::types::Shape;
 use crate::streams::record::Record;
-use crate::words::quoted;
+use crate::words::{cut, quoted};
 
 /// A plain class: its number, its record and its ranges.
 type Plain<'a> = (u16, Record, &'a [Record]);
@@ -83,7 +84,7 @@ impl Here<'_> {
         let rule = match (plain_of(&text), std::str::from_utf8(&text)) {
             (Some(plain), _) if is_lexeme(&plain, head, ranges) => return None,
             (Some(plain), _) => {
-                said.push(format!("it stands for {}", quoted(&plain)));
+                said.push(format!("it stands for {}", cut(&quoted(&plain), WIDEST)));
                 said.push(format!("due are {}", characters_due(head, ranges)));
                 said.push(text_found(&plain, ranges));
                 lexeme_rule(&plain)
@@ -120,14 +121,5 @@ impl Here<'_> {
         });
         let rule = if escaped { ESCAPED } else { CLASS };
         Some(Fault { rule, said })
-    }
-}
-
-/// The rule that a text breaks which is no lexeme. A character that XML 1.0 doesn't admit comes first: no
-/// other ranges or counts would help.
-fn lexeme_rule(text: &[u8]) -> &'static str {
-    match has_unadmitted(text) {
-        true => ADMITTED,
-        false => LEXEME,
     }
 }

@@ -1,10 +1,11 @@
 //! What the paths of a node find, and what isn't there.
 
 use super::{Fault, Here};
+use crate::reasons::context::WIDEST;
 use crate::reasons::nodes::{paths, steps, Form};
 use crate::reasons::paper::TYPING;
 use crate::reasons::types::Shape;
-use crate::words::{bare, counted, listed};
+use crate::words::{bare, counted, listed, shown};
 use std::ops::Range;
 
 impl Here<'_> {
@@ -101,7 +102,7 @@ impl Here<'_> {
     /// A path as it is written in the description, or by its numbers.
     pub(super) fn path_called(&self, path: usize) -> String {
         if let Some(written) = self.names.paths.get(&path) {
-            return format!("the path `{written}`");
+            return format!("the path {}", shown(written, WIDEST));
         }
         let Some(record) = self.tables.records.get(path) else {
             return "the path".to_string();
@@ -121,7 +122,7 @@ impl Here<'_> {
             number = number.and_then(|number| self.tables.types.field(number, field));
         }
         match name {
-            Some(_) => format!("the path `{}`", words.join(".")),
+            Some(_) => format!("the path {}", shown(&words.join("."), WIDEST)),
             None => format!("the path ({})", words.join(", ")),
         }
     }

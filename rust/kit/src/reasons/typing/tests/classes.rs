@@ -16,7 +16,7 @@ fn a_literal_that_is_no_lexeme() {
         named,
         [
             format!("{}: 1 to 4 characters of U+0061-U+007A", FIRST[1]),
-            "this text has 2 characters, and number 2, U+0042, is in no range".to_string()
+            "this text has 2 characters, and number 2, U+0042 ('B'), is in no range".to_string()
         ]
     );
     assert!(said[0].starts_with(FIRST[0]));
@@ -52,7 +52,7 @@ fn a_literal_of_an_escaped_class() {
         [
             "it stands for \"&\"",
             "due are 1 to 4 characters of U+0061-U+007A",
-            "this text has 1 character, and number 1, U+0026, is in no range"
+            "this text has 1 character, and number 1, U+0026 ('&'), is in no range"
         ]
     );
     assert_eq!(literal("&lt;\\u{b}").0, ADMITTED);

@@ -1,0 +1,16 @@
+//! What the tool says to a designer: each message with its exact text, and the exit status with it.
+
+mod by_map;
+mod description;
+mod desk;
+mod dump_by_map;
+mod files;
+mod limits;
+mod lint;
+mod names;
+mod positions;
+mod streams;
+mod typing;
+mod usage;
+mod value;
+mod walk;
