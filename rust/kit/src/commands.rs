@@ -8,6 +8,7 @@ mod explain;
 mod lint;
 mod loaded;
 mod new;
+mod output;
 mod render;
 mod repack;
 mod size;

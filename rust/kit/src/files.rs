@@ -146,6 +146,7 @@ impl Waiting {
             .create_new(true)
             .open(&beside);
         let mut opened = opened.map_err(|error| unwritable(file, &error))?;
+        keep_permissions(&place, &opened);
         let file = file.to_path_buf();
         let waiting = Beside {
             file,
@@ -173,6 +174,13 @@ impl Drop for Waiting {
         for waiting in &self.files {
             let _ = fs::remove_file(&waiting.beside);
         }
+    }
+}
+
+/// A file that takes the place of another may be read by whom that one was read by.
+fn keep_permissions(place: &Path, opened: &File) {
+    if let Ok(old) = fs::metadata(place) {
+        let _ = opened.set_permissions(old.permissions());
     }
 }
 

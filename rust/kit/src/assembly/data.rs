@@ -10,6 +10,7 @@ use crate::mistake::Mistake;
 use crate::reasons::characters::is_lexeme;
 use crate::reasons::classes::{classes, Class};
 use crate::reasons::due::text_lines;
+use crate::reasons::paper::{headline, Why};
 use crate::streams::record::Record;
 use crate::words::{named, shown};
 use feed::Refusal;
@@ -81,7 +82,7 @@ impl<'a> Reader<'a> {
         if let Some(&Class::Plain { head, ranges }) = self.classes.get(usize::from(number)) {
             if !is_lexeme(text.as_bytes(), head, ranges) {
                 let refusal = Refusal::ValueType { record: 0 };
-                let message = format!("{} (refusal {})", refusal.rule(), refusal.number());
+                let message = headline(refusal, Why::Number);
                 let class = format!("class {}", named(class));
                 let lines = text_lines(&class, head, ranges, Some(text.as_bytes()));
                 return self.mistake(json, message, lines);

@@ -6,7 +6,7 @@ use crate::assembly::sheet::{Origin, What};
 use crate::mistake::{Mistake, Position};
 use crate::reasons::explain::{Lent, Set};
 use crate::reasons::names::Names;
-use crate::reasons::paper::quotes;
+use crate::reasons::paper::{headline, quotes};
 use crate::reasons::remarks::{told, Records};
 use crate::reasons::room::walked;
 use crate::streams::layout::lines;
@@ -114,7 +114,7 @@ impl<'a> Refused<'a> {
         remarks.extend(walk);
         let rules = quotes(refusal, told.why);
         remarks.extend(rules.iter().map(|rule| format!("rule: \"{rule}\"")));
-        let message = format!("{} (refusal {})", refusal.rule(), refusal.number());
+        let message = headline(refusal, told.why);
         let Some((source, at)) = place else {
             let remarks: String = remarks.iter().map(|it| format!("  = {it}\n")).collect();
             let name = &self.loaded.source.name;

@@ -13,8 +13,8 @@ pub struct Command {
     pub name: &'static str,
     /// Its operands, those that may be left out in brackets.
     pub operands: &'static [&'static str],
-    /// Whether it evaluates, and so takes what is lent as options.
-    pub evaluates: bool,
+    /// Its options.
+    pub options: &'static [Flag],
     /// What it does, in a line.
     pub summary: &'static str,
     /// What more there is to know.
@@ -22,12 +22,49 @@ pub struct Command {
     run: fn(&Words) -> Step<Done>,
 }
 
+/// An option of a command.
+pub struct Flag {
+    /// Its name.
+    pub name: &'static str,
+    /// What stands behind it.
+    pub value: &'static str,
+    /// What it says.
+    pub says: &'static str,
+}
+
+/// What an evaluation is lent, behind the file that its text is written to.
+const TO_AND_LENT: &[Flag] = &[
+    Flag {
+        name: "--to",
+        value: "OUT",
+        says: "the file that the text is written to, if there is one",
+    },
+    Flag {
+        name: "--fuel",
+        value: "N",
+        says: "the most nodes visited (1000000)",
+    },
+    Flag {
+        name: "--output",
+        value: "N",
+        says: "the bytes of the output (65536)",
+    },
+    Flag {
+        name: "--scratch",
+        value: "N",
+        says: "the 16-bit numbers of the scratch (4800)",
+    },
+];
+
+/// What an evaluation is lent.
+const LENT: &[Flag] = TO_AND_LENT.split_at(1).1;
+
 /// All commands, in the order in which a designer meets them.
 pub const COMMANDS: [Command; 10] = [
     Command {
         name: "new",
         operands: &["DIR"],
-        evaluates: false,
+        options: &[],
         summary: "make a folder with a small feed to start from",
         page: "\
 Makes DIR with feed.txt, the description of a small RSS feed, and data.json, its data.
@@ -38,7 +75,7 @@ docs/TUTORIAL.md goes on from there. A folder that has one of these files stays 
     Command {
         name: "check",
         operands: &["FILE", "[DATA.json]"],
-        evaluates: true,
+        options: LENT,
         summary: "say what is wrong with a description, and where",
         page: "\
 Reads the description in FILE, assembles it and asks the proved library. All mistakes of the
@@ -50,18 +87,19 @@ rule that failed. With DATA.json, or if the description has a value, it is evalu
     Command {
         name: "render",
         operands: &["FILE", "[DATA.json]"],
-        evaluates: true,
+        options: TO_AND_LENT,
         summary: "print the text of a description and its data",
         page: "\
 Prints the text that the description in FILE gives for the data in DATA.json or, without
 DATA.json, for the value that the description has. What is refused is shown as by kit check.
+With --to the text is written to a file, whole or not at all: `> FILE` empties it first.
 ",
         run: render::run,
     },
     Command {
         name: "size",
         operands: &["FILE", "[DATA.json]"],
-        evaluates: true,
+        options: LENT,
         summary: "say how full each stream is, and how many more items fit",
         page: "\
 A stream holds 8,064 records in 128 blocks. Says how many the grammar, the templates and the
@@ -74,7 +112,7 @@ full then: the value stream, the output or the fuel.
     Command {
         name: "lint",
         operands: &["FILE"],
-        evaluates: false,
+        options: &[],
         summary: "say what is allowed, but most likely not meant",
         page: "\
 Warns of a plain class that admits & or < and stands between keywords of markup, of a class
@@ -86,7 +124,7 @@ for whose body writes nothing. Exit status 1 if there is a warning.
     Command {
         name: "value",
         operands: &["FILE", "DATA.json", "OUT.blk"],
-        evaluates: false,
+        options: &[],
         summary: "make a value stream from JSON",
         page: "\
 Makes the value stream of the data in DATA.json, by the type that the description in FILE
@@ -99,7 +137,7 @@ data, as episodes[3].title.
     Command {
         name: "assemble",
         operands: &["FILE", "DIR"],
-        evaluates: false,
+        options: &[],
         summary: "make the streams of a description, and their map",
         page: "\
 Makes grammar.blk and template.blk in DIR from the description in FILE (rust/kit/FORMAT.md),
@@ -111,7 +149,7 @@ and column that it comes from, and its names. Files are written all or none.
     Command {
         name: "explain",
         operands: &["DIR"],
-        evaluates: true,
+        options: LENT,
         summary: "check and evaluate the streams in a folder, and explain what is refused",
         page: "\
 Asks the proved library about grammar.blk, template.blk and value.blk in DIR, and shows what is
@@ -123,7 +161,7 @@ are those of the description; without it things are called by their numbers.
     Command {
         name: "dump",
         operands: &["FILE.blk"],
-        evaluates: false,
+        options: &[],
         summary: "print a stream record by record",
         page: "\
 Prints the records of a stream, damaged or not, and marks what is damaged or odd. With a map.json
@@ -134,7 +172,7 @@ beside it that fits the stream, names and places of the description stand with t
     Command {
         name: "repack",
         operands: &["FILE.blk or DIR"],
-        evaluates: false,
+        options: &[],
         summary: "give streams with checks of the old kind those of now",
         page: "\
 Packs a stream, or the three streams of a folder, anew in its place, if its checks are of the
@@ -144,36 +182,25 @@ kind from before request b. A stream that is damaged stays as it is, and so do t
     },
 ];
 
-const OPTIONS: &str = "  --fuel N      the most nodes visited (1000000)
-  --output N    the bytes of the output (65536)
-  --scratch N   the 16-bit numbers of the scratch (4800)
-";
-
 const STATUS: &str = "\
 Exit status: 0 done; 1 refused; 2 bad use, or a file that can't be read or written.
 ";
 
 impl Command {
-    /// The options that it takes.
-    pub fn options(&self) -> &'static [&'static str] {
-        match self.evaluates {
-            true => &["--fuel", "--output", "--scratch"],
-            false => &[],
-        }
-    }
-
     /// How it is called.
     pub fn usage(&self) -> String {
-        let options = match self.evaluates {
-            true => " [--fuel N] [--output N] [--scratch N]",
-            false => "",
-        };
+        let flag = |flag: &Flag| format!(" [{} {}]", flag.name, flag.value);
+        let options: String = self.options.iter().map(flag).collect();
         format!("kit {} {}{options}", self.name, self.operands.join(" "))
     }
 
     fn help(&self) -> String {
-        let options = if self.evaluates { OPTIONS } else { "" };
-        let gap = if self.evaluates { "\n" } else { "" };
+        let flag = |flag: &Flag| {
+            let call = format!("{} {}", flag.name, flag.value);
+            format!("  {call:<14}{}\n", flag.says)
+        };
+        let options: String = self.options.iter().map(flag).collect();
+        let gap = if self.options.is_empty() { "" } else { "\n" };
         format!(
             "{}\n{}\n\n{}{gap}{options}\n{STATUS}",
             self.usage(),

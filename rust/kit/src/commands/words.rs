@@ -19,6 +19,8 @@ pub struct Words {
     operands: Vec<PathBuf>,
     /// What evaluate is lent.
     pub lent: Lent,
+    /// The file that the text is written to.
+    pub to: Option<PathBuf>,
     /// Whether the command's page is asked for.
     pub help: bool,
 }
@@ -32,6 +34,7 @@ impl Words {
         let mut found = Self {
             operands: Vec::new(),
             lent: Lent::default(),
+            to: None,
             help: false,
         };
         let mut words = words.iter();
@@ -86,14 +89,19 @@ impl Words {
             self.help = true;
             return Ok(());
         }
-        if !command.options().contains(&option) {
-            let near = meant(option, command.options().iter().copied(), 0);
+        let flags = command.options.iter().map(|flag| flag.name);
+        if !flags.clone().any(|flag| flag == option) {
+            let near = meant(option, flags, 0);
             let message = format!("there is no option {}{near}", named(option));
             return Err(bad_use(command, &message));
         }
-        let number = words.next().map(OsString::as_os_str);
-        let counted = |most| counted(command, option, number, most);
+        let Some(word) = words.next() else {
+            let message = format!("{option} has nothing behind it");
+            return Err(bad_use(command, &message));
+        };
+        let counted = |most| counted(command, option, word, most);
         match option {
+            "--to" => self.to = Some(PathBuf::from(word)),
             "--fuel" => self.lent.fuel = counted(u64::from(u32::MAX))? as u32,
             "--output" => self.lent.output = counted(MOST_LENT as u64)? as usize,
             _ => self.lent.scratch = counted(MOST_LENT as u64)? as usize,
@@ -106,13 +114,9 @@ impl Words {
 fn counted<N: FromStr + PartialOrd + Display>(
     command: &Command,
     option: &str,
-    number: Option<&OsStr>,
+    number: &OsStr,
     most: N,
 ) -> Step<N> {
-    let Some(number) = number else {
-        let message = format!("{option} has no number behind it");
-        return Err(bad_use(command, &message));
-    };
     let parsed = number.to_str().and_then(|digits| digits.parse().ok());
     parsed.filter(|count| *count <= most).ok_or_else(|| {
         let word = named(&number.to_string_lossy());

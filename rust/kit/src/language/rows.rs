@@ -163,24 +163,32 @@ pub fn meant<'a>(word: &str, known: impl Iterator<Item = &'a str>, before: usize
 /// The longest word for which a near one is looked for.
 const LONGEST_MISSPELT: usize = 40;
 
-/// How many letters are to be put in, left out or exchanged to come from one word to another, if these
-/// are few: two of five or more, one of a shorter word.
+/// How many letters are to be put in, left out, replaced or exchanged with their neighbour to come from
+/// one word to another, if these are few: two of five letters or more, one of a shorter word.
 fn distance(word: &str, other: &str) -> Option<usize> {
     let (word, other): (Vec<char>, Vec<char>) = (word.chars().collect(), other.chars().collect());
     let most = 2.min((word.len().min(other.len()) + 1) / 3);
     if word.len() > LONGEST_MISSPELT || word.len().abs_diff(other.len()) > most {
         return None;
     }
-    let mut row: Vec<usize> = (0..=other.len()).collect();
-    for (index, letter) in word.iter().enumerate() {
-        let mut diagonal = std::mem::replace(&mut row[0], index + 1);
-        for (place, found) in other.iter().enumerate() {
-            let exchanged = diagonal + usize::from(letter != found);
-            diagonal = row[place + 1];
-            row[place + 1] = exchanged.min(row[place] + 1).min(diagonal + 1);
+    let first: Vec<usize> = (0..=other.len()).collect();
+    let mut rows = vec![first];
+    for i in 1..=word.len() {
+        let mut row = vec![i];
+        for j in 1..=other.len() {
+            let replaced = rows[i - 1][j - 1] + usize::from(word[i - 1] != other[j - 1]);
+            let shorter = row[j - 1].min(rows[i - 1][j]) + 1;
+            let turned = i > 1 && j > 1 && word[i - 2..i] == [other[j - 1], other[j - 2]];
+            let exchanged = if turned {
+                rows[i - 2][j - 2] + 1
+            } else {
+                replaced
+            };
+            row.push(replaced.min(shorter).min(exchanged));
         }
+        rows.push(row);
     }
-    Some(row[other.len()]).filter(|&far| far <= most)
+    Some(rows[word.len()][other.len()]).filter(|&far| far <= most)
 }
 
 #[cfg(test)]
@@ -196,6 +204,7 @@ mod tests {
         assert_eq!(offer("episodes"), ": did you mean `episode`?");
         assert_eq!(offer("sound"), "");
         assert_eq!(offer("date"), "");
+        assert_eq!(offer("noet"), ": did you mean `note`?");
         assert_eq!(offer("x"), "");
         assert_eq!(meant("titel", known.into_iter(), MOST_OFFERED), "");
     }

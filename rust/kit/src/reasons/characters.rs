@@ -18,15 +18,23 @@ pub fn characters_due(head: Record, ranges: &[Record]) -> String {
 }
 
 /// What a text has that its class may not take.
-pub fn text_found(bytes: &[u8], ranges: &[Record]) -> String {
+pub fn text_found(bytes: &[u8], head: Record, ranges: &[Record]) -> String {
     let Ok(text) = std::str::from_utf8(bytes) else {
         return "this text is no well-formed UTF-8".to_string();
     };
-    let count = counted(text.chars().count(), "character", "characters");
-    match unfit(text, ranges) {
-        Some(unfit) => format!("this text has {count}, and {unfit}"),
-        None => format!("this text has {count}"),
-    }
+    let count = text.chars().count();
+    let has = format!(
+        "this text has {}",
+        counted(count, "character", "characters")
+    );
+    let (least, most) = (usize::from(head.b()), usize::from(head.c()));
+    let amount = match count {
+        few if few < least => format!(", {} too few", least - few),
+        many if many > most => format!(", {} too many", many - most),
+        _ => String::new(),
+    };
+    let unfit = unfit(text, ranges).map_or_else(String::new, |unfit| format!(", and {unfit}"));
+    format!("{has}{amount}{unfit}")
 }
 
 /// Whether a text is a lexeme of a plain class.
@@ -228,8 +236,14 @@ mod tests {
     #[test]
     fn counts_and_bytes_are_said_as_ever() {
         let lines = said("a&b", r"abcd\u{b}", 8);
-        assert_eq!(lines[2], nowhere(5, "5, U+000B (vertical tab)"));
-        assert_eq!(said("a&b", "", 8)[2], "this text has 0 characters");
+        assert_eq!(
+            lines[2],
+            nowhere(5, "5, U+000B (vertical tab)").replace(", and", ", 1 too many, and")
+        );
+        assert_eq!(
+            said("a&b", "", 8)[2],
+            "this text has 0 characters, 1 too few"
+        );
         assert_eq!(
             said("a&b", r"\u{b}\xFF", 8)[2],
             "this text is no well-formed UTF-8"

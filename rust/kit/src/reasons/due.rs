@@ -136,7 +136,7 @@ pub fn text_lines(
 ) -> Vec<String> {
     let due = characters_due(head, ranges);
     let mut found = vec![format!("a text of {class} is due here: {due}")];
-    found.extend(bytes.map(|bytes| text_found(bytes, ranges)));
+    found.extend(bytes.map(|bytes| text_found(bytes, head, ranges)));
     found
 }
 
@@ -168,11 +168,11 @@ mod tests {
     fn a_text_that_is_no_lexeme() {
         assert_eq!(
             said("\"cd\"", "\"αβγδε\""),
-            ["at `1[1]`", CLASS, "this text has 5 characters"]
+            ["at `1[1]`", CLASS, "this text has 5 characters, 1 too many"]
         );
         assert_eq!(
             said("\"ef\"", "\"\""),
-            ["at `2.0`", CLASS, "this text has 0 characters"]
+            ["at `2.0`", CLASS, "this text has 0 characters, 1 too few"]
         );
         assert_eq!(
             said("\"cd\"", "\"cD\"")[2],
@@ -242,7 +242,7 @@ mod tests {
             [
                 "at `words[1]`",
                 "a text of class `word` is due here: 1 to 4 characters of U+0061-U+007A U+0370-U+03FF",
-                "this text has 0 characters"
+                "this text has 0 characters, 1 too few"
             ]
         );
         assert_eq!(said_by_name("\"ef\"", "no")[0], "at `last.word`");

@@ -263,7 +263,11 @@ mod tests {
         let due = "due are 1 to 4 characters of U+0020-U+007E U+0370-U+03FF";
         assert_eq!(
             said_of_literal(r#""&amp;&amp;&amp;&amp;&lt;""#),
-            ["it stands for \"&&&&<\"", due, "this text has 5 characters"]
+            [
+                "it stands for \"&&&&<\"",
+                due,
+                "this text has 5 characters, 1 too many"
+            ]
         );
         assert_eq!(
             said_of_literal(r#""&amp;é""#),
@@ -306,7 +310,7 @@ mod tests {
             [
                 "this is the whole value",
                 "a text of class 0 is due here: 1 to 4 characters of U+0020-U+007E U+0370-U+03FF",
-                "this text has 5 characters"
+                "this text has 5 characters, 1 too many"
             ]
         );
     }

@@ -32,6 +32,19 @@ pub fn quotes(refusal: Refusal, why: Why) -> Vec<&'static str> {
     found
 }
 
+/// A refusal in a few words; of 7 the half that it is about.
+pub fn headline(refusal: Refusal, why: Why) -> String {
+    let rule = match (refusal, why) {
+        (Refusal::Typing { node: 0 }, _) => refusal.rule(),
+        (Refusal::Typing { .. }, Why::Rule(TYPING)) => {
+            "a path names a variable or field that isn't there"
+        }
+        (Refusal::Typing { .. }, Why::Rule(_)) => "a typing rule fails",
+        _ => refusal.rule(),
+    };
+    format!("{rule} (refusal {})", refusal.number())
+}
+
 /// A refusal's line in the list of what stops a run.
 fn what_stops(refusal: Refusal) -> &'static str {
     match refusal {

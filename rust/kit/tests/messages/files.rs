@@ -3,7 +3,7 @@
 
 use super::desk::{changed, desk, desk_with, Desk, Said, PAGE};
 use std::fs;
-use std::os::unix::fs::symlink;
+use std::os::unix::fs::{symlink, PermissionsExt};
 
 const DATA: &str = "{\"title\": \"ab\", \"entries\": []}";
 
@@ -254,4 +254,38 @@ usage: kit value FILE DATA.json OUT.blk
     );
     assert_eq!(desk.read("data.json"), DATA.as_bytes());
     assert_eq!(value_into(&desk, "feed.txt").status, Some(2));
+}
+
+#[test]
+fn a_text_in_a_file() {
+    let page = page();
+    let words = ["render", "feed.txt", "data.json", "--to", "page.xml"];
+    page.kit(&words).done("page.xml: 5 bytes\n");
+    let text = page.read("page.xml");
+    assert_eq!(text, page.kit(&words[..3]).out.as_bytes());
+    let page = page.with("data.json", "{}");
+    assert_eq!(page.kit(&words).status, Some(1));
+    assert_eq!(page.read("page.xml"), text);
+}
+
+#[test]
+fn a_text_never_takes_the_place_of_what_it_comes_from() {
+    page()
+        .kit(&["render", "feed.txt", "data.json", "--to", "./data.json"])
+        .failed(
+            "kit render: --to is `./data.json`, which is read here\n\
+             usage: kit render FILE [DATA.json] [--to OUT] [--fuel N] [--output N] [--scratch N]\n\
+             `kit render --help` says more\n",
+        );
+}
+
+/// A file that is replaced may be read by whom it was read by.
+#[test]
+fn permissions_stay() {
+    let page = page().with("value.blk", "old");
+    let of = |mode| fs::Permissions::from_mode(mode);
+    fs::set_permissions(page.path("value.blk"), of(0o640)).expect("permissions");
+    assert_eq!(value_into(&page, "value.blk").status, Some(0));
+    let found = fs::metadata(page.path("value.blk")).expect("a file");
+    assert_eq!(found.permissions().mode() & 0o777, 0o640);
 }

@@ -10,7 +10,7 @@ fn check(from: &str, to: &str) -> Said {
 #[test]
 fn a_list_where_a_text_is_due() {
     check("place page.title", "place page.entries").refused(r#"
-feed.txt:16:5: a typing rule fails, or a path names a variable or field that isn't there (refusal 7)
+feed.txt:16:5: a typing rule fails (refusal 7)
         place page.entries
         ^
   = class `word` is asked for here, by element 2 of production `page` (child 1)
@@ -23,7 +23,7 @@ feed.txt:16:5: a typing rule fails, or a path names a variable or field that isn
 fn a_text_of_another_class() {
     let class = "class other 1 to 8 { 'a'-'z' }\ntype other = text other\ntype page = record { title: other";
     check("type page = record { title: word", class).refused(r#"
-feed.txt:18:5: a typing rule fails, or a path names a variable or field that isn't there (refusal 7)
+feed.txt:18:5: a typing rule fails (refusal 7)
         place page.title
         ^
   = class `word` is asked for here, by element 2 of production `page` (child 1)
@@ -35,7 +35,7 @@ feed.txt:18:5: a typing rule fails, or a path names a variable or field that isn
 #[test]
 fn a_literal_that_is_no_lexeme() {
     check("place page.title", "literal \"Ab\"").refused(r#"
-feed.txt:16:5: a typing rule fails, or a path names a variable or field that isn't there (refusal 7)
+feed.txt:16:5: a typing rule fails (refusal 7)
         literal "Ab"
         ^
   = class `word` is asked for here, by element 2 of production `page` (child 1): 1 to 8 characters of U+0061-U+007A U+0370-U+03FF
@@ -47,11 +47,11 @@ feed.txt:16:5: a typing rule fails, or a path names a variable or field that isn
 #[test]
 fn a_literal_that_is_too_long() {
     check("place page.title", "literal \"ελευθερία\"").refused(r#"
-feed.txt:16:5: a typing rule fails, or a path names a variable or field that isn't there (refusal 7)
+feed.txt:16:5: a typing rule fails (refusal 7)
         literal "ελευθερία"
         ^
   = class `word` is asked for here, by element 2 of production `page` (child 1): 1 to 8 characters of U+0061-U+007A U+0370-U+03FF
-  = this text has 9 characters
+  = this text has 9 characters, 1 too many
   = rule: "A lexeme of a class is well-formed UTF-8 (RFC 3629) with a character count from least to most, each character in some range. Counts are of characters, never bytes."
 "#);
 }
@@ -59,7 +59,7 @@ feed.txt:16:5: a typing rule fails, or a path names a variable or field that isn
 #[test]
 fn a_literal_that_xml_does_not_admit() {
     check("place page.title", "literal \"a\\u{b}\"").refused(r#"
-feed.txt:16:5: a typing rule fails, or a path names a variable or field that isn't there (refusal 7)
+feed.txt:16:5: a typing rule fails (refusal 7)
         literal "a\u{b}"
         ^
   = class `word` is asked for here, by element 2 of production `page` (child 1): 1 to 8 characters of U+0061-U+007A U+0370-U+03FF
@@ -75,7 +75,7 @@ fn a_literal_that_is_not_escaped() {
         "build note (literal \"a&b\")",
     )
     .refused(r#"
-feed.txt:22:34: a typing rule fails, or a path names a variable or field that isn't there (refusal 7)
+feed.txt:22:34: a typing rule fails (refusal 7)
       if entry.loud then build note (literal "a&b") else build entry (place entry.word)
                                      ^
   = class `safe`, the escaped form of class `word`, is asked for here, by element 2 of production `note` (child 1)
@@ -88,7 +88,7 @@ feed.txt:22:34: a typing rule fails, or a path names a variable or field that is
 #[test]
 fn a_build_where_a_class_is_asked_for() {
     check("place page.title", "build note (place page.title)").refused(r#"
-feed.txt:16:5: a typing rule fails, or a path names a variable or field that isn't there (refusal 7)
+feed.txt:16:5: a typing rule fails (refusal 7)
         build note (place page.title)
         ^
   = class `word` is asked for here, by element 2 of production `page` (child 1)
@@ -100,7 +100,7 @@ feed.txt:16:5: a typing rule fails, or a path names a variable or field that isn
 #[test]
 fn a_build_of_another_nonterminal() {
     check("then build note", "then build page").refused(r#"
-feed.txt:22:22: a typing rule fails, or a path names a variable or field that isn't there (refusal 7)
+feed.txt:22:22: a typing rule fails (refusal 7)
       if entry.loud then build page (place entry.word) else build entry (place entry.word)
                          ^
   = nonterminal `item` is asked for here, as the first branch of the if
@@ -113,7 +113,7 @@ feed.txt:22:22: a typing rule fails, or a path names a variable or field that is
 #[test]
 fn a_build_with_too_few_children() {
     check("build note (place entry.word)", "build note ()").refused(r#"
-feed.txt:22:22: a typing rule fails, or a path names a variable or field that isn't there (refusal 7)
+feed.txt:22:22: a typing rule fails (refusal 7)
       if entry.loud then build note () else build entry (place entry.word)
                          ^
   = production `note` has 1 element that is no keyword, and none stands here
@@ -125,7 +125,7 @@ feed.txt:22:22: a typing rule fails, or a path names a variable or field that is
 #[test]
 fn an_expand_of_another_nonterminal() {
     check("expand line (entry)", "expand main (page)").refused(r#"
-feed.txt:18:36: a typing rule fails, or a path names a variable or field that isn't there (refusal 7)
+feed.txt:18:36: a typing rule fails (refusal 7)
           for entry in page.entries do expand main (page)
                                        ^
   = nonterminal `item` is asked for here, as the body of the for
@@ -138,7 +138,7 @@ feed.txt:18:36: a typing rule fails, or a path names a variable or field that is
 #[test]
 fn an_expand_without_its_path() {
     check("expand line (entry)", "expand line ()").refused(r#"
-feed.txt:18:36: a typing rule fails, or a path names a variable or field that isn't there (refusal 7)
+feed.txt:18:36: a typing rule fails (refusal 7)
           for entry in page.entries do expand line ()
                                        ^
   = template `line` takes 1 path (`entry`: type `entry`), and none stands here
@@ -149,7 +149,7 @@ feed.txt:18:36: a typing rule fails, or a path names a variable or field that is
 #[test]
 fn an_expand_with_a_path_of_another_type() {
     check("expand line (entry)", "expand line (page)").refused(r#"
-feed.txt:18:36: a typing rule fails, or a path names a variable or field that isn't there (refusal 7)
+feed.txt:18:36: a typing rule fails (refusal 7)
           for entry in page.entries do expand line (page)
                                        ^
   = path 1 finds type `page`, and parameter `entry` of template `line` is of type `entry`
@@ -160,7 +160,7 @@ feed.txt:18:36: a typing rule fails, or a path names a variable or field that is
 #[test]
 fn an_if_on_a_text() {
     check("if entry.loud", "if entry.word").refused(r#"
-feed.txt:22:3: a typing rule fails, or a path names a variable or field that isn't there (refusal 7)
+feed.txt:22:3: a typing rule fails (refusal 7)
       if entry.word then build note (place entry.word) else build entry (place entry.word)
       ^
   = an if asks for yes or no, and the path `entry.word` finds a text of class `word`
@@ -171,7 +171,7 @@ feed.txt:22:3: a typing rule fails, or a path names a variable or field that isn
 #[test]
 fn a_for_over_a_record() {
     check("in page.entries do", "in page do").refused(r#"
-feed.txt:18:7: a typing rule fails, or a path names a variable or field that isn't there (refusal 7)
+feed.txt:18:7: a typing rule fails (refusal 7)
           for entry in page do expand line (entry)
           ^
   = a for goes over a list, and the path `page` finds a record (type `page`)
@@ -182,7 +182,7 @@ feed.txt:18:7: a typing rule fails, or a path names a variable or field that isn
 #[test]
 fn a_for_that_is_no_item_of_a_sequence() {
     check("build page (", "for i in page.entries do build page (").refused(r#"
-feed.txt:15:3: a typing rule fails, or a path names a variable or field that isn't there (refusal 7)
+feed.txt:15:3: a typing rule fails (refusal 7)
       for i in page.entries do build page (
       ^
   = nonterminal `page` is asked for here, as the body of template `main`
@@ -194,7 +194,7 @@ feed.txt:15:3: a typing rule fails, or a path names a variable or field that isn
 #[test]
 fn a_build_where_a_repetition_is_asked_for() {
     check("sequence (", "build entry (").refused(r#"
-feed.txt:17:5: a typing rule fails, or a path names a variable or field that isn't there (refusal 7)
+feed.txt:17:5: a typing rule fails (refusal 7)
         build entry (
         ^
   = a repetition of nonterminal `item` is asked for here, by element 4 of production `page` (child 2)
@@ -206,7 +206,7 @@ feed.txt:17:5: a typing rule fails, or a path names a variable or field that isn
 #[test]
 fn a_field_that_is_not_there() {
     check("place page.title", "place page.7").refused(r#"
-feed.txt:16:5: a typing rule fails, or a path names a variable or field that isn't there (refusal 7)
+feed.txt:16:5: a path names a variable or field that isn't there (refusal 7)
         place page.7
         ^
   = type `page` has no field 7: it has `title`, `entries`
@@ -217,7 +217,7 @@ feed.txt:16:5: a typing rule fails, or a path names a variable or field that isn
 #[test]
 fn a_variable_that_is_not_there() {
     check("place page.title", "place 3").refused(r#"
-feed.txt:16:5: a typing rule fails, or a path names a variable or field that isn't there (refusal 7)
+feed.txt:16:5: a path names a variable or field that isn't there (refusal 7)
         place 3
         ^
   = variable 3 isn't there: 1 variable is known here: `page`

@@ -112,7 +112,7 @@ usage: kit lint FILE
 fn an_option_without_its_number() {
     kit(&["explain", "set", "--fuel"]).failed(
         r#"
-kit explain: --fuel has no number behind it
+kit explain: --fuel has nothing behind it
 usage: kit explain DIR [--fuel N] [--output N] [--scratch N]
 `kit explain --help` says more
 "#,
@@ -132,7 +132,7 @@ fn an_option_with_another_number() {
     kit(&["render", "feed.txt", "--output", "1073741825"]).failed(
         r#"
 kit render: --output takes a number from 0 to 1073741824, not `1073741825`
-usage: kit render FILE [DATA.json] [--fuel N] [--output N] [--scratch N]
+usage: kit render FILE [DATA.json] [--to OUT] [--fuel N] [--output N] [--scratch N]
 `kit render --help` says more
 "#,
     );

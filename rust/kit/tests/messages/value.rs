@@ -92,7 +92,7 @@ data.json:4:15: `entries[0].word`: the value isn't of its declared type (refusal
         { "word": "", "loud": "yes" },
                   ^
   = a text of class `word` is due here: 1 to 8 characters of U+0061-U+007A U+0370-U+03FF
-  = this text has 0 characters
+  = this text has 0 characters, 1 too few
 data.json:4:27: `entries[0].loud`: true or false is due here, not a text
         { "word": "", "loud": "yes" },
                               ^

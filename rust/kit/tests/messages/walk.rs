@@ -231,7 +231,7 @@ fn a_description_without_a_value() {
     desk.kit(&["render", "feed.txt"]).failed(
         r#"
 kit render: feed.txt has no value, and DATA.json is missing
-usage: kit render FILE [DATA.json] [--fuel N] [--output N] [--scratch N]
+usage: kit render FILE [DATA.json] [--to OUT] [--fuel N] [--output N] [--scratch N]
 `kit render --help` says more
 "#,
     );

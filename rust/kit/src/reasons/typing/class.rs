@@ -69,7 +69,7 @@ impl Here<'_> {
             rule: lexeme_rule(&text),
             said: vec![
                 format!("{}: {due}", self.class_asked(number)),
-                text_found(&text, ranges),
+                text_found(&text, head, ranges),
             ],
         })
     }
@@ -86,7 +86,7 @@ impl Here<'_> {
             (Some(plain), _) => {
                 said.push(format!("it stands for {}", cut(&quoted(&plain), WIDEST)));
                 said.push(format!("due are {}", characters_due(head, ranges)));
-                said.push(text_found(&plain, ranges));
+                said.push(text_found(&plain, head, ranges));
                 lexeme_rule(&plain)
             }
             (None, Ok(text)) => {
@@ -94,7 +94,7 @@ impl Here<'_> {
                 ESCAPED
             }
             (None, Err(_)) => {
-                said.push(text_found(&text, ranges));
+                said.push(text_found(&text, head, ranges));
                 LEXEME
             }
         };

@@ -23,7 +23,7 @@ fn a_literal_that_is_no_lexeme() {
     let (rule, said, _) = failing("place channel.title", "literal \"abcde\"");
     assert_eq!(
         (rule, said[1].as_str()),
-        (LEXEME, "this text has 5 characters")
+        (LEXEME, "this text has 5 characters, 1 too many")
     );
     let (rule, ..) = failing("place channel.title", "literal \"\\xFF\"");
     assert_eq!(rule, LEXEME);
