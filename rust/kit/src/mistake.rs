@@ -56,6 +56,9 @@ impl std::error::Error for Mistake {}
 /// The most mistakes that are shown at once.
 const MOST_SHOWN: usize = 20;
 
+/// When so many mistakes are found in data, no more are looked for: each item may lack very many keys.
+pub const MOST_FOUND: usize = 1000;
+
 /// A text with the name of its file, for showing what is wrong with it.
 pub struct Source<'a> {
     name: String,
@@ -86,7 +89,11 @@ impl<'a> Source<'a> {
         }
         if mistakes.len() > MOST_SHOWN {
             let more = mistakes.len() - MOST_SHOWN;
-            text.push_str(&format!("{}: and {more} more\n", self.name));
+            let least = match mistakes.len() < MOST_FOUND {
+                true => "",
+                false => "at least ",
+            };
+            text.push_str(&format!("{}: and {least}{more} more\n", self.name));
         }
         text
     }
@@ -157,6 +164,8 @@ mod tests {
         assert!(source.shown(&[at(2), at(1)]).starts_with("f:1:1: wrong\n"));
         let many: Vec<Mistake> = (1..=30).map(at).collect();
         assert!(source.shown(&many).ends_with("f: and 10 more\n"));
+        let many: Vec<Mistake> = (1..=MOST_FOUND).map(at).collect();
+        assert!(source.shown(&many).ends_with("f: and at least 980 more\n"));
     }
 
     #[test]

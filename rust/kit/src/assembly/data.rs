@@ -6,12 +6,12 @@ use crate::assembly::sheet::{word, Sheet};
 use crate::json::{Form, Json, Key};
 use crate::language::description::{Description, Field, TypeForm};
 use crate::language::rows::{meant, Rows};
-use crate::mistake::Mistake;
+use crate::mistake::{Mistake, MOST_FOUND};
 use crate::reasons::characters::is_lexeme;
 use crate::reasons::classes::{classes, Class};
 use crate::reasons::due::text_lines;
 use crate::reasons::paper::{headline, Why};
-use crate::streams::record::Record;
+use crate::streams::record::{Record, STREAM_RECORDS};
 use crate::words::{named, shown};
 use feed::Refusal;
 use std::collections::{HashMap, HashSet};
@@ -51,6 +51,9 @@ struct Reader<'a> {
 
 impl<'a> Reader<'a> {
     fn value(&mut self, json: &Json, of: u16) {
+        if self.mistakes.len() >= MOST_FOUND {
+            return;
+        }
         let Some((name, form)) = self.rows.forms.get(usize::from(of)) else {
             return;
         };
@@ -77,21 +80,28 @@ impl<'a> Reader<'a> {
             let message = format!("{length} bytes of text are more than a record counts");
             return self.mistake(json, message, Vec::new());
         }
-        let number = self.rows.classes.get(class).copied().unwrap_or_default();
-        // An escaped class here is refused by the check, whatever the text is.
-        if let Some(&Class::Plain { head, ranges }) = self.classes.get(usize::from(number)) {
-            if !is_lexeme(text.as_bytes(), head, ranges) {
-                let refusal = Refusal::ValueType { record: 0 };
-                let message = headline(refusal, Why::Number);
-                let class = format!("class {}", named(class));
-                let lines = text_lines(&class, head, ranges, Some(text.as_bytes()));
-                return self.mistake(json, message, lines);
-            }
+        // Past what a stream holds the data is refused anyway, and to judge all of it may take long.
+        if self.sheet.records.len() <= STREAM_RECORDS {
+            self.judge(json, class, text);
         }
         let head = Record::new(1, 0, [word(length), 0, 0]);
         let head = self.sheet.push(head, json.at);
         self.sheet.push_text(text.as_bytes(), json.at);
         self.sheet.close(head);
+    }
+
+    /// A text must be a lexeme of its class. An escaped class is refused by the check, whatever the text is.
+    fn judge(&mut self, json: &Json, class: &str, text: &str) {
+        let number = self.rows.classes.get(class).copied().unwrap_or_default();
+        let Some(&Class::Plain { head, ranges }) = self.classes.get(usize::from(number)) else {
+            return;
+        };
+        if !is_lexeme(text.as_bytes(), head, ranges) {
+            let message = headline(Refusal::ValueType { record: 0 }, Why::Number);
+            let class = format!("class {}", named(class));
+            let lines = text_lines(&class, head, ranges, Some(text.as_bytes()));
+            self.mistake(json, message, lines);
+        }
     }
 
     fn list(&mut self, json: &Json, items: &[Json], of: u16) {
@@ -139,6 +149,9 @@ impl<'a> Reader<'a> {
             .iter()
             .filter(|(key, _)| !known.contains(key.word.as_str()))
         {
+            if self.mistakes.len() >= MOST_FOUND {
+                return;
+            }
             let near = meant(
                 &key.word,
                 fields.iter().map(|it| it.name.word.as_str()),
@@ -178,5 +191,47 @@ impl<'a> Reader<'a> {
         let message = format!("{}: {message}", self.path);
         self.mistakes
             .push(Mistake::new(json.at, message).with(remarks));
+    }
+}
+
+#[cfg(test)]
+mod tests {
+    use super::*;
+    use crate::assembly::assemble::end_of;
+    use crate::json::parse;
+
+    /// How many mistakes are found in data for a list of records with so many fields.
+    fn found(fields: usize, data: &str) -> usize {
+        let fields: String = (0..fields).map(|it| format!("f{it}: t ")).collect();
+        of_type(&format!("record {{ {fields} }}"), data)
+    }
+
+    /// How many mistakes are found in data for a list of a type.
+    fn of_type(form: &str, data: &str) -> usize {
+        let text = format!(
+            "class c 0 to 1 {{ }} production p of n = type t = yesno type r = {form} \
+             type l = list r template m (x: l) of n = build p"
+        );
+        let tree = crate::language::parser::parse(&text).expect("a tree");
+        let set = Assembled::of(&tree, end_of(&text)).expect("streams");
+        let json = parse(data.as_bytes()).expect("JSON");
+        value(&tree, &set, &json).map_or_else(|mistakes| mistakes.len(), |_| 0)
+    }
+
+    #[test]
+    fn mistakes_are_looked_for_up_to_very_many() {
+        assert_eq!(found(30, "[{}, {}, {}]"), 90);
+        let empty = format!("[{}{{}}]", "{},".repeat(100_000));
+        assert_eq!(found(300, &empty), 1200);
+        let keys: Vec<String> = (0..5000).map(|it| format!("\"g{it}\": 1")).collect();
+        assert_eq!(found(1, &format!("[{{ {} }}]", keys.join(","))), MOST_FOUND);
+    }
+
+    #[test]
+    fn texts_past_what_a_stream_holds_are_not_judged() {
+        let text = format!("\"{}\"", "b".repeat(60_000));
+        assert_eq!(of_type("text c", &format!("[{text}, {text}]")), 2);
+        let many = vec![text; 60].join(",");
+        assert_eq!(of_type("text c", &format!("[{many}]")), 2);
     }
 }

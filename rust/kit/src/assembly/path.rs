@@ -16,13 +16,13 @@ pub struct DataPath {
 pub struct Outside(usize);
 
 impl DataPath {
-    /// Steps into a field.
+    /// Steps into a field. No more of a very long name is kept than is shown.
     pub fn field(&mut self, name: &str) -> Outside {
         let outside = Outside(self.written.len());
         if !self.written.is_empty() {
             self.written.push('.');
         }
-        self.written.push_str(name);
+        self.written.extend(name.chars().take(WIDEST + 1));
         outside
     }
 
@@ -45,5 +45,31 @@ impl fmt::Display for DataPath {
             true => f.write_str("the whole data"),
             false => f.write_str(&shown(&self.written, WIDEST)),
         }
+    }
+}
+
+#[cfg(test)]
+mod tests {
+    use super::*;
+
+    #[test]
+    fn a_path_as_it_is_shown() {
+        let mut path = DataPath::default();
+        assert_eq!(path.to_string(), "the whole data");
+        path.field("episodes");
+        let item = path.item(3);
+        path.field("title");
+        assert_eq!(path.to_string(), "`episodes[3].title`");
+        path.leave(item);
+        assert_eq!(path.to_string(), "`episodes`");
+    }
+
+    #[test]
+    fn of_a_very_long_name_no_more_is_kept_than_is_shown() {
+        let (mut path, long) = (DataPath::default(), "é".repeat(1_000_000));
+        path.field(&long);
+        assert!(path.written.len() < 500);
+        let shown = format!("`{} ..`", "é".repeat(WIDEST));
+        assert_eq!(path.to_string(), shown);
     }
 }

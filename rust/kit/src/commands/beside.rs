@@ -1,10 +1,13 @@
 //! The map beside streams.
 
 use crate::assembly::map::{self, Map};
-use crate::files::{self, MOST_TEXT};
+use crate::files;
 use crate::streams::record::Kind;
 use crate::words::file_called;
 use std::path::Path;
+
+/// The most bytes of a map that are read: it repeats the names of a description in its every record.
+const MOST_MAP: usize = 64 << 20;
 
 /// The map in a folder if it fits these streams, and a note if it is there and can't be used.
 pub(super) fn map(folder: &Path, streams: &[(Kind, &[u8])]) -> (Option<Map>, String) {
@@ -17,7 +20,7 @@ pub(super) fn map(folder: &Path, streams: &[(Kind, &[u8])]) -> (Option<Map>, Str
         let note = format!("{name}: {why}, so things are called by their numbers\n");
         (None, note)
     };
-    let map = match files::read(&file, MOST_TEXT).map(|bytes| Map::read(&bytes)) {
+    let map = match files::read(&file, MOST_MAP).map(|bytes| Map::read(&bytes)) {
         Err(_) => return without("this can't be read".to_string()),
         Ok(Err(mistake)) => return without(format!("this is no map ({mistake})")),
         Ok(Ok(map)) => map,

@@ -4,7 +4,7 @@ use super::Assembler;
 use crate::assembly::sheet::{Sheet, What};
 use crate::language::description::{By, Path, Step, TypeForm};
 use crate::language::rows::meant;
-use crate::streams::record::Record;
+use crate::streams::record::{Record, STREAM_RECORDS};
 use crate::words::named;
 
 /// The number of a type, if it is known.
@@ -22,6 +22,11 @@ const MOST_FIELDS: usize = 5;
 impl Assembler<'_> {
     /// Adds a path's record, and gives the type that it finds, if that is known.
     pub(super) fn path(&mut self, path: &Path, scope: &Scope, sheet: &mut Sheet) -> Known {
+        // Past what a stream holds nothing is looked up any more: of very many names that takes long.
+        if sheet.records.len() > STREAM_RECORDS {
+            sheet.push(Record::new(6, 0, [0; 3]), path.variable.at);
+            return None;
+        }
         let (variable, mut known) = self.variable(&path.variable, scope);
         let steps = path.fields.len();
         if let Some(sixth) = path.fields.get(MOST_FIELDS) {
