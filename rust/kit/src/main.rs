@@ -9,8 +9,8 @@ use std::process::ExitCode;
 fn main() -> ExitCode {
     let words: Vec<OsString> = std::env::args_os().skip(1).collect();
     let done = kit::commands::run(&words);
-    let said = print(io::stderr(), done.err.as_bytes());
     let printed = print(io::stdout(), &done.out);
+    let said = print(io::stderr(), done.err.as_bytes());
     if let Err(error) = &printed {
         // If this can't be written either, the status still tells.
         let why = kit::files::cause(error);

@@ -19,7 +19,6 @@ pub mod position;
 pub mod productions;
 pub mod remarks;
 pub mod room;
-pub mod separator;
 pub mod tables;
 pub mod trace;
 pub mod types;

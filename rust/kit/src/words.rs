@@ -60,6 +60,16 @@ pub fn shown(piece: &str, most: usize) -> String {
     shown
 }
 
+/// The name of a field, in quotes if it is no plain name.
+pub fn key(word: &str) -> String {
+    let begins = |c: char| c.is_alphabetic() || c == '_';
+    let goes_on = |c: char| c.is_alphanumeric() || c == '_';
+    match word.starts_with(begins) && word.chars().all(goes_on) {
+        true => word.to_string(),
+        false => quoted(word.as_bytes()),
+    }
+}
+
 /// A name as a message shows it.
 pub fn named(word: &str) -> String {
     shown(word, WIDEST_WORD)

@@ -63,9 +63,9 @@ fn a_mistake_in_data() {
     );
 }
 
-/// The commands of a session in the page, run from the top of the repository, print what it shows.
+/// The commands that the page shows, run from the top of the repository, print what it shows.
 #[test]
-fn a_session() {
+fn commands_that_are_shown() {
     for command in fenced("$ kit check examples").split("$ kit ").skip(1) {
         let (line, shown) = command.split_once('\n').expect("a line");
         let words: Vec<&str> = line.split(' ').collect();

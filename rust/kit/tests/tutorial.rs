@@ -231,15 +231,15 @@ fn a_starter_has_room_beside_other_files() {
 fn the_readme_begins_with_lines_that_are_rendered() {
     let readme = text_of("README.md");
     let mut parts = readme.split("```\n").skip(1).step_by(2);
-    let (lines, session) = (
+    let (lines, shown) = (
         parts.next().expect("lines"),
-        parts.next().expect("a session"),
+        parts.next().expect("a command"),
     );
     let starter = text_of("rust/kit/src/starter/feed.txt");
     for part in lines.split("\n\n").map(str::trim_end) {
         assert_eq!(starter.matches(&format!("\n{part}\n")).count(), 1, "{part}");
     }
-    let (typed, shown) = session.split_once('\n').expect("a command");
+    let (typed, shown) = shown.split_once('\n').expect("a command");
     let words = typed.strip_prefix("$ (cd rust && cargo run -q -p kit -- ");
     let words = words.and_then(|words| words.strip_suffix(')'));
     let mut folder = Folder::fresh("readme");
@@ -255,7 +255,7 @@ fn the_page_has_every_kind_of_step() {
     let steps = tutorial_page::steps(&tutorial()).expect("steps");
     let count = |is: fn(&Step) -> bool| steps.iter().filter(|(_, step)| is(step)).count();
     assert!(count(|step| matches!(step, Step::Change { .. })) > 15);
-    assert!(count(|step| matches!(step, Step::Session(_))) > 10);
+    assert!(count(|step| matches!(step, Step::Commands(_))) > 10);
     assert_eq!(count(|step| matches!(step, Step::Undo)), 3);
     assert_eq!(count(|step| matches!(step, Step::Has { .. })), 4);
 }

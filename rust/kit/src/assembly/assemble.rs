@@ -140,7 +140,8 @@ impl Assembler<'_> {
     fn text_length(&mut self, text: &Text) -> u16 {
         let length = text.bytes.len();
         if u16::try_from(length).is_err() {
-            let message = format!("{length} bytes of text are more than a record counts");
+            let message =
+                format!("{length} bytes of text are more than the 65,535 that a record counts");
             self.mistake(text.at, message);
         }
         word(length)

@@ -11,7 +11,7 @@ use crate::reasons::characters::is_lexeme;
 use crate::reasons::classes::{classes, Class};
 use crate::reasons::due::text_lines;
 use crate::reasons::paper::{headline, Why};
-use crate::streams::record::{Record, STREAM_RECORDS};
+use crate::streams::record::{Record, RECORD, STREAM_RECORDS};
 use crate::words::{named, shown};
 use feed::Refusal;
 use std::collections::{HashMap, HashSet};
@@ -40,6 +40,9 @@ pub fn value(tree: &Description, set: &Assembled, json: &Json) -> Result<Sheet, 
         false => Err(reader.mistakes),
     }
 }
+
+/// The bytes of the longest text that a stream holds beside its head.
+const MOST_BYTES: usize = (STREAM_RECORDS - 1) * RECORD;
 
 struct Reader<'a> {
     rows: &'a Rows<'a>,
@@ -75,14 +78,14 @@ impl<'a> Reader<'a> {
     }
 
     fn text(&mut self, json: &Json, class: &str, text: &str) {
-        let length = text.len();
-        if u16::try_from(length).is_err() {
-            let message = format!("{length} bytes of text are more than a record counts");
-            return self.mistake(json, message, Vec::new());
-        }
         // Past what a stream holds the data is refused anyway, and to judge all of it may take long.
-        if self.sheet.records.len() <= STREAM_RECORDS {
-            self.judge(json, class, text);
+        let judged = self.sheet.records.len() <= STREAM_RECORDS;
+        let right = !judged || self.is_lexeme(json, class, text);
+        let length = text.len();
+        if right && u16::try_from(length).is_err() {
+            let message =
+                format!("this text has {length} bytes, and a stream has room for {MOST_BYTES}");
+            self.mistake(json, message, Vec::new());
         }
         let head = Record::new(1, 0, [word(length), 0, 0]);
         let head = self.sheet.push(head, json.at);
@@ -91,17 +94,19 @@ impl<'a> Reader<'a> {
     }
 
     /// A text must be a lexeme of its class. An escaped class is refused by the check, whatever the text is.
-    fn judge(&mut self, json: &Json, class: &str, text: &str) {
+    fn is_lexeme(&mut self, json: &Json, class: &str, text: &str) -> bool {
         let number = self.rows.classes.get(class).copied().unwrap_or_default();
         let Some(&Class::Plain { head, ranges }) = self.classes.get(usize::from(number)) else {
-            return;
+            return true;
         };
-        if !is_lexeme(text.as_bytes(), head, ranges) {
+        let right = is_lexeme(text.as_bytes(), head, ranges);
+        if !right {
             let message = headline(Refusal::ValueType { record: 0 }, Why::Number);
             let class = format!("class {}", named(class));
             let lines = text_lines(&class, head, ranges, Some(text.as_bytes()));
             self.mistake(json, message, lines);
         }
+        right
     }
 
     fn list(&mut self, json: &Json, items: &[Json], of: u16) {

@@ -57,7 +57,8 @@ impl Map {
     pub fn fits(&self, kind: Kind, stream: &[u8]) -> bool {
         let sound = |part: &&Part| {
             let found = Found::read(stream, Some(kind));
-            found.damaged() == 0 && part.origins.len() <= found.records.len()
+            let tail = found.records.get(part.origins.len()..);
+            found.damaged() == 0 && tail.is_some_and(|tail| tail.iter().all(|it| it.is_zero()))
         };
         self.part(kind)
             .filter(|part| part.checks == checks(stream))
@@ -275,6 +276,9 @@ template a (v: r) of n = build p (place v.x sequence (for i in v do build q))"#;
         assert!(map.fits(Kind::Templates, &templates));
         assert!(!map.fits(Kind::Grammar, &templates));
         assert!(!map.fits(Kind::Value, &grammar));
+        let mut cut = map.clone();
+        cut.grammar.origins.pop();
+        assert!(!cut.fits(Kind::Grammar, &grammar));
         grammar[20] ^= 1;
         assert!(!map.fits(Kind::Grammar, &grammar));
     }

@@ -1,6 +1,6 @@
 //! The path to a part of the data, as `episodes[3].title`.
 
-use crate::words::shown;
+use crate::words::{key, shown};
 use std::fmt;
 
 /// The longest path that is shown.
@@ -22,7 +22,16 @@ impl DataPath {
         if !self.written.is_empty() {
             self.written.push('.');
         }
-        self.written.extend(name.chars().take(WIDEST + 1));
+        let name: String = name.chars().take(WIDEST + 1).collect();
+        self.written.push_str(&key(&name));
+        outside
+    }
+
+    /// Steps into a field that is known by its number only.
+    pub fn number(&mut self, number: usize) -> Outside {
+        let outside = Outside(self.written.len());
+        let dot = if self.written.is_empty() { "" } else { "." };
+        self.written.push_str(&format!("{dot}{number}"));
         outside
     }
 
@@ -62,6 +71,14 @@ mod tests {
         assert_eq!(path.to_string(), "`episodes[3].title`");
         path.leave(item);
         assert_eq!(path.to_string(), "`episodes`");
+    }
+
+    #[test]
+    fn keys_that_are_no_names_are_quoted() {
+        let mut path = DataPath::default();
+        path.field("pub-date");
+        path.field("");
+        assert_eq!(path.to_string(), r#"`"pub-date".""`"#);
     }
 
     #[test]

@@ -38,6 +38,10 @@ impl List {
 
 /// The lists of a value of the declared type that stand in no other list.
 pub fn lists(tree: &Description, value: &Sheet) -> Vec<List> {
+    // A head's size is a word: of more records than that it doesn't tell.
+    if u16::try_from(value.records.len()).is_err() {
+        return Vec::new();
+    }
     let rows = Rows::of(tree, &mut Vec::new());
     let mut reader = Reader {
         rows: &rows,

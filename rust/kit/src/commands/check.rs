@@ -4,14 +4,14 @@ use super::loaded::{Data, Loaded, Text};
 use super::{Done, Step, Words};
 use crate::assembly::sheet::{Origin, What};
 use crate::mistake::{Mistake, Position};
-use crate::reasons::explain::{Lent, Set};
+use crate::reasons::explain::Lent;
 use crate::reasons::names::Names;
 use crate::reasons::paper::{headline, quotes};
 use crate::reasons::remarks::{told, Records};
 use crate::reasons::room::walked;
 use crate::streams::layout::lines;
 use crate::streams::record::Kind;
-use feed::{Answer, Finished, Refusal};
+use feed::{Finished, Refusal};
 
 pub(super) fn run(words: &Words) -> Step<Done> {
     let (loaded, data) = Loaded::read(words.operand(0))?.data(words.optional(1))?;
@@ -47,7 +47,7 @@ pub(super) fn accepted(loaded: &Loaded, data: Option<&Data>) -> Step<()> {
 pub(super) fn evaluated(loaded: &Loaded, data: &Data, lent: Lent) -> Step<(Finished, Vec<u8>)> {
     accepted(loaded, Some(data))?;
     let (set, mut output) = (loaded.streams(Some(data)), vec![0; lent.output]);
-    let answer = evaluate(set, lent, &mut output);
+    let answer = set.evaluate(lent, &mut output);
     match answer.finished() {
         Ok(finished) => Ok((finished, finished.of(&output).to_vec())),
         Err(refusal) => {
@@ -61,22 +61,10 @@ pub(super) fn evaluated(loaded: &Loaded, data: &Data, lent: Lent) -> Step<(Finis
 /// What the library refuses of a value alone, whatever it says of the rest.
 pub(super) fn unlike(loaded: &Loaded, data: &Data) -> Option<Done> {
     let (set, lent) = (loaded.streams(Some(data)), Lent::default());
-    let answer = evaluate(set, Lent { fuel: 0, ..lent }, &mut []);
+    let answer = set.evaluate(Lent { fuel: 0, ..lent }, &mut []);
     let refusal = answer.refusal()?;
     let of_value = refusal.stream() == Some(feed::Stream::Value);
     of_value.then(|| Refused::new(loaded, Some(data), refusal).shown(Vec::new()))
-}
-
-fn evaluate(set: Set<'_>, lent: Lent, output: &mut [u8]) -> Answer {
-    let mut scratch = vec![0; lent.scratch];
-    feed::evaluate(
-        set.grammar,
-        set.templates,
-        set.value,
-        lent.fuel,
-        output,
-        &mut scratch,
-    )
 }
 
 /// A refusal of streams that were made from texts, so that its place is one in a text.

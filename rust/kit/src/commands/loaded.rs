@@ -5,12 +5,13 @@ use super::{Done, Step};
 use crate::assembly::assemble::{end_of, Assembled, Made};
 use crate::assembly::data;
 use crate::assembly::map::Map;
+use crate::assembly::sheet::Sheet;
 use crate::files::{self, MOST_TEXT};
 use crate::json;
 use crate::language::description::Description;
 use crate::language::parser::parse;
 use crate::language::rows::Rows;
-use crate::mistake::{Mistake, Source};
+use crate::mistake::{Mistake, Position, Source};
 use crate::reasons::explain::Set;
 use crate::streams::record::Kind;
 use crate::words::file_called;
@@ -132,12 +133,29 @@ impl Data {
     /// Reads JSON data for a description.
     ///
     /// # Errors
+    /// The file can't be read, is no JSON, isn't of the declared type, or doesn't fit a stream; all mistakes
+    /// are shown.
+    pub fn read(loaded: &Loaded, file: &Path) -> Step<Self> {
+        Unpacked::read(loaded, file)?.packed()
+    }
+}
+
+/// The records of JSON data for a description, which may be more than a stream holds.
+pub struct Unpacked {
+    source: Text,
+    /// The records.
+    pub sheet: Sheet,
+    at: Position,
+}
+
+impl Unpacked {
+    /// Reads JSON data for a description.
+    ///
+    /// # Errors
     /// The file can't be read, is no JSON, or isn't of the declared type; all mistakes are shown.
     pub fn read(loaded: &Loaded, file: &Path) -> Step<Self> {
-        if Rows::of(&loaded.tree, &mut Vec::new())
-            .declared(&loaded.tree)
-            .is_none()
-        {
+        let rows = Rows::of(&loaded.tree, &mut Vec::new());
+        if rows.declared(&loaded.tree).is_none() {
             // The first template is at fault then, and not the data.
             accepted(loaded, None)?;
         }
@@ -145,7 +163,19 @@ impl Data {
         let shown = |mistakes: Vec<Mistake>| Done::refused(source.shown(&mistakes));
         let json = json::parse(source.text.as_bytes()).map_err(|mistake| shown(vec![mistake]))?;
         let sheet = data::value(&loaded.tree, &loaded.set, &json).map_err(shown)?;
-        let made = Made::of(Kind::Value, sheet, json.at).map_err(|it| shown(vec![it]))?;
-        Ok(Self { source, made })
+        let at = json.at;
+        Ok(Self { source, sheet, at })
+    }
+
+    /// The value stream of the data.
+    ///
+    /// # Errors
+    /// A stream doesn't hold that much.
+    pub fn packed(self) -> Step<Data> {
+        let Self { source, sheet, at } = self;
+        match Made::of(Kind::Value, sheet, at) {
+            Ok(made) => Ok(Data { source, made }),
+            Err(mistake) => Err(Done::refused(source.shown(&[mistake]))),
+        }
     }
 }

@@ -6,9 +6,7 @@ use crate::language::rows::meant;
 use crate::reasons::explain::Lent;
 use crate::words::named;
 use std::ffi::{OsStr, OsString};
-use std::fmt::Display;
 use std::path::{Path, PathBuf};
-use std::str::FromStr;
 
 /// The most that `--output` and `--scratch` may ask for.
 const MOST_LENT: usize = 1 << 30;
@@ -44,7 +42,13 @@ impl Words {
                 Some("--") if !only_operands => only_operands = true,
                 Some("-h") if !only_operands => found.help = true,
                 Some(option) if option.starts_with("--") && !only_operands => {
-                    found.option(command, option, &mut words)?;
+                    match option.split_once('=') {
+                        Some((option, word)) => {
+                            let word = OsString::from(word);
+                            found.option(command, option, &mut std::iter::once(&word))?;
+                        }
+                        None => found.option(command, option, &mut words)?,
+                    }
                 }
                 _ => found.operands.push(PathBuf::from(word)),
             }
@@ -68,6 +72,11 @@ impl Words {
     /// There are as many operands as the command takes.
     fn counted(self, command: &Command) -> Step<Self> {
         let operands = command.operands;
+        let empty = |operand: &PathBuf| operand.as_os_str().is_empty();
+        if let Some(empty) = self.operands.iter().position(empty) {
+            let which = operands.get(empty).unwrap_or(&"a word");
+            return Err(bad_use(command, &format!("{which} is an empty word")));
+        }
         if let Some(surplus) = self.operands.get(operands.len()) {
             let word = named(&surplus.to_string_lossy());
             return Err(bad_use(command, &format!("{word} is a word too many")));
@@ -99,27 +108,22 @@ impl Words {
             let message = format!("{option} has nothing behind it");
             return Err(bad_use(command, &message));
         };
-        let counted = |most| counted(command, option, word, most);
+        let number = |most| number(command, option, word, most);
         match option {
             "--to" => self.to = Some(PathBuf::from(word)),
-            "--fuel" => self.lent.fuel = counted(u64::from(u32::MAX))? as u32,
-            "--output" => self.lent.output = counted(MOST_LENT as u64)? as usize,
-            _ => self.lent.scratch = counted(MOST_LENT as u64)? as usize,
+            "--fuel" => self.lent.fuel = number(u64::from(u32::MAX))? as u32,
+            "--output" => self.lent.output = number(MOST_LENT as u64)? as usize,
+            _ => self.lent.scratch = number(MOST_LENT as u64)? as usize,
         }
         Ok(())
     }
 }
 
 /// The number behind an option.
-fn counted<N: FromStr + PartialOrd + Display>(
-    command: &Command,
-    option: &str,
-    number: &OsStr,
-    most: N,
-) -> Step<N> {
-    let parsed = number.to_str().and_then(|digits| digits.parse().ok());
-    parsed.filter(|count| *count <= most).ok_or_else(|| {
-        let word = named(&number.to_string_lossy());
+fn number(command: &Command, option: &str, word: &OsStr, most: u64) -> Step<u64> {
+    let parsed = word.to_str().and_then(|digits| digits.parse().ok());
+    parsed.filter(|&count| count <= most).ok_or_else(|| {
+        let word = named(&word.to_string_lossy());
         let message = format!("{option} takes a number from 0 to {most}, not {word}");
         bad_use(command, &message)
     })

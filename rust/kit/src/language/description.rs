@@ -1,6 +1,7 @@
 //! A description as a tree: what the parser reads and the assembler writes out.
 
 use crate::mistake::Position;
+use crate::words::key;
 use std::fmt;
 
 /// A whole description. Each row is in the order of the file.
@@ -215,7 +216,7 @@ pub enum By {
 impl fmt::Display for By {
     fn fmt(&self, f: &mut fmt::Formatter<'_>) -> fmt::Result {
         match self {
-            Self::Name(word) => f.write_str(word),
+            Self::Name(word) => f.write_str(&key(word)),
             Self::Number(number) => write!(f, "{number}"),
         }
     }

@@ -7,6 +7,7 @@ mod values;
 
 use crate::language::description::{Description, Field, Name, Template, Text, Type, TypeForm};
 use crate::language::lexer::{tokens, Token, Tokens};
+use crate::language::rows::meant;
 use crate::mistake::{Mistake, Position};
 
 /// The words that begin a part of a description, and so are no names.
@@ -218,9 +219,10 @@ impl Parser {
         }
         if self.sees_word("record") {
             self.take();
-            return Ok(TypeForm::Record(
-                self.bracketed(['{', '}'], |p| p.field("a field's name"))?,
-            ));
+            return Ok(TypeForm::Record(self.bracketed(['{', '}'], |p| {
+                let name = p.key("a field's name")?;
+                p.typed(name)
+            })?));
         }
         if self.sees_word("yesno") {
             self.take();
@@ -229,9 +231,8 @@ impl Parser {
         self.expected("`text`, `yesno`, `list` or `record`")
     }
 
-    /// `NAME: TYPE`
-    fn field(&mut self, what: &str) -> Parsed<Field> {
-        let name = self.name(what)?;
+    /// `: TYPE` behind the name of a field or a parameter.
+    fn typed(&mut self, name: Name) -> Parsed<Field> {
         self.sign(':')?;
         let of = self.name("the name of a type")?;
         Ok(Field { name, of })
@@ -255,11 +256,15 @@ impl Parser {
 }
 
 fn no_part(at: Position, token: &Token) -> Mistake {
+    let near = match token {
+        Token::Word(word) => meant(word, PARTS.into_iter(), 0),
+        _ => String::new(),
+    };
     let called = token.called();
     Mistake::new(
         at,
         format!(
-            "`class`, `production`, `type`, `template` or `value` is expected here, not {called}"
+            "`class`, `production`, `type`, `template` or `value` is expected here, not {called}{near}"
         ),
     )
 }

@@ -2,6 +2,7 @@
 //!
 //! The streams that are read have a sound layout here: types are judged only after it.
 
+use crate::assembly::path::DataPath;
 use crate::reasons::characters::{characters_due, lexeme_rule, text_found};
 use crate::reasons::classes::{classes, Class};
 use crate::reasons::names::Names;
@@ -9,7 +10,7 @@ use crate::reasons::paper::VALUE;
 use crate::reasons::types::{Shape, Types};
 use crate::reasons::values::down_to;
 use crate::streams::record::{Record, RECORD};
-use crate::words::{bare, counted, cut, listed};
+use crate::words::{bare, counted, listed};
 
 /// The rule that fails at the record `place` of the value, and what is due there, a line for each part of
 /// it.
@@ -75,9 +76,6 @@ fn declared(templates: &[Record], types: &Types<'_>) -> Option<usize> {
     Some(usize::from(parameter.b()))
 }
 
-/// The longest path that is shown.
-const WIDEST: usize = 200;
-
 /// The type that is due at a place, and the path to it from the whole value downwards: fields by name where
 /// they have one, and items by their numbers from 0.
 fn along(
@@ -87,24 +85,26 @@ fn along(
     declared: usize,
     place: usize,
 ) -> Option<(usize, String)> {
-    let (mut number, mut path) = (declared, String::new());
+    let (mut number, mut path) = (declared, DataPath::default());
     for (child, _) in down_to(value, place)? {
         number = match types.shape(number)? {
             Shape::List(item) => {
-                path.push_str(&format!("[{child}]"));
+                path.item(child);
                 item
             }
             _ => {
-                let field = bare(&names.field(number, child));
-                let dot = if path.is_empty() { "" } else { "." };
-                path.push_str(&format!("{dot}{}", field.trim_matches('`')));
+                let named = names.fields.get(number).and_then(|own| own.get(child));
+                match named {
+                    Some(name) => path.field(name),
+                    None => path.number(child),
+                };
                 types.field(number, child)?
             }
         };
     }
-    let said = match path.is_empty() {
-        true => "this is the whole value".to_string(),
-        false => format!("at `{}`", cut(&path, WIDEST)),
+    let said = match place {
+        0 => "this is the whole value".to_string(),
+        _ => format!("at {path}"),
     };
     Some((number, said))
 }

@@ -33,6 +33,18 @@ impl<'a> Set<'a> {
         }
     }
 
+    /// The library's answer, with so much lent; the text is written into the output.
+    pub fn evaluate(&self, lent: Lent, output: &mut [u8]) -> Answer {
+        let mut scratch = vec![0; lent.scratch];
+        let (grammar, templates, value) = (self.grammar, self.templates, self.value);
+        feed::evaluate(grammar, templates, value, lent.fuel, output, &mut scratch)
+    }
+
+    /// The library's answer, where the text doesn't matter.
+    pub fn evaluated(&self, lent: Lent) -> Answer {
+        self.evaluate(lent, &mut vec![0; lent.output])
+    }
+
     /// The records of all three, as they are found.
     fn records(&self) -> Records {
         let read = |kind| Found::read(self.bytes(kind), Some(kind)).records;
@@ -83,15 +95,8 @@ pub fn explain(set: Set<'_>, lent: Lent) -> Explanation {
 /// Runs check and evaluate, and explains what they answer, by what the map of the set tells.
 pub fn explain_with(set: Set<'_>, lent: Lent, guide: &Guide) -> Explanation {
     let check = feed::check(set.grammar, set.templates);
-    let (mut output, mut scratch) = (vec![0; lent.output], vec![0; lent.scratch]);
-    let evaluate = feed::evaluate(
-        set.grammar,
-        set.templates,
-        set.value,
-        lent.fuel,
-        &mut output,
-        &mut scratch,
-    );
+    let mut output = vec![0; lent.output];
+    let evaluate = set.evaluate(lent, &mut output);
     let mut text = String::new();
     match check.refusal() {
         None => text.push_str("check: accepted\n"),

@@ -1,6 +1,6 @@
 //! What is named and isn't there, or not early enough (refusal 5), for a person who wants to mend it.
 //!
-//! Layouts are sound here. Of escaped classes [`escapes`](crate::escapes) tells.
+//! Layouts are sound here. Of escaped classes [`escapes`](crate::reasons::escapes) tells.
 
 use crate::reasons::names::Names;
 use crate::reasons::nodes::Form;

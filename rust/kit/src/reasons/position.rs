@@ -195,11 +195,3 @@ fn asked_of(tables: &Tables<'_>, production: u16, child: usize) -> Option<(Posit
     };
     Some((Position::of(*tables.grammar.get(record)?)?, asker))
 }
-
-/// The element that a node stands for, if it is a child of a build.
-pub fn element_of(grammar: &[Record], templates: &[Record], node: usize) -> Option<usize> {
-    match site(&Tables::of(grammar, templates), node)?.asker {
-        Asker::Element { record, .. } => Some(record),
-        _ => None,
-    }
-}

@@ -3,16 +3,15 @@
 use crate::reasons::explain::{Lent, Set};
 use crate::reasons::names::Names;
 use crate::reasons::remarks::Records;
-use crate::reasons::separator::unfitting;
 use crate::reasons::trace::trace;
 use crate::words::{counted, quoted};
 use feed::{Answer, Refusal};
 
 /// The most bytes of output that are tried.
-const MOST_OUTPUT: usize = 64 << 20;
+pub const MOST_OUTPUT: usize = 64 << 20;
 
 /// The most fuel that is tried.
-const MOST_FUEL: u32 = 20_000_000;
+pub const MOST_FUEL: u32 = 20_000_000;
 
 /// The lines for a refusal that a walk met; none for others.
 pub fn walked(
@@ -29,7 +28,6 @@ pub fn walked(
     let mut said = Vec::new();
     match refusal {
         Refusal::FuelSpent { .. } | Refusal::TooDeep { .. } | Refusal::OutputFull { .. } => {
-            said.extend(separator(refusal, answer, lent, records));
             let way = trace(
                 &records.grammar,
                 &records.templates,
@@ -37,6 +35,7 @@ pub fn walked(
                 names,
                 answer,
             );
+            said.extend(way.unfit.map(|unfit| no_room(&unfit, answer, lent)));
             said.extend(joined(&way.levels));
             said.extend(way.why);
             said.push(so_far(answer, lent, output));
@@ -59,15 +58,12 @@ fn joined(way: &[String]) -> Option<String> {
     (!way.is_empty()).then(|| format!("the way there:{lines}"))
 }
 
-/// The separator that doesn't fit, where that is what the walk met.
-fn separator(refusal: Refusal, answer: Answer, lent: Lent, records: &Records) -> Option<String> {
-    let Refusal::OutputFull { node } = refusal else {
-        return None;
-    };
-    let written = usize::try_from(answer.bytes).ok()?;
+/// The text that doesn't fit, with the room that is left.
+fn no_room(unfit: &str, answer: Answer, lent: Lent) -> String {
+    let written = usize::try_from(answer.bytes).unwrap_or(usize::MAX);
     let left = lent.output.saturating_sub(written);
-    let node = usize::try_from(node).ok()?;
-    unfitting(&records.grammar, &records.templates, node, left)
+    let are = if left == 1 { "is" } else { "are" };
+    format!("{unfit}, and {left} {are} left")
 }
 
 /// What a walk had done until then.
@@ -89,8 +85,8 @@ fn so_far(answer: Answer, lent: Lent, output: &[u8]) -> String {
 /// How much fuel or room would do, if that is not too much to try.
 fn enough(set: Set<'_>, lent: Lent, refusal: Refusal) -> Option<String> {
     match refusal {
-        Refusal::OutputFull { .. } => Some(room(set, lent)),
-        Refusal::FuelSpent { .. } => fuel(set, lent),
+        Refusal::OutputFull { .. } if lent.output < MOST_OUTPUT => Some(room(set, lent)),
+        Refusal::FuelSpent { .. } if lent.fuel < MOST_FUEL => Some(fuel(set, lent)),
         _ => None,
     }
 }
@@ -99,7 +95,7 @@ fn room(set: Set<'_>, lent: Lent) -> String {
     let mut output = lent.output.max(1 << 16);
     loop {
         output = (2 * output).min(MOST_OUTPUT);
-        let answer = evaluated(set, Lent { output, ..lent });
+        let answer = set.evaluated(Lent { output, ..lent });
         match answer.refusal() {
             None => return format!("an output of {} bytes would do", answer.bytes),
             Some(Refusal::OutputFull { .. }) if output < MOST_OUTPUT => {}
@@ -117,10 +113,10 @@ fn room(set: Set<'_>, lent: Lent) -> String {
     }
 }
 
-fn fuel(set: Set<'_>, lent: Lent) -> Option<String> {
-    let fuel = MOST_FUEL.max(lent.fuel);
-    let answer = evaluated(set, Lent { fuel, ..lent });
-    Some(match answer.refusal() {
+fn fuel(set: Set<'_>, lent: Lent) -> String {
+    let fuel = MOST_FUEL;
+    let answer = set.evaluated(Lent { fuel, ..lent });
+    match answer.refusal() {
         None => format!("fuel of {} would do", answer.steps),
         Some(Refusal::FuelSpent { .. }) => format!("fuel of {fuel} would not do"),
         Some(other) => format!(
@@ -128,17 +124,8 @@ fn fuel(set: Set<'_>, lent: Lent) -> Option<String> {
             answer.steps,
             other.rule()
         ),
-    })
+    }
 }
 
-fn evaluated(set: Set<'_>, lent: Lent) -> Answer {
-    let (mut output, mut scratch) = (vec![0; lent.output], vec![0; lent.scratch]);
-    feed::evaluate(
-        set.grammar,
-        set.templates,
-        set.value,
-        lent.fuel,
-        &mut output,
-        &mut scratch,
-    )
-}
+#[cfg(test)]
+mod tests;

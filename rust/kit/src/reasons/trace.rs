@@ -7,13 +7,15 @@ mod walk;
 #[cfg(test)]
 mod tests;
 
+use crate::reasons::context::WIDEST;
+use crate::reasons::due::text_bytes;
 use crate::reasons::limits::LEVELS;
 use crate::reasons::names::Names;
 use crate::reasons::tables::Tables;
 use crate::streams::record::Record;
-use crate::words::{bare, named};
+use crate::words::{bare, counted, cut, named, quoted};
 use feed::Answer;
-use walk::{chain, Level};
+use walk::{again, Level, Stop, Text};
 
 /// The most steps that are taken again: the walk's own chain isn't worth more than a second or so.
 const MOST_STEPS: u64 = 20_000_000;
@@ -28,6 +30,8 @@ pub struct Way {
     pub levels: Vec<String>,
     /// Why it came too deep, if it did.
     pub why: Option<String>,
+    /// The text that didn't fit, if that is where it stopped, and how long it is.
+    pub unfit: Option<String>,
 }
 
 /// How a walk came to the node where it stopped. It is empty where the answer is no walk's that met a
@@ -42,13 +46,37 @@ pub fn trace(
     if !(10..=12).contains(&answer.number) || answer.steps > MOST_STEPS {
         return Way::default();
     }
-    let Some(levels) = chain(&Tables::of(grammar, templates), value, answer) else {
+    let Some(Stop { levels, unfit }) = again(&Tables::of(grammar, templates), value, answer) else {
         return Way::default();
     };
+    let streams = [grammar, templates, value];
     Way {
         levels: bounded(levels.iter().map(|level| line(level, names)).collect()),
         why: (answer.number == 11).then(|| deep(&levels, names)),
+        unfit: unfit.and_then(|(text, length)| called(text, length, streams)),
     }
+}
+
+/// A text that didn't fit, by what it is.
+fn called(
+    text: Text,
+    length: usize,
+    [grammar, templates, value]: [&[Record]; 3],
+) -> Option<String> {
+    let (what, records, head, own) = match text {
+        Text::Keyword(head) => ("keyword", grammar, head, length),
+        Text::Separator(head) => ("separator", grammar, head, length),
+        Text::Literal(head) => ("literal", templates, head, length),
+        Text::Place(head) => ("text", value, head, usize::from(value.get(head)?.b())),
+    };
+    let text = cut(&quoted(&text_bytes(records, head, own)?), WIDEST);
+    let bytes = counted(length, "byte", "bytes");
+    let entities = if own == length {
+        ""
+    } else {
+        " with its entities"
+    };
+    Some(format!("the {what} {text} has {bytes}{entities}"))
 }
 
 fn line(level: &Level, names: &Names) -> String {

@@ -80,24 +80,16 @@ struct Here<'a> {
 impl Here<'_> {
     fn judged(&self) -> Option<Fault> {
         let form = Form::of(self.head)?;
-        match (form, self.site.position) {
-            (Form::For, Position::Item(_)) => self.looped(),
-            (Form::For, _) => {
-                let why = "a for stands only as an item of a sequence";
-                Some(self.misplaced(REPETITION, why.to_string()))
-            }
-            (Form::Sequence, Position::Repetition(_)) => None,
-            (Form::Sequence, _) => {
-                let why = "a sequence stands only where a repetition is asked for";
-                Some(self.misplaced(REPETITION, why.to_string()))
-            }
-            (_, Position::Repetition(_)) => {
+        match self.site.position {
+            Position::Class(class) => self.in_class(form, class),
+            Position::Repetition(_) if form == Form::Sequence => None,
+            Position::Repetition(_) => {
                 let why =
                     format!("only a sequence stands for a repetition, and {form} stands here");
                 Some(self.misplaced(REPETITION, why))
             }
-            (_, Position::Class(class)) => self.in_class(form, class),
-            (_, Position::Nonterminal(number) | Position::Item(number)) => {
+            Position::Item(_) if form == Form::For => self.looped(),
+            Position::Nonterminal(number) | Position::Item(number) => {
                 self.in_nonterminal(form, number)
             }
         }

@@ -1,6 +1,6 @@
 //! `kit check` of what is too deep or too much: 4.
 
-use super::desk::{changed, desk_with, Said, PAGE};
+use super::desk::{changed, desk_with, Said};
 
 #[track_caller]
 fn check(description: &str) -> Said {
@@ -85,14 +85,14 @@ data.json:1:201: a value is over 200 deep (refusal 4)
 /// A text of more bytes than a record counts, and one that no stream holds.
 #[test]
 fn more_than_a_stream_holds() {
-    let word = "a".repeat(65_536);
+    let word = "α".repeat(40_000);
     let json =
         format!("{{\"title\": \"ab\", \"entries\": [{{\"word\": \"{word}\", \"loud\": true}}]}}");
-    let desk = desk_with(PAGE).with("data.json", json);
+    let desk = desk_with(changed("1 to 8", "1 to 65535")).with("data.json", json);
     desk.kit(&["check", "feed.txt", "data.json"]).refused(
         r#"
-data.json:1:38: `entries[0].word`: 65536 bytes of text are more than a record counts
-    {"title": "ab", "entries": [{"word": "aaaaaaaaaaaaaaaaaaaaaaaaaaaaaaaaaaaaaaa ..
+data.json:1:38: `entries[0].word`: this text has 80000 bytes, and a stream has room for 64504
+    {"title": "ab", "entries": [{"word": "ααααααααααααααααααααααααααααααααααααααα ..
                                          ^
 "#,
     );

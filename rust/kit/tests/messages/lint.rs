@@ -24,12 +24,12 @@ feed.txt:5:12: production `entry` is not used: no template builds it
 "#);
 }
 
-/// What the machine refuses is left to `kit check`.
+/// What the machine refuses is told first, as by `kit check`.
 #[test]
 fn a_description_that_is_refused() {
     let desk = desk_with(changed("place page.title", "place page.entries"));
-    desk.kit(&["lint", "feed.txt"])
-        .done("feed.txt: nothing to say\n");
+    let check = desk.kit(&["check", "feed.txt"]);
+    desk.kit(&["lint", "feed.txt"]).refused(&check.err);
 }
 
 /// Keywords are shown with escapes, and names and keywords are cut.

@@ -187,7 +187,8 @@ feed.txt:15:3: a typing rule fails (refusal 7)
       ^
   = nonterminal `page` is asked for here, as the body of template `main`
   = a for stands only as an item of a sequence
-  = rule: "Repetition: a sequence, whose items are nodes in the position of its nonterminal or a for over a list, whose body is one such node."
+  = the production of nonterminal `page` is `page`
+  = rule: "Nonterminal: a build of one of its productions, an expand of a template with that nonterminal and argument types equal by number, or an if on yes/no with both branches in the same position."
 "#);
 }
 

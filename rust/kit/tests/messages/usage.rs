@@ -272,3 +272,26 @@ Exit status: 0 done; 1 refused; 2 bad use, or a file that can't be read or writt
 "#,
     );
 }
+
+/// Mostly a variable of a shell that isn't set: a folder named so would be the one where the kit runs.
+#[test]
+fn an_empty_word() {
+    desk().kit(&["assemble", "feed.txt", ""]).failed(
+        "
+kit assemble: DIR is an empty word
+usage: kit assemble FILE DIR
+`kit assemble --help` says more
+",
+    );
+}
+
+#[test]
+fn an_option_with_its_number_behind_a_sign() {
+    desk().kit(&["explain", "set", "--fuel=x"]).failed(
+        "
+kit explain: --fuel takes a number from 0 to 4294967295, not `x`
+usage: kit explain DIR [--fuel N] [--output N] [--scratch N]
+`kit explain --help` says more
+",
+    );
+}

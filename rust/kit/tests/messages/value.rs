@@ -313,7 +313,7 @@ fn a_key_with_control_characters() {
     ))
     .refused(
         r#"
-data.json:1:32: `\u{1b}[2J`: this key is surplus: type `page` has no such field
+data.json:1:32: `"\u{1b}[2J"`: this key is surplus: type `page` has no such field
     {"title": "ab", "entries": [], "\u001B[2J": 1}
                                    ^
 "#,
@@ -341,4 +341,27 @@ data.json:1:32: `AAAAAAAAAAAAAAAAAAAAAAAAAAAAAAAAAAAAAAAAAAAAAAAAAAAAAAAAAAAAAAA
 fn data_that_is_too_large() {
     value(with(" ".repeat(4 << 20) + "{}"))
         .failed("kit: data.json: this file has over 4194304 bytes, and no more are read\n");
+}
+
+/// Keys that are no names of the language.
+#[test]
+fn keys_of_any_kind() {
+    let page = PAGE
+        .replacen("{ title: word", "{ \"pub-date\": word, type: word", 1)
+        .replacen("page.title", "page.\"pub-date\"", 1);
+    let value = ["value", "feed.txt", "data.json", "out.blk"];
+    let right = r#"{"pub-date": "ab", "type": "cd", "entries": []}"#;
+    let desk = desk_with(page).with("data.json", right);
+    desk.kit(&value).done("out.blk: 512 bytes\n");
+    let wrong = right.replace("\"ab\"", "1").replace("[]", "[], \"\": 2");
+    desk.with("data.json", wrong).kit(&value).refused(
+        r#"
+data.json:1:14: `"pub-date"`: a text of class `word` is due here, not a number: write it in quotes
+    {"pub-date": 1, "type": "cd", "entries": [], "": 2}
+                 ^
+data.json:1:46: `""`: this key is surplus: type `page` has no such field
+    {"pub-date": 1, "type": "cd", "entries": [], "": 2}
+                                                 ^
+"#,
+    );
 }

@@ -128,6 +128,7 @@ fn a_lexeme_past_the_end_of_the_output() {
 feed.txt:16:5: a keyword, lexeme or separator passes the end of the output (refusal 12)
         place page.title
         ^
+  = the text "αβ" has 4 bytes, and 3 are left
   = the way there:
       template `main`
   = the walk took 2 steps with fuel 1000000 and wrote 1 of 4 bytes; the text so far ends with "<"
@@ -144,6 +145,7 @@ fn a_keyword_past_the_end_of_the_output() {
 feed.txt:15:3: a keyword, lexeme or separator passes the end of the output (refusal 12)
       build page (
       ^
+  = the keyword "<" has 1 byte, and 0 are left
   = the way there:
       template `main`
   = the walk took 1 step with fuel 1000000 and wrote 0 of 0 bytes; the text so far ends with ""
@@ -180,6 +182,7 @@ fn data_for_which_the_output_is_too_short() {
 feed.txt:22:34: a keyword, lexeme or separator passes the end of the output (refusal 12)
       if entry.loud then build note (place entry.word) else build entry (place entry.word)
                                      ^
+  = the text "c" has 1 byte, and 0 are left
   = the way there:
       template `main`
       for `entry`, item 2 of 2

@@ -67,7 +67,7 @@ impl Folder {
                 })
             }
             Step::Has { file, lines } => self.place(file, lines).map(|_| ()),
-            Step::Session(commands) => commands.iter().try_for_each(|it| self.command(it)),
+            Step::Commands(commands) => commands.iter().try_for_each(|it| self.command(it)),
         }
     }
 

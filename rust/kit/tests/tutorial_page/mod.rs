@@ -1,4 +1,4 @@
-//! Reads the tutorial's page: its changes of files, what it says that a file has, and its sessions.
+//! Reads the tutorial's page: its changes of files, what it says that a file has, and its commands.
 //!
 //! What stands in a fenced part is told by the line above it, and a part that is none of these is a
 //! mistake of the page: so nothing on it goes untried.
@@ -16,7 +16,7 @@ pub enum Step {
     /// Lines that a file has.
     Has { file: String, lines: String },
     /// Commands, and what a terminal shows of them.
-    Session(Vec<Command>),
+    Commands(Vec<Command>),
 }
 
 /// Lines of a file, whole ones, before a change and after it.
@@ -64,7 +64,7 @@ fn step(form: &str, said: &str, block: &[&str]) -> Option<Step> {
             file: named(said, "In `", "`:")?,
             hunks: block.split(|line| *line == "..").map(hunk).collect(),
         }),
-        "" if block.first()?.starts_with("$ ") => Some(Step::Session(session(block))),
+        "" if block.first()?.starts_with("$ ") => Some(Step::Commands(commands(block))),
         "" => Some(Step::Has {
             file: named(said, "The file `", "` has")?,
             lines: lines(block.iter().copied()),
@@ -94,7 +94,7 @@ fn lines<'a>(lines: impl Iterator<Item = &'a str>) -> String {
     lines.map(|line| format!("{line}\n")).collect()
 }
 
-fn session(block: &[&str]) -> Vec<Command> {
+fn commands(block: &[&str]) -> Vec<Command> {
     let mut commands: Vec<Command> = Vec::new();
     for line in block {
         match (line.strip_prefix("$ "), commands.last_mut()) {

@@ -5,7 +5,7 @@ use crate::assembly::sheet::{Sheet, What};
 use crate::language::description::{By, Path, Step, TypeForm};
 use crate::language::rows::meant;
 use crate::streams::record::{Record, STREAM_RECORDS};
-use crate::words::named;
+use crate::words::{listed, named};
 
 /// The number of a type, if it is known.
 pub(super) type Known = Option<u16>;
@@ -51,11 +51,7 @@ impl Assembler<'_> {
             By::Name(word) => match variables.iter().rposition(|(name, _)| name == word) {
                 Some(number) => number,
                 None => {
-                    let near = meant(
-                        word,
-                        variables.iter().map(|(name, _)| name.as_str()),
-                        self.mistakes.len(),
-                    );
+                    let near = known(word, variables, self.mistakes.len());
                     let message = format!("no variable is named {} here{near}", named(word));
                     self.mistake(step.at, message);
                     return (0, None);
@@ -124,6 +120,23 @@ impl Assembler<'_> {
                 ),
             ),
             None => {}
+        }
+    }
+}
+
+/// The variable that may be meant by a misspelt one, or else those that are known.
+fn known(word: &str, variables: &[(String, Known)], before: usize) -> String {
+    let near = meant(
+        word,
+        variables.iter().map(|(name, _)| name.as_str()),
+        before,
+    );
+    match (near.is_empty(), variables) {
+        (false, _) => near,
+        (true, []) => ": none is known".to_string(),
+        (true, _) => {
+            let names: Vec<String> = variables.iter().map(|(name, _)| named(name)).collect();
+            format!(": known are {}", listed(&names))
         }
     }
 }

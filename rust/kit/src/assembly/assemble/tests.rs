@@ -108,7 +108,7 @@ fn names_must_be_there() {
     );
     assert_eq!(
         mistake("place p.title", "place q.title"),
-        "no variable is named `q` here"
+        "no variable is named `q` here: known are `p`"
     );
     assert_eq!(
         mistake("place p.title", "place p.titel"),
@@ -162,7 +162,7 @@ fn what_no_stream_holds_is_a_mistake() {
     let longer = format!("[\"{}\"]", "a".repeat(65_536));
     assert_eq!(
         mistake("[\"a\" \"b\"]", &longer),
-        "65536 bytes of text are more than a record counts"
+        "65536 bytes of text are more than the 65,535 that a record counts"
     );
     assert_eq!(
         assemble("value yes").expect_err("no grammar")[0].message,
@@ -200,8 +200,8 @@ fn several_mistakes_are_found_at_once() {
         [
             "no class is named `leter`: did you mean `letter`?",
             "no production is named `al`: did you mean `all`?",
-            "no variable is named `q` here",
-            "no variable is named `v` here",
+            "no variable is named `q` here: known are `p`",
+            "no variable is named `v` here: known are `w`",
         ]
     );
 }

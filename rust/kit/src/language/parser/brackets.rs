@@ -2,7 +2,7 @@
 //! that may be far away.
 
 use super::{Parsed, Parser, PARTS};
-use crate::language::description::{Field, Text};
+use crate::language::description::{Field, Name, Text};
 use crate::language::lexer::Token;
 use crate::mistake::{Mistake, Position};
 
@@ -37,7 +37,7 @@ impl Parser {
                 self.at(),
                 format!("{opener} is closed by `{close}`, not by `{other}`"),
             ),
-            Token::Word(word) if PARTS.contains(&word.as_str()) => (
+            Token::Word(word) if PARTS.contains(&word.as_str()) && !self.is_key(open) => (
                 self.at(),
                 format!(
                     "{opener} is not closed before `{word}`, which begins a part and is no name"
@@ -48,6 +48,24 @@ impl Parser {
         Err(Mistake::new(at, message))
     }
 
+    /// Whether the next word is that of a field: one that begins a part may be its name, too.
+    fn is_key(&self, open: char) -> bool {
+        open == '{' && self.is_labelled()
+    }
+
+    /// The name of a field: one, a word that begins a part, or any text in quotes, as a key of JSON is.
+    pub(super) fn key(&mut self, what: &str) -> Parsed<Name> {
+        let at = self.at();
+        let word = match self.peek() {
+            Token::Text(bytes) => String::from_utf8(bytes.clone())
+                .map_err(|_| Mistake::new(at, "a field's name is UTF-8"))?,
+            Token::Word(word) => word.clone(),
+            _ => return self.expected(what),
+        };
+        self.take();
+        Ok(Name { word, at })
+    }
+
     /// `(PARAMETER..)`, each as `NAME: TYPE`. An `of` that is no parameter's name comes behind them.
     pub(super) fn parameters(&mut self) -> Parsed<Vec<Field>> {
         let start = self.at();
@@ -56,7 +74,8 @@ impl Parser {
                 let message = format!("{} is not closed before `of`", opened('(', start));
                 return Err(Mistake::new(parser.at(), message));
             }
-            parser.field("a parameter's name")
+            let name = parser.name("a parameter's name")?;
+            parser.typed(name)
         })
     }
 

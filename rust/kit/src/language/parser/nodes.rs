@@ -15,8 +15,10 @@ impl Parser {
     }
 
     fn node_form(&mut self) -> Parsed<NodeForm> {
-        let Token::Word(word) = self.peek().clone() else {
-            return self.expected("a node");
+        let word = match self.peek().clone() {
+            Token::Word(word) => word,
+            Token::Text(_) => return self.expected("a node (`literal` writes a text)"),
+            _ => return self.expected("a node"),
         };
         let form: fn(&mut Self) -> Parsed<NodeForm> = match word.as_str() {
             "build" => Self::build,
@@ -84,10 +86,25 @@ impl Parser {
     fn path(&mut self) -> Parsed<Path> {
         let variable = self.step("a variable")?;
         let mut fields = Vec::new();
-        while self.accept_sign('.') {
-            fields.push(self.step("a field")?);
+        while self.sees_sign('.') {
+            let line = self.at().line;
+            self.take();
+            fields.push(self.field_step(line)?);
         }
         Ok(Path { variable, fields })
+    }
+
+    /// A field behind a dot. A word that begins a part is one in the dot's line only: further on a part
+    /// may begin.
+    fn field_step(&mut self, line: usize) -> Parsed<Step> {
+        let at = self.at();
+        match self.peek() {
+            Token::Word(_) | Token::Text(_) if at.line == line => {
+                let by = By::Name(self.key("a field")?.word);
+                Ok(Step { by, at })
+            }
+            _ => self.step("a field"),
+        }
     }
 
     fn step(&mut self, what: &str) -> Parsed<Step> {

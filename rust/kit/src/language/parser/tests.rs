@@ -58,7 +58,7 @@ fn every_form_of_value_is_read() {
 fn a_mistake_says_what_is_expected_and_where() {
     assert_eq!(
         mistake("clas t"),
-        "line 1, column 1: `class`, `production`, `type`, `template` or `value` is expected here, not `clas`"
+        "line 1, column 1: `class`, `production`, `type`, `template` or `value` is expected here, not `clas`: did you mean `class`?"
     );
     assert_eq!(
         mistake("class t 1 4"),
@@ -140,8 +140,8 @@ fn an_unclosed_bracket_names_its_opener() {
         ["line 3, column 1: the `(` at line 2, column 11 is not closed before `value`, which begins a part and is no name"]
     );
     assert_eq!(
-        mistakes("type r = record { type: t }"),
-        ["line 1, column 19: the `{` at line 1, column 17 is not closed before `type`, which begins a part and is no name"]
+        mistakes("type r = record { a: t\ntype t = yesno"),
+        ["line 2, column 1: the `{` at line 1, column 17 is not closed before `type`, which begins a part and is no name"]
     );
     assert_eq!(
         mistakes("value { a: [ yes\n}"),
@@ -159,4 +159,39 @@ fn a_quote_inside_a_text_is_told_how_to_write() {
     );
     assert_eq!(mistakes[0].remarks, [r#"a " inside a text is written \""#]);
     assert!(parse(r#"production p of n = "<"c">" "x" d"#).is_ok());
+}
+
+/// Keys of JSON are what they are: words that begin parts, and what is no name at all.
+#[test]
+fn fields_may_have_any_name() {
+    let found = parse(
+        r#"type r = record { type: t "pub-date": t value: t }
+        template m (x: r) of n = build p (place x.type place x."pub-date" place x.value)
+        value { type: "a" "pub-date": "b" value: "c" }"#,
+    )
+    .expect("a description");
+    let TypeForm::Record(fields) = &found.types[0].form else {
+        panic!("a record")
+    };
+    let names: Vec<&str> = fields.iter().map(|it| it.name.word.as_str()).collect();
+    assert_eq!(names, ["type", "pub-date", "value"]);
+    let NodeForm::Build(_, children) = &found.templates[0].body.form else {
+        panic!("a build")
+    };
+    let written: Vec<String> = children
+        .iter()
+        .map(|child| match &child.form {
+            NodeForm::Place(path) => path.written(),
+            _ => panic!("a place"),
+        })
+        .collect();
+    assert_eq!(written, ["x.type", r#"x."pub-date""#, "x.value"]);
+    assert_eq!(
+        mistakes("template m (x: r) of n = place x.\ntype t = yesno"),
+        ["line 2, column 1: a field is expected here; `type` begins a part and is no name"]
+    );
+    assert_eq!(
+        mistakes(r#"type r = record { "\xFF": t }"#),
+        ["line 1, column 19: a field's name is UTF-8"]
+    );
 }

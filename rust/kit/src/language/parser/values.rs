@@ -38,7 +38,7 @@ impl Parser {
         if !self.is_labelled() {
             return Ok((None, self.value()?));
         }
-        let label = self.name("a label")?;
+        let label = self.key("a label")?;
         self.sign(':')?;
         Ok((Some(label), self.value()?))
     }

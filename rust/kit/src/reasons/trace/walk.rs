@@ -38,8 +38,29 @@ pub(super) enum Level {
     },
 }
 
-/// The templates and fors that a walk was in when it stopped, the outermost first.
-pub(super) fn chain(tables: &Tables<'_>, value: &[Record], answer: Answer) -> Option<Vec<Level>> {
+/// A text that is to be written, by the record that it follows.
+#[derive(Clone, Copy, Debug, PartialEq, Eq)]
+pub(super) enum Text {
+    /// A keyword, behind its element.
+    Keyword(usize),
+    /// A separator, behind its element.
+    Separator(usize),
+    /// A literal, behind its node.
+    Literal(usize),
+    /// A text of the value that a place writes, plain or with its entities.
+    Place(usize),
+}
+
+/// Where a walk stopped.
+pub(super) struct Stop {
+    /// The templates and fors that it was in, the outermost first.
+    pub(super) levels: Vec<Level>,
+    /// The text that didn't fit, and how many bytes it takes.
+    pub(super) unfit: Option<(Text, usize)>,
+}
+
+/// Takes a walk again until it stops.
+pub(super) fn again(tables: &Tables<'_>, value: &[Record], answer: Answer) -> Option<Stop> {
     let mut walk = Walk {
         tables,
         value,
@@ -49,6 +70,7 @@ pub(super) fn chain(tables: &Tables<'_>, value: &[Record], answer: Answer) -> Op
         variables: vec![0],
         levels: vec![Level::Template(0)],
         stopped: None,
+        unfit: None,
     };
     let _ = walk.visit(Visit {
         node: tables.templates.first()?.body,
@@ -58,16 +80,19 @@ pub(super) fn chain(tables: &Tables<'_>, value: &[Record], answer: Answer) -> Op
     });
     // Another place or another count would be another set's answer.
     let place = usize::try_from(answer.place).ok();
-    (walk.stopped.is_some() && walk.stopped == place && walk.steps == answer.steps)
-        .then_some(walk.levels)
+    let stopped = walk.stopped.is_some() && walk.stopped == place && walk.steps == answer.steps;
+    stopped.then_some(Stop {
+        levels: walk.levels,
+        unfit: walk.unfit,
+    })
 }
 
 /// A node that is reached.
 #[derive(Clone, Copy)]
 struct Visit {
     node: usize,
-    /// The element that it stands for, if it is a child of a build.
-    element: Option<Record>,
+    /// The record of the element that it stands for, if it is a child of a build.
+    element: Option<usize>,
     depth: usize,
     /// Where its variables begin.
     base: usize,
@@ -75,7 +100,7 @@ struct Visit {
 
 impl Visit {
     /// A child or an entered body.
-    fn below(self, node: usize, element: Option<Record>) -> Self {
+    fn below(self, node: usize, element: Option<usize>) -> Self {
         Self {
             node,
             element,
@@ -102,11 +127,15 @@ struct Walk<'a> {
     levels: Vec<Level>,
     /// The node where the limit was met.
     stopped: Option<usize>,
+    /// The text that didn't fit.
+    unfit: Option<(Text, usize)>,
 }
 
 /// The items of one sequence; its fors bring items to it, and are none themselves.
 struct Row {
     sequence: usize,
+    /// The record of the repetition, which the separator follows.
+    element: usize,
     separator: usize,
     begun: bool,
 }
@@ -120,7 +149,9 @@ impl Walk<'_> {
         };
         match Form::of(head) {
             Some(Form::Build) => self.build(at, head.b()),
-            Some(Form::Literal) => self.write(usize::from(head.b()), at.node),
+            Some(Form::Literal) => {
+                self.write(at.node, Text::Literal(at.node), usize::from(head.b()))
+            }
             Some(Form::Place) => self.place(at),
             Some(Form::Expand) => self.expand(at, usize::from(head.b())),
             Some(Form::If) => self.branch(at),
@@ -152,8 +183,9 @@ impl Walk<'_> {
     }
 
     /// A text that is to be written by a node. An empty one always fits.
-    fn write(&mut self, length: usize, node: usize) -> Walked {
+    fn write(&mut self, node: usize, text: Text, length: usize) -> Walked {
         if self.answer.number == 12 && length > 0 && self.bytes == self.answer.bytes {
+            self.unfit = Some((text, length));
             return self.stop(node);
         }
         self.bytes += length as u64;
@@ -167,13 +199,13 @@ impl Walk<'_> {
         for &record in production.map_or(&[][..], |it| &it.elements) {
             let element = tables.grammar[record];
             if element.a() == 0 {
-                self.write(text_length(element), at.node)?;
+                self.write(at.node, Text::Keyword(record), text_length(element))?;
                 continue;
             }
             let Some(node) = nodes.next() else {
                 return STOP;
             };
-            self.visit(at.below(node, Some(element)))?;
+            self.visit(at.below(node, Some(record)))?;
         }
         ON
     }
@@ -183,7 +215,10 @@ impl Walk<'_> {
         let Some(text) = path.and_then(|path| self.find(path, at.base)) else {
             return STOP;
         };
-        let class = at.element.map(|element| usize::from(element.b()));
+        let element = at
+            .element
+            .and_then(|record| self.tables.grammar.get(record));
+        let class = element.map(|element| usize::from(element.b()));
         let escaped = class
             .is_some_and(|class| matches!(self.tables.classes.get(class), Some(Class::Escaped(_))));
         let length = usize::from(self.value[text].b());
@@ -192,7 +227,7 @@ impl Walk<'_> {
             true => escaped_length(bytes.take(length)),
             false => length,
         };
-        self.write(length, at.node)
+        self.write(at.node, Text::Place(text), length)
     }
 
     fn branch(&mut self, at: Visit) -> Walked {
@@ -231,9 +266,12 @@ impl Walk<'_> {
 
     fn sequence(&mut self, at: Visit) -> Walked {
         let tables = self.tables;
+        let element = at.element.unwrap_or_default();
+        let separator = tables.grammar.get(element).copied();
         let mut row = Row {
             sequence: at.node,
-            separator: at.element.map_or(0, text_length),
+            element,
+            separator: separator.map_or(0, text_length),
             begun: false,
         };
         for node in children(tables.records, at.node) {
@@ -249,7 +287,8 @@ impl Walk<'_> {
     /// An item of a sequence: the separator comes first, but before the first item.
     fn item(&mut self, at: Visit, row: &mut Row) -> Walked {
         if std::mem::replace(&mut row.begun, true) {
-            self.write(row.separator, row.sequence)?;
+            let text = Text::Separator(row.element);
+            self.write(row.sequence, text, row.separator)?;
         }
         self.visit(at)
     }

@@ -18,7 +18,12 @@ impl Here<'_> {
                 self.path_due(due, |shape| shape == Shape::YesNo)
             }
             _ => {
-                let why = format!("{form} stands only where a class is asked for");
+                let where_it_may = match form {
+                    Form::For => "as an item of a sequence",
+                    Form::Sequence => "where a repetition is asked for",
+                    _ => "where a class is asked for",
+                };
+                let why = format!("{form} stands only {where_it_may}");
                 let mut fault = self.misplaced(NONTERMINAL, why);
                 fault.said.push(self.productions_of(asked));
                 Some(fault)

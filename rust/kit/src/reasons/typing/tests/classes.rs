@@ -118,12 +118,6 @@ fn something_else_where_a_class_is_asked_for() {
     assert_eq!(rule, CLASS);
     assert!(said[1].ends_with("an expand stands here"));
     let (rule, said, _) = failing("place channel.title", "sequence ()");
-    assert_eq!(rule, REPETITION);
-    assert_eq!(
-        said,
-        [
-            FIRST[0],
-            "a sequence stands only where a repetition is asked for"
-        ]
-    );
+    assert_eq!(rule, CLASS);
+    assert!(said[1].ends_with("a sequence stands here"));
 }

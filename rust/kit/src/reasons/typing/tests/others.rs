@@ -73,16 +73,16 @@ fn a_for_over_something_else_or_elsewhere() {
         "else build advert",
         "else for x in episode.sound do build advert",
     );
-    assert_eq!(rule, REPETITION);
+    assert_eq!(rule, NONTERMINAL);
     assert_eq!(
-        named,
+        named[..2],
         [
             "nonterminal `item` is asked for here, as the second branch of the if",
             "a for stands only as an item of a sequence"
         ]
     );
     let (rule, _, named) = failing("do expand", "do for x in channel.episodes do expand");
-    assert_eq!(rule, REPETITION);
+    assert_eq!(rule, NONTERMINAL);
     assert_eq!(
         named[0],
         "nonterminal `item` is asked for here, as the body of the for"
@@ -94,7 +94,7 @@ fn a_for_over_something_else_or_elsewhere() {
         named,
         [
             "a repetition of nonterminal `item` is asked for here, by element 6 of production `feed` (child 5)",
-            "a for stands only as an item of a sequence"
+            "only a sequence stands for a repetition, and a for stands here"
         ]
     );
 }
@@ -109,9 +109,9 @@ fn something_else_than_a_sequence_and_a_sequence_elsewhere() {
         "only a sequence stands for a repetition, and a build stands here"
     );
     let (rule, said, _) = failing("= build yes", "= sequence ()");
-    assert_eq!(rule, REPETITION);
+    assert_eq!(rule, NONTERMINAL);
     assert_eq!(
-        said,
+        said[..2],
         [
             "nonterminal 3 is asked for here, as the body of template 2",
             "a sequence stands only where a repetition is asked for"
