@@ -21,7 +21,7 @@ echo "$*" >>runs
 for name; do
     [ "$name" != check ] || continue
     if [ "$name" = records ] && [ -e broken ]; then
-        echo "crates/records/src/lib.rt:1:1: error: not proved"
+        echo "crates/records/src/lib.source:1:1: error: not proved"
         echo "rt: records NOT PROVED (exit 1, 3 s)" >&2
         exit 1
     fi
@@ -47,13 +47,15 @@ records: rules # two on one level
 harbour: stream records rules io
 ";
 
+/// None ends as a source of the language does: `rt` looks for those in the whole repository, and finds
+/// what stands in no crate.
 const SOURCES: [&str; 6] = [
-    "crates/rules/src/lib.rt",
-    "crates/rules/specs/Lib.antt",
-    "crates/stream/src/lib.rt",
-    "crates/records/src/lib.rt",
-    "crates/harbour/src/main.rt",
-    "crates/harbour/proofs/a b/Proof.antt",
+    "crates/rules/src/lib.source",
+    "crates/rules/specs/Lib.source",
+    "crates/stream/src/lib.source",
+    "crates/records/src/lib.source",
+    "crates/harbour/src/main.source",
+    "crates/harbour/proofs/a b/Proof.source",
 ];
 
 /// What the program is not made of.
@@ -61,7 +63,7 @@ const OTHERS: [&str; 5] = [
     "crates/rules/must-fail/one.edit",
     "crates/harbour/stdout",
     "crates/harbour/data/value.blk",
-    "crates/spare/src/lib.rt",
+    "crates/spare/src/lib.source",
     "decoy/set/link",
 ];
 
@@ -321,7 +323,7 @@ fn a_build_that_fails() {
     let mut said = String::from("render: the program or a source of it has changed; ");
     said += BUILT.split("; ").nth(1).expect("a line");
     said.truncate(said.find("render: proving crate 4").expect("a line"));
-    said += "rt: stream proved (3 s)\ncrates/records/src/lib.rt:1:1: error: not proved\nrt: records NOT PROVED (exit 1, 3 s)\n";
+    said += "rt: stream proved (3 s)\ncrates/records/src/lib.source:1:1: error: not proved\nrt: records NOT PROVED (exit 1, 3 s)\n";
     said += "render: the program is not built: `rt check stream records` failed\n";
     little.fails(&["set"], &said);
     let why = "the last build did not end well";

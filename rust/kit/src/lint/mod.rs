@@ -5,10 +5,14 @@
 
 mod admits;
 mod barren;
+mod behind;
+mod flow;
+mod grammar;
 mod inside;
 mod listed;
 mod markup;
 mod silent;
+mod through;
 mod unused;
 
 use crate::language::description::Description;
@@ -57,11 +61,26 @@ mod tests {
 
     const PODCAST: &str = include_str!("../../../../examples/podcast/feed.txt");
     const HARBOUR: &str = include_str!("../../../../examples/harbour/feed.txt");
+    const STARTER: &str = include_str!("../starter/feed.txt");
 
     #[test]
     fn the_examples_are_meant() {
         assert_eq!(said(PODCAST), NONE);
         assert_eq!(said(HARBOUR), NONE);
+        assert_eq!(said(STARTER), NONE);
+    }
+
+    #[test]
+    fn a_slip_with_its_markup_in_another_production() {
+        let slip = PODCAST.replacen("time \" \" xml_title", "time \" \" title", 1);
+        assert_eq!(
+            said_of(&slip),
+            [
+                "title: class `title` admits `&` and `<` here, where production `some_chapters` has it \
+                 between `<itunes:summary>..` and `</itunes:summary>`, where they would be read as \
+                 markup: ask for its escaped form `xml_title`"
+            ]
+        );
     }
 
     #[test]
