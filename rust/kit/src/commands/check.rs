@@ -10,7 +10,7 @@ use crate::reasons::paper::{headline, quotes};
 use crate::reasons::remarks::{told, Records};
 use crate::reasons::room::walked;
 use crate::streams::layout::lines;
-use crate::streams::record::Kind;
+use crate::streams::record::{Kind, Record};
 use feed::{Finished, Refusal};
 
 pub(super) fn run(words: &Words) -> Step<Done> {
@@ -135,7 +135,7 @@ impl<'a> Refused<'a> {
         }
     }
 
-    fn of_kind(&self, kind: Kind) -> &[crate::streams::record::Record] {
+    fn of_kind(&self, kind: Kind) -> &[Record] {
         match kind {
             Kind::Grammar => &self.records.grammar,
             Kind::Templates => &self.records.templates,
