@@ -5,13 +5,13 @@ mod tests;
 
 use crate::assembly::map::Guide;
 use crate::reasons::context::{context, odd_record};
-use crate::reasons::paper::quotes;
+use crate::reasons::paper::{headline, quotes};
 use crate::reasons::remarks::{told, Records};
 use crate::reasons::room::walked;
 use crate::streams::layout::lines_with;
 use crate::streams::record::{Found, Kind};
 use crate::words::{counted, named};
-use feed::{Answer, Refusal};
+use feed::{Answer, Refusal, Stream};
 
 /// The three streams, as their files hold them.
 #[derive(Clone, Copy, Debug)]
@@ -128,7 +128,14 @@ fn finished(answer: Answer) -> String {
 /// said of it.
 fn refused(call: &str, refusal: Refusal, set: Set<'_>, guide: &Guide) -> String {
     let told = told(refusal, &set.records(), &guide.names);
-    let mut text = format!("{call}: {refusal}\n");
+    let line = match refusal {
+        Refusal::Typing { node } if node > 0 => {
+            let (stream, rule) = (Stream::Templates, headline(refusal, told.why));
+            format!("{stream}, record {node}: {rule}")
+        }
+        other => other.to_string(),
+    };
+    let mut text = format!("{call}: {line}\n");
     for quote in quotes(refusal, told.why) {
         text.push_str(&format!("    \"{quote}\"\n"));
     }

@@ -100,8 +100,9 @@ const MAP: &str = r#"{
 
 #[test]
 fn a_refusal_with_its_map() {
-    explain(&assembled("place page.title", "place page.entries")).reported(r#"
-check: the templates, record 12: a typing rule fails, or a path names a variable or field that isn't there (refusal 7)
+    explain(&assembled("place page.title", "place page.entries")).reported(
+        r#"
+check: the templates, record 12: a typing rule fails (refusal 7)
     "Class: a literal that is a lexeme, or a place whose path has type text of that very class."
   template.blk
            ..
@@ -116,7 +117,8 @@ check: the templates, record 12: a typing rule fails, or a path names a variable
   = class `word` is asked for here, by element 2 of production `page` (child 1)
   = the path `page.entries` finds a list (type `entries`), not a text
 evaluate: the same refusal
-"#);
+"#,
+    );
 }
 
 #[test]
@@ -181,7 +183,7 @@ evaluate: the templates, record 14: a keyword, lexeme or separator passes the en
 
 /// What is said without a usable map.
 const BY_NUMBERS: &str = r#"
-check: the templates, record 12: a typing rule fails, or a path names a variable or field that isn't there (refusal 7)
+check: the templates, record 12: a typing rule fails (refusal 7)
     "Class: a literal that is a lexeme, or a place whose path has type text of that very class."
   template.blk
            ..
