@@ -11,6 +11,7 @@
 
 pub mod assembly;
 pub mod commands;
+pub mod decoded;
 pub mod files;
 pub mod json;
 pub mod language;

@@ -13,6 +13,16 @@ pub struct Position {
     pub column: usize,
 }
 
+/// The place after a text's last character.
+pub fn end_of(text: &str) -> Position {
+    let line = text.matches('\n').count() + 1;
+    let last = text.rsplit('\n').next().unwrap_or("");
+    Position {
+        line,
+        column: last.chars().count() + 1,
+    }
+}
+
 /// What is wrong, and where.
 #[derive(Clone, Debug, PartialEq, Eq)]
 pub struct Mistake {

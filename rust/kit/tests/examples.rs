@@ -1,9 +1,10 @@
 //! The examples: their descriptions give their streams, and their streams their texts.
 
-use kit::assembly::assemble::{end_of, Assembled};
+use kit::assembly::assemble::Assembled;
 use kit::assembly::map::Map;
 use kit::language::description::{ClassForm, Value, ValueForm};
 use kit::language::parser::parse;
+use kit::mistake::end_of;
 use kit::reasons::characters::is_admitted;
 use kit::{assemble, Streams};
 use std::fs;

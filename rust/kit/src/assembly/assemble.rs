@@ -14,7 +14,7 @@ use crate::assembly::sheet::{word, Sheet};
 use crate::language::description::{Description, Text};
 use crate::language::parser::parse;
 use crate::language::rows::Rows;
-use crate::mistake::{Mistake, Position};
+use crate::mistake::{end_of, Mistake, Position};
 use crate::streams::record::Kind;
 
 /// The three streams, as their files hold them.
@@ -111,16 +111,6 @@ impl Assembled {
             }),
             _ => Err(mistakes),
         }
-    }
-}
-
-/// The place after a description's last character.
-pub fn end_of(description: &str) -> Position {
-    let line = description.matches('\n').count() + 1;
-    let last = description.rsplit('\n').next().unwrap_or("");
-    Position {
-        line,
-        column: last.chars().count() + 1,
     }
 }
 

@@ -202,8 +202,8 @@ impl<'a> Reader<'a> {
 #[cfg(test)]
 mod tests {
     use super::*;
-    use crate::assembly::assemble::end_of;
     use crate::json::parse;
+    use crate::mistake::end_of;
 
     /// How many mistakes are found in data for a list of records with so many fields.
     fn found(fields: usize, data: &str) -> usize {

@@ -228,8 +228,8 @@ fn number(json: &Json) -> Result<usize, Mistake> {
 #[cfg(test)]
 mod tests {
     use super::*;
-    use crate::assembly::assemble::end_of;
     use crate::language::parser::parse;
+    use crate::mistake::end_of;
 
     const SMALL: &str = r#"class c 1 to 4 { 'a' }
 production p of n = "[" c m* "]"

@@ -4,6 +4,7 @@ use crate::assembly::path::DataPath;
 use crate::assembly::sheet::{word, Sheet};
 use crate::language::description::{Description, TypeForm};
 use crate::language::rows::Rows;
+use crate::reasons::values::children;
 use crate::streams::record::Record;
 
 /// A list that stands in no other.
@@ -77,33 +78,24 @@ impl Reader<'_> {
                 heads: self.heads.clone(),
             }),
             (Some(TypeForm::Record(fields)), 4) => {
-                let mut child = at + 1;
-                for field in fields.iter().take(usize::from(head.d())) {
+                for (field, child) in fields.iter().zip(children(self.records, at)) {
                     let outside = self.path.field(&field.name.word);
                     self.value(child, self.rows.type_named(&field.of));
                     self.path.leave(outside);
-                    child += self.size(child);
                 }
             }
             _ => {}
         }
         self.heads.pop();
     }
-
-    /// The records of a value; a yes/no has no size field.
-    fn size(&self, at: usize) -> usize {
-        match self.records.get(at) {
-            Some(head) if head.kind() != 2 => usize::from(head.c()).max(1),
-            _ => 1,
-        }
-    }
 }
 
 #[cfg(test)]
 mod tests {
     use super::*;
-    use crate::assembly::assemble::{end_of, Assembled};
+    use crate::assembly::assemble::Assembled;
     use crate::language::parser::parse;
+    use crate::mistake::end_of;
 
     fn value(text: &str) -> (Description, Sheet) {
         let description = format!(

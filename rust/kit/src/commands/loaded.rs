@@ -2,16 +2,17 @@
 
 use super::check::accepted;
 use super::{Done, Step};
-use crate::assembly::assemble::{end_of, Assembled, Made};
+use crate::assembly::assemble::{Assembled, Made};
 use crate::assembly::data;
 use crate::assembly::map::Map;
 use crate::assembly::sheet::Sheet;
+use crate::decoded::decoded;
 use crate::files::{self, MOST_TEXT};
 use crate::json;
 use crate::language::description::Description;
 use crate::language::parser::parse;
 use crate::language::rows::Rows;
-use crate::mistake::{Mistake, Position, Source};
+use crate::mistake::{end_of, Mistake, Position, Source};
 use crate::reasons::explain::Set;
 use crate::streams::record::Kind;
 use crate::words::file_called;
@@ -26,38 +27,26 @@ pub struct Text {
 }
 
 impl Text {
-    /// Reads a file; what is no UTF-8 in it is shown, and the command ends.
-    fn read(file: &Path, what: &str) -> Step<Self> {
+    /// Reads a file; what is no text in it is shown, and the command ends.
+    fn read(file: &Path) -> Step<Self> {
         let name = file_called(file);
         let bytes = files::read(file, MOST_TEXT).map_err(Done::file)?;
-        String::from_utf8(bytes)
-            .map_err(|error| Done::refused(no_text(&name, what, error.as_bytes())))
-            .map(|text| Self { name, text })
+        match decoded(&bytes) {
+            Ok(text) => Ok(Self {
+                name,
+                text: text.to_string(),
+            }),
+            Err(mistake) => {
+                let seen = String::from_utf8_lossy(&bytes);
+                Err(Done::refused(Source::new(&name, &seen).shown(&[mistake])))
+            }
+        }
     }
 
     /// Mistakes in it, with their lines.
     pub fn shown(&self, mistakes: &[Mistake]) -> String {
         Source::new(&self.name, &self.text).shown(mistakes)
     }
-}
-
-/// Where bytes stop being UTF-8. UTF-16, in which some editors save, is named if its mark tells.
-fn no_text(name: &str, what: &str, bytes: &[u8]) -> String {
-    let lossy = String::from_utf8_lossy(bytes);
-    let valid = match std::str::from_utf8(bytes) {
-        Ok(text) => text.len(),
-        Err(error) => error.valid_up_to(),
-    };
-    let at = end_of(&String::from_utf8_lossy(&bytes[..valid]));
-    let message = match bytes {
-        [0xFF, 0xFE, ..] | [0xFE, 0xFF, ..] => {
-            format!(
-                "the {what} begins with a byte-order mark of UTF-16: save it as UTF-8, without one"
-            )
-        }
-        _ => format!("the {what} is no UTF-8 here: save it as UTF-8"),
-    };
-    Source::new(name, &lossy).shown(&[Mistake::new(at, message)])
 }
 
 /// A description that has no mistake of its own.
@@ -76,7 +65,7 @@ impl Loaded {
     /// # Errors
     /// The file can't be read, or the description has mistakes, which are shown.
     pub fn read(file: &Path) -> Step<Self> {
-        let source = Text::read(file, "description")?;
+        let source = Text::read(file)?;
         let shown = |mistakes: Vec<Mistake>| Done::refused(source.shown(&mistakes));
         let tree = parse(&source.text).map_err(shown)?;
         let set = Assembled::of(&tree, end_of(&source.text)).map_err(shown)?;
@@ -159,7 +148,7 @@ impl Unpacked {
             // The first template is at fault then, and not the data.
             accepted(loaded, None)?;
         }
-        let source = Text::read(file, "data")?;
+        let source = Text::read(file)?;
         let shown = |mistakes: Vec<Mistake>| Done::refused(source.shown(&mistakes));
         let json = json::parse(source.text.as_bytes()).map_err(|mistake| shown(vec![mistake]))?;
         let sheet = data::value(&loaded.tree, &loaded.set, &json).map_err(shown)?;

@@ -12,6 +12,7 @@ mod text;
 #[cfg(test)]
 mod tests;
 
+use crate::decoded::decoded;
 use crate::mistake::{Mistake, Position};
 
 /// How deep arrays and objects may nest.
@@ -72,7 +73,7 @@ impl Json {
 /// # Errors
 /// The first mistake. Bytes that are no UTF-8 come before all others.
 pub fn parse(bytes: &[u8]) -> Result<Json, Mistake> {
-    reader::Reader::new(source::decoded(bytes)?).document()
+    reader::Reader::new(decoded(bytes)?).document()
 }
 
 /// A text as JSON writes it, with its quotes: controls, `"` and `\` are escaped, all else is as it is.

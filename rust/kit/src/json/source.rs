@@ -1,40 +1,8 @@
 //! The characters of a file, read one after the other, with their places.
 
-use crate::mistake::{Mistake, Position};
+use crate::mistake::Position;
 
 const START: Position = Position { line: 1, column: 1 };
-
-/// The characters of a file's bytes.
-pub(super) fn decoded(bytes: &[u8]) -> Result<&str, Mistake> {
-    if bytes.starts_with(b"\xEF\xBB\xBF") {
-        return Err(Mistake::new(
-            START,
-            "the file begins with a byte-order mark (U+FEFF): save it without one",
-        ));
-    }
-    if bytes.starts_with(b"\xFF\xFE") || bytes.starts_with(b"\xFE\xFF") {
-        return Err(Mistake::new(
-            START,
-            "the file begins with a byte-order mark of UTF-16: save it as UTF-8, without one",
-        ));
-    }
-    std::str::from_utf8(bytes).map_err(|error| {
-        let (valid, rest) = bytes.split_at(error.valid_up_to());
-        let wrong = &rest[..error.error_len().unwrap_or(rest.len())];
-        undecoded(valid, wrong)
-    })
-}
-
-/// The mistake of bytes that are no UTF-8, after what is.
-fn undecoded(valid: &[u8], wrong: &[u8]) -> Mistake {
-    let mut source = Source::new(std::str::from_utf8(valid).unwrap_or_default());
-    while source.next().is_some() {}
-    let bytes: String = wrong.iter().map(|byte| format!("\\x{byte:02X}")).collect();
-    Mistake::new(
-        source.at,
-        format!("`{bytes}` is no UTF-8: save the file as UTF-8"),
-    )
-}
 
 /// What of a file is still to be read.
 #[derive(Clone, Copy)]

@@ -55,7 +55,6 @@ pub struct Tokens {
 pub fn tokens(description: &str) -> Tokens {
     let mut lexer = Lexer::new(description);
     let mut found = Vec::new();
-    lexer.skip_mark();
     loop {
         lexer.skip_blanks();
         let at = lexer.at;
@@ -141,18 +140,6 @@ impl<'a> Lexer<'a> {
                 return;
             }
             self.run(|c| c != '\n');
-        }
-    }
-
-    /// Skips a byte-order mark, which some editors put before a text.
-    fn skip_mark(&mut self) {
-        if self.peek() == Some('\u{FEFF}') {
-            let at = self.at;
-            self.mistake(
-                at,
-                "the description begins with a byte-order mark (U+FEFF): save it without one",
-            );
-            self.next();
         }
     }
 

@@ -151,7 +151,7 @@ fn names_that_are_long_are_cut_in_remarks() {
 fn a_byte_order_mark_is_named() {
     check(format!("\u{FEFF}{}", changed("", ""))).refused(
         r#"
-feed.txt:1:1: the description begins with a byte-order mark (U+FEFF): save it without one
+feed.txt:1:1: the file begins with a byte-order mark (U+FEFF): save it without one
     \u{feff}class word 1 to 8 { 'a'-'z' U+0370-U+03FF }
     ^
 "#,
@@ -162,7 +162,7 @@ feed.txt:1:1: the description begins with a byte-order mark (U+FEFF): save it wi
 fn a_byte_order_mark_of_utf_16_is_named() {
     check(b"\xFF\xFEc\0l\0").refused(
         r#"
-feed.txt:1:1: the description begins with a byte-order mark of UTF-16: save it as UTF-8, without one
+feed.txt:1:1: the file begins with a byte-order mark of UTF-16: save it as UTF-8, without one
     ��c\u{0}l\u{0}
     ^
 "#,
@@ -173,7 +173,7 @@ feed.txt:1:1: the description begins with a byte-order mark of UTF-16: save it a
 fn a_description_that_is_no_text() {
     check(b"value\n  \"\xCE\xB1\xC0\"").refused(
         r#"
-feed.txt:2:5: the description is no UTF-8 here: save it as UTF-8
+feed.txt:2:5: `\xC0` is no UTF-8: save the file as UTF-8
       "α�"
         ^
 "#,

@@ -288,7 +288,7 @@ data.json:1:1: the file begins with a byte-order mark (U+FEFF): save it without 
 fn a_byte_order_mark_of_utf_16() {
     value(with(b"\xFF\xFE{\0}\0")).refused(
         r#"
-data.json:1:1: the data begins with a byte-order mark of UTF-16: save it as UTF-8, without one
+data.json:1:1: the file begins with a byte-order mark of UTF-16: save it as UTF-8, without one
     ��{\u{0}}\u{0}
     ^
 "#,
@@ -299,7 +299,7 @@ data.json:1:1: the data begins with a byte-order mark of UTF-16: save it as UTF-
 fn bytes_that_are_no_text() {
     value(with(b"{\"title\": \"a\xC0\"}")).refused(
         r#"
-data.json:1:13: the data is no UTF-8 here: save it as UTF-8
+data.json:1:13: `\xC0` is no UTF-8: save the file as UTF-8
     {"title": "a�"}
                 ^
 "#,

@@ -97,14 +97,6 @@ fn the_tokens_behind_a_mistake_are_read() {
 }
 
 #[test]
-fn a_byte_order_mark_is_named() {
-    assert_eq!(
-        mistakes("\u{FEFF}class"),
-        ["line 1, column 1: the description begins with a byte-order mark (U+FEFF): save it without one"]
-    );
-}
-
-#[test]
 fn stray_characters_are_one_mistake_and_shown_as_escapes() {
     assert_eq!(
         mistakes("a \u{1b};; b"),
