@@ -9,7 +9,6 @@ use super::behind::{Behind, Following};
 use super::flow::{Place, Places};
 use super::grammar::Grammar;
 use super::inside::{Inside, Reader};
-use super::listed::listed;
 use super::through::Through;
 use crate::language::description::{Class, ClassForm, Description, Element, Production};
 use crate::mistake::Mistake;
@@ -132,7 +131,7 @@ impl Rule<'_> {
         let message = format!(
             "class {} admits {} here, {}, {}",
             named(&name.word),
-            listed(&characters),
+            in_a_row(&characters),
             self.between(around),
             self.why_and_cure(inside, &name.word, &characters)
         );
@@ -194,7 +193,7 @@ fn why(inside: Inside, characters: &[String]) -> String {
         [only] if *only == quote => "where it would end the value".to_string(),
         [others @ .., last] if *last == quote => format!(
             "where {} would be read as markup and `{last}` would end the value",
-            listed(others)
+            in_a_row(others)
         ),
         [_] => "where it would be read as markup".to_string(),
         _ => "where they would be read as markup".to_string(),
@@ -239,6 +238,15 @@ fn shown(bytes: &[u8]) -> String {
     let text = String::from_utf8_lossy(bytes);
     let words: Vec<&str> = text.split_whitespace().collect();
     cut(&words.join(" "), SHOWN).chars().map(visible).collect()
+}
+
+/// `` `a` ``, `` `a` and `b` ``, `` `a`, `b` and `c` ``.
+fn in_a_row(characters: &[String]) -> String {
+    let each: Vec<String> = characters.iter().map(|it| format!("`{it}`")).collect();
+    match each.as_slice() {
+        [before @ .., last] if !before.is_empty() => format!("{} and {last}", before.join(", ")),
+        all => all.concat(),
+    }
 }
 
 #[cfg(test)]

@@ -9,7 +9,6 @@ mod behind;
 mod flow;
 mod grammar;
 mod inside;
-mod listed;
 mod markup;
 mod silent;
 mod through;

@@ -3,12 +3,11 @@
 //! A text begins at the first template. What its builds and expands don't lead to is never written,
 //! though something else that is never written may name it.
 
-use super::listed::some_listed;
 use crate::language::description::{
     ClassForm, Description, Element, Name, Node, NodeForm, Template, TypeForm,
 };
 use crate::mistake::Mistake;
-use crate::words::named;
+use crate::words::{listed, named};
 use std::collections::{HashMap, HashSet};
 
 /// What is said of the four rows.
@@ -136,7 +135,7 @@ impl<'a> Said<'a> {
             ),
             several => format!(
                 "only templates {} {build} it, which are not used themselves",
-                some_listed(several)
+                listed(&several.iter().map(|it| named(it)).collect::<Vec<_>>())
             ),
         }
     }
@@ -272,7 +271,7 @@ mod tests {
         assert_eq!(
             said(&format!("production p2 of m =\n{users}"))[0],
             "line 7, column 12: production `p2` is not used: \
-             only templates `u0`, `u1`, `u2` and 2 more build it, which are not used themselves"
+             only templates `u0`, `u1`, `u2`, `u3`, `u4` build it, which are not used themselves"
         );
     }
 
