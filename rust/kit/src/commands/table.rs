@@ -78,8 +78,8 @@ docs/TUTORIAL.md goes on from there. A folder that has one of these files stays 
         options: LENT,
         summary: "say what is wrong with a description, and where",
         page: "\
-Reads the description in FILE, assembles it and asks the proved library. All mistakes of the
-description itself are shown at once; what the library refuses is shown at its line, with the
+Reads the description in FILE, assembles it and asks the proved library. Mistakes of the
+description itself are shown together; what the library refuses is shown at its line, with the
 rule that failed. With DATA.json, or if the description has a value, it is evaluated, too.
 ",
         run: check::run,

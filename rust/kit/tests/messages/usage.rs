@@ -243,8 +243,8 @@ fn the_page_of_a_command_that_evaluates() {
 kit check FILE [DATA.json] [--fuel N] [--output N] [--scratch N]
 say what is wrong with a description, and where
 
-Reads the description in FILE, assembles it and asks the proved library. All mistakes of the
-description itself are shown at once; what the library refuses is shown at its line, with the
+Reads the description in FILE, assembles it and asks the proved library. Mistakes of the
+description itself are shown together; what the library refuses is shown at its line, with the
 rule that failed. With DATA.json, or if the description has a value, it is evaluated, too.
 
   --fuel N      the most nodes visited (1000000)
