@@ -11,7 +11,7 @@ use lib.Dec.{eqb, ltb}
 use borrow.Author.Tests.{eqb-true, eqb-false, ltb-true, ltb-false}
 use borrow.Rule.Slice.PartMut.{putMid}
 use Rattle.rules.specs.Faults.{onFound, onlyIf, exists}
-use Rattle.rules.specs.Records.{kindOf}
+use Rattle.rules.specs.Records.{kindOf, recordCount}
 use Rattle.rules.specs.Grammar.{classes, productions, class, escapedClass}
 use Rattle.laws.specs.Lists.{nth-some, nth-none}
 use Rattle.layout.specs.Heads.{part}
@@ -133,9 +133,9 @@ module _ {g heads : List ℕ} {cs ps : ℕ} (a : MarkAsks g heads cs ps) {after 
           }
 
 -- what it asks, of a table that has an entry to spare
-pub mark-asks : {g t v : List ℕ} {valued : Bool} {of-g of-t : List ℕ} {r : Judged} → HeadsJudged g t v valued of-g of-t r → length of-g ≡ 513
+pub mark-asks : {g t v : List ℕ} {valued : Bool} {of-g of-t : List ℕ} {r : Judged} → HeadsJudged g t v valued of-g of-t r → recordCount g < length of-g
     → MarkAsks g of-g (r .classes) (r .productions)
-mark-asks {of-g = of-g} {r = r} h e = record {
+mark-asks {of-g = of-g} {r = r} h l = record {
   grammar-sized = h .tabled .grammar-sized;
   few = omega (arith, h .tabled .few-classes, length-take (r .classes - 0) (drop 0 of-g), h .productions-behind, h .in-grammar);
   behind = h .productions-behind;

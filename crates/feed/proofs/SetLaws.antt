@@ -18,7 +18,7 @@ use Rattle.rules.specs.declared.Answer.{Answer}
 use Rattle.laws.specs.Reads.{few-records}
 use Rattle.records.specs.Children.{Children}
 use Rattle.lexeme.specs.Sets.{SetsLent, Compiled, LexemesReady}
-use Rattle.layout.specs.Heads.{mostClasses, mostProductions, LaidGrammar, LaidTemplates, Tables}
+use Rattle.layout.specs.Heads.{mostClasses, LaidGrammar, LaidTemplates, Tables}
 use Rattle.layout.specs.declared.heads.Counts.{Counts}
 use Rattle.typing.specs.Asks.{TemplatesAsk, ValueAsks}
 use Rattle.walk.specs.Marks.{ProductionHeads}
@@ -26,7 +26,7 @@ use Rattle.walk.specs.Asks.{sources, Walkable}
 use Rattle.feed.specs.declared.verdict.Verdict.{Verdict}
 use Rattle.feed.specs.declared.verdict.Verdict.the-variants.{Refused, Passed}
 use Rattle.feed.specs.Verdict.{verdictOf, streamsRefusal, setJudgement, judgement}
-use Rattle.feed.specs.Asks.{ChildRoom, Tabled, Judgeable, SetAsks, SetJudged, JudgeAsks, HeadsAsk, HeadsJudged, CheckAsks, EvaluateAsks}
+use Rattle.feed.specs.Asks.{ChildRoom, Tabled, Judgeable, SetAsks, SetJudged, JudgeAsks, HeadsAsk, HeadsJudged, GrammarRoom, CheckAsks, EvaluateAsks}
 use Rattle.feed.proofs.OrderLaws.{two-laid, three-laid, set-alone, value-refused, value-passed}
 use Rattle.feed.proofs.EndLaws.{paths-fit}
 
@@ -47,34 +47,41 @@ large-rows v firsts places a b = record {
 }
 
 -- and for the heads of a template set
-module _ (g t heads : List ℕ) (passed : streamsRefusal (Answers.grammar g ∷ Answers.templates t ∷ []) accept ≡ none) where
-  pub small-check : length t ≤ 4096 → length heads ≡ 504 → CheckAsks g t heads
+module _ (g t of-t : List ℕ) (passed : streamsRefusal (Answers.grammar g ∷ Answers.templates t ∷ []) accept ≡ none) where
+  pub small-check : length t ≤ 4096 → length of-t ≡ 504 → CheckAsks g t of-t
   small-check l e = let h = small-records t l in record { passed = passed; room = omega arith }
 
-  pub large-check : length heads ≡ 8064 → CheckAsks g t heads
+  pub large-check : length of-t ≡ 8064 → CheckAsks g t of-t
   large-check e = let h = few-records t (two-laid g t passed .1 .length-right) in record { passed = passed; room = omega arith }
 
-module _ (g t v firsts places heads : List ℕ) (passed : streamsRefusal (Answers.grammar g ∷ Answers.templates t ∷ Answers.value v ∷ []) accept ≡ none) (table : Children v firsts places) where
-  pub small-evaluate : length t ≤ 4096 → length heads ≡ 504 → EvaluateAsks g t v firsts places heads
+module _ (g t v firsts places of-t : List ℕ) (passed : streamsRefusal (Answers.grammar g ∷ Answers.templates t ∷ Answers.value v ∷ []) accept ≡ none) (table : Children v firsts places) where
+  pub small-evaluate : length t ≤ 4096 → length of-t ≡ 504 → EvaluateAsks g t v firsts places of-t
   small-evaluate l e = let h = small-records t l in record { passed = passed; room = omega arith; children = table }
 
-  pub large-evaluate : length heads ≡ 8064 → EvaluateAsks g t v firsts places heads
+  pub large-evaluate : length of-t ≡ 8064 → EvaluateAsks g t v firsts places of-t
   large-evaluate e = let h = few-records t (three-laid g t v passed .1 .length-right) in record { passed = passed; room = omega arith; children = table }
 
--- what judging asks, in a check and in an evaluate call
-pub check-judges : (g t of-g heads : List ℕ) → CheckAsks g t heads → length of-g ≡ 513 → HeadsAsk g t g of-g heads
-check-judges g t of-g heads a e =
-    let l = two-laid g t (a .passed) in
-    record { grammar-laid = l .0; templates-laid = l .1; value-sized = l .0 .length-right; grammar-room = omega arith; templates-room = a .room }
+-- and for the heads of a grammar, with an entry to spare
+pub small-heads : (g of-g : List ℕ) → length g ≤ 4096 → 505 ≤ length of-g → GrammarRoom g of-g
+small-heads g of-g l e = let h = small-records g l in record { room = omega arith }
 
-pub evaluate-judges : (g t v firsts places of-g heads : List ℕ) → EvaluateAsks g t v firsts places heads → length of-g ≡ 513 → HeadsAsk g t v of-g heads
-evaluate-judges g t v firsts places of-g heads a e =
+pub large-heads : (g of-g : List ℕ) → streamLength g ≡ none → 8065 ≤ length of-g → GrammarRoom g of-g
+large-heads g of-g w e = let h = few-records g w in record { room = omega arith }
+
+-- what judging asks, in a check and in an evaluate call
+pub check-judges : (g t of-g of-t : List ℕ) → CheckAsks g t of-t → GrammarRoom g of-g → HeadsAsk g t g of-g of-t
+check-judges g t of-g of-t a r =
+    let l = two-laid g t (a .passed) in
+    record { grammar-laid = l .0; templates-laid = l .1; value-sized = l .0 .length-right; grammar-room = omega (arith, r .room); templates-room = a .room }
+
+pub evaluate-judges : (g t v firsts places of-g of-t : List ℕ) → EvaluateAsks g t v firsts places of-t → GrammarRoom g of-g → HeadsAsk g t v of-g of-t
+evaluate-judges g t v firsts places of-g of-t a r =
     let l = three-laid g t v (a .passed) in
-    record { grammar-laid = l .0; templates-laid = l .1; value-sized = l .2; grammar-room = omega arith; templates-room = a .room }
+    record { grammar-laid = l .0; templates-laid = l .1; value-sized = l .2; grammar-room = omega (arith, r .room); templates-room = a .room }
 
 -- the parts of the tables that were filled
 module _ (g t of-g of-t of-g₀ of-t₀ : List ℕ) (m n : Counts) (lg : LaidGrammar g) (lt : LaidTemplates t)
-    (a : Tables mostClasses mostProductions (classes g) (productions g) of-g₀ of-g m) (b : Tables (recordCount t) (recordCount t) (types t) (templates t) of-t₀ of-t n) where
+    (a : Tables mostClasses (recordCount g) (classes g) (productions g) of-g₀ of-g m) (b : Tables (recordCount t) (recordCount t) (types t) (templates t) of-t₀ of-t n) where
   pub tabled : Tabled g t (take (m .first - 0) (drop 0 of-g)) (take (m .first + m .second - m .first) (drop (m .first) of-g)) (take (n .first - 0) (drop 0 of-t)) (take (n .first + n .second - n .first) (drop (n .first) of-t))
   tabled = record {
     grammar-sized = lg .length-right;
@@ -93,7 +100,7 @@ module _ (g t of-g of-t of-g₀ of-t₀ : List ℕ) (m n : Counts) (lg : LaidGra
     tabled = tabled;
     productions-behind = omega arith;
     templates-behind = omega arith;
-    in-grammar = omega (arith, a .few, a .few');
+    in-grammar = a .fit;
     in-templates = b .fit;
   }
 

@@ -13,7 +13,7 @@ use Rattle.rules.specs.Answers
 use Rattle.rules.specs.Answers.{grammar, value, accept}
 use Rattle.records.specs.Children.{Children}
 use Rattle.lexeme.specs.Sets.{LexemesReady}
-use Rattle.layout.specs.Heads.{part, mostClasses, mostProductions, LaidGrammar, LaidTemplates}
+use Rattle.layout.specs.Heads.{part, LaidGrammar, LaidTemplates}
 use Rattle.walk.specs.Marks.{ProductionHeads}
 use Rattle.feed.specs.declared.set.Judged.{Judged}
 use Rattle.feed.specs.declared.verdict.Verdict.{Verdict}
@@ -64,7 +64,7 @@ pub record HeadsAsk (g t v of-g of-t : List ℕ) : Type 0 where
   pub grammar-laid : LaidGrammar g
   pub templates-laid : LaidTemplates t
   pub value-sized : streamLength v ≡ none
-  pub grammar-room : mostClasses + mostProductions ≤ length of-g
+  pub grammar-room : recordCount g ≤ length of-g
   pub templates-room : recordCount t ≤ length of-t
 
 -- the verdict is that of 4 to 8, and the heads of each kind stand in their table, up to its end
@@ -73,18 +73,22 @@ pub record HeadsJudged (g t v : List ℕ) (valued : Bool) (of-g of-t : List ℕ)
   pub tabled : Tabled g t (part 0 (r .classes) of-g) (part (r .classes) (r .productions) of-g) (part 0 (r .types) of-t) (part (r .types) (r .templates) of-t)
   pub productions-behind : r .classes ≤ r .productions
   pub templates-behind : r .types ≤ r .templates
-  pub in-grammar : r .productions ≤ mostClasses + mostProductions
-  pub in-templates : r .templates ≤ length of-t
+  pub in-grammar : r .productions ≤ recordCount g
+  pub in-templates : r .templates ≤ recordCount t
+
+-- a table has room for the heads of a grammar, and an entry to spare, as the walk has a number behind them
+pub record GrammarRoom (g of-g : List ℕ) : Type 0 where
+  pub room : recordCount g < length of-g
 
 -- 1 to 3 let the streams through, and there is room for the heads of the templates' stream
-pub record CheckAsks (g t heads : List ℕ) : Type 0 where
+pub record CheckAsks (g t of-t : List ℕ) : Type 0 where
   pub passed : streamsRefusal (grammar g ∷ Answers.templates t ∷ []) accept ≡ none
-  pub room : recordCount t ≤ length heads
+  pub room : recordCount t ≤ length of-t
 
 -- the value's children are in their table besides
-pub record EvaluateAsks (g t v firsts places heads : List ℕ) : Type 0 where
+pub record EvaluateAsks (g t v firsts places of-t : List ℕ) : Type 0 where
   pub passed : streamsRefusal (grammar g ∷ Answers.templates t ∷ value v ∷ []) accept ≡ none
-  pub room : recordCount t ≤ length heads
+  pub room : recordCount t ≤ length of-t
   pub children : Children v firsts places
 
 -- the table of a grammar's heads, with an entry to spare; what it becomes for the walk, from r on

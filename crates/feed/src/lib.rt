@@ -2,7 +2,7 @@
 // stated order of the checks; the exports for other languages are in `c`.
 ghost use mathlib.Core.Path.{_≡_};
 ghost use Rattle.rules.specs.Answers.{check, evaluate};
-ghost use Rattle.feed.specs.Asks.{ChildRoom, CheckAsks, EvaluateAsks, MarkAsks, HeadsMarked};
+ghost use Rattle.feed.specs.Asks.{ChildRoom, GrammarRoom, CheckAsks, EvaluateAsks, MarkAsks, HeadsMarked};
 ghost use Rattle.feed.specs.Verdict.{outcome};
 
 pub mod c;
@@ -26,27 +26,29 @@ use verdict::refused;
 use walk::mark;
 use walk::run;
 
-// The classes and the productions of a grammar, at most 256 each, have their heads in one table, with a number behind them for the walk.
-const GRAMMAR_HEADS: usize = 513;
-
-// The records of a whole stream, and of one of at most 8 blocks: a table of either length has room for the heads of such a template set, or for
-// the children of such a value.
+// The records of a whole stream, and of one of at most 8 blocks. Each head takes a record of its own: a table of either length has room for the
+// heads of such a template set, or for the children of such a value.
 const RECORDS: usize = 8064;
 
 const SMALL_RECORDS: usize = 504;
 
 const SMALL_STREAM: usize = 4096;
 
+// The same for a grammar, whose classes and productions have their heads in one table, with a number behind them for the walk.
+const GRAMMAR_HEADS: usize = 8065;
+
+const SMALL_GRAMMAR_HEADS: usize = 505;
+
 // Refusal 9: "fewer than 4,800 16-bit numbers, 24 for each depth".
 const SCRATCH: usize = 4800;
 
-// 4 to 7 of a grammar and a template set that 1 to 3 let through. The heads of the templates' stream go into a table that is lent.
-fn check_set(g: &[u8], t: &[u8], heads: &mut [u16]) -> Answer
-    requires { ⌜ CheckAsks (now g) (now t) (now heads) ⌝ }
+// 4 to 7 of a grammar and a template set that 1 to 3 let through. Their heads go into tables that are lent.
+fn check_set(g: &[u8], t: &[u8], gheads: &mut [u16], theads: &mut [u16]) -> Answer
+    requires { ⌜ CheckAsks (now g) (now t) (now theads) ⌝ }
+    requires { ⌜ GrammarRoom (now g) (now gheads) ⌝ }
     ensures { λ r. ⌜ r ≡ check (now (g .entry)) (now (t .entry)) ⌝ }
 {
-    let mut of_g = [0u16; GRAMMAR_HEADS];
-    let judged = judge(g, t, g, false, &mut of_g, heads);
+    let judged = judge(g, t, g, false, gheads, theads);
     let verdict = judged.verdict;
     if let Verdict::Refused(number, kind, place) = verdict {
         return refused(number, kind, place);
@@ -54,8 +56,21 @@ fn check_set(g: &[u8], t: &[u8], heads: &mut [u16]) -> Answer
     accepted()
 }
 
-// The check call: 1 to 7 of a grammar and a template set. Five zeros mean accepted. Small template sets, which are most, take a small table of
-// heads, which is sooner cleared.
+// The same with a table of the grammar's heads of its own.
+fn check_tabled(g: &[u8], t: &[u8], theads: &mut [u16]) -> Answer
+    requires { ⌜ CheckAsks (now g) (now t) (now theads) ⌝ }
+    ensures { λ r. ⌜ r ≡ check (now (g .entry)) (now (t .entry)) ⌝ }
+{
+    if g.len() <= SMALL_STREAM {
+        let mut gheads = [0u16; SMALL_GRAMMAR_HEADS];
+        return check_set(g, t, &mut gheads, theads);
+    }
+    let mut gheads = [0u16; GRAMMAR_HEADS];
+    check_set(g, t, &mut gheads, theads)
+}
+
+// The check call: 1 to 7 of a grammar and a template set. Five zeros mean accepted. Small streams, which are most, take small tables of heads,
+// which are sooner cleared.
 pub fn check(g: &[u8], t: &[u8]) -> Answer
     ensures { λ r. ⌜ r ≡ check (now (g .entry)) (now (t .entry)) ⌝ }
 {
@@ -63,11 +78,11 @@ pub fn check(g: &[u8], t: &[u8]) -> Answer
         return refused(number, kind, place);
     }
     if t.len() <= SMALL_STREAM {
-        let mut heads = [0u16; SMALL_RECORDS];
-        return check_set(g, t, &mut heads);
+        let mut theads = [0u16; SMALL_RECORDS];
+        return check_tabled(g, t, &mut theads);
     }
-    let mut heads = [0u16; RECORDS];
-    check_set(g, t, &mut heads)
+    let mut theads = [0u16; RECORDS];
+    check_tabled(g, t, &mut theads)
 }
 
 // Makes the table of the grammar's heads that of the walk: marks in the place of the classes' heads, for which it has no use, then the productions,
@@ -88,16 +103,17 @@ fn evaluate_set(
     v: &[u8],
     firsts: &[u16],
     places: &[u16],
-    heads: &mut [u16],
+    gheads: &mut [u16],
+    theads: &mut [u16],
     fuel: u32,
     out: &mut [u8],
     scratch: &mut [u16],
 ) -> Answer
-    requires { ⌜ EvaluateAsks (now g) (now t) (now v) (now firsts) (now places) (now heads) ⌝ }
+    requires { ⌜ EvaluateAsks (now g) (now t) (now v) (now firsts) (now places) (now theads) ⌝ }
+    requires { ⌜ GrammarRoom (now g) (now gheads) ⌝ }
     ensures { λ r. ⌜ outcome r (now (out .exit)) (now (scratch .exit)) ≡ evaluate (now (g .entry)) (now (t .entry)) (now (v .entry)) fuel (now (out .entry)) (now (scratch .entry)) ⌝ }
 {
-    let mut of_g = [0u16; GRAMMAR_HEADS];
-    let judged = judge(g, t, v, true, &mut of_g, heads);
+    let judged = judge(g, t, v, true, gheads, theads);
     let verdict = judged.verdict;
     if let Verdict::Refused(number, kind, place) = verdict {
         return refused(number, kind, place);
@@ -109,11 +125,55 @@ fn evaluate_set(
     let productions = judged.productions;
     let types = judged.types;
     let templates = judged.templates;
-    let ts = &heads[types..templates];
-    let from = mark_heads(g, &mut of_g, classes, productions);
-    let all = &of_g[..];
-    let ps = &all[from..productions + 1];
+    let ts = &theads[types..templates];
+    let from = mark_heads(g, gheads, classes, productions);
+    let ps = &gheads[from..productions + 1];
     ended(run(g, t, v, ps, ts, firsts, places, fuel, out, scratch))
+}
+
+// The same with a table of the grammar's heads of its own.
+fn evaluate_tabled(
+    g: &[u8],
+    t: &[u8],
+    v: &[u8],
+    firsts: &[u16],
+    places: &[u16],
+    theads: &mut [u16],
+    fuel: u32,
+    out: &mut [u8],
+    scratch: &mut [u16],
+) -> Answer
+    requires { ⌜ EvaluateAsks (now g) (now t) (now v) (now firsts) (now places) (now theads) ⌝ }
+    ensures { λ r. ⌜ outcome r (now (out .exit)) (now (scratch .exit)) ≡ evaluate (now (g .entry)) (now (t .entry)) (now (v .entry)) fuel (now (out .entry)) (now (scratch .entry)) ⌝ }
+{
+    if g.len() <= SMALL_STREAM {
+        let mut gheads = [0u16; SMALL_GRAMMAR_HEADS];
+        return evaluate_set(
+            g,
+            t,
+            v,
+            firsts,
+            places,
+            &mut gheads,
+            theads,
+            fuel,
+            out,
+            scratch,
+        );
+    }
+    let mut gheads = [0u16; GRAMMAR_HEADS];
+    evaluate_set(
+        g,
+        t,
+        v,
+        firsts,
+        places,
+        &mut gheads,
+        theads,
+        fuel,
+        out,
+        scratch,
+    )
 }
 
 // 1 to 3 of all three streams, with the table of the value's children, and what comes after them.
@@ -134,11 +194,11 @@ fn evaluate_all(
         return refused(number, kind, place);
     }
     if t.len() <= SMALL_STREAM {
-        let mut heads = [0u16; SMALL_RECORDS];
-        return evaluate_set(g, t, v, firsts, places, &mut heads, fuel, out, scratch);
+        let mut theads = [0u16; SMALL_RECORDS];
+        return evaluate_tabled(g, t, v, firsts, places, &mut theads, fuel, out, scratch);
     }
-    let mut heads = [0u16; RECORDS];
-    evaluate_set(g, t, v, firsts, places, &mut heads, fuel, out, scratch)
+    let mut theads = [0u16; RECORDS];
+    evaluate_tabled(g, t, v, firsts, places, &mut theads, fuel, out, scratch)
 }
 
 // The evaluate call: 1 to 9, and then the walk. Refused by 1 to 9 it leaves the output and the scratch as they were. A small value takes a small

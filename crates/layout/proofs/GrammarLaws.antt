@@ -18,6 +18,7 @@ use Rattle.rules.specs.Layout.{thenRead, inRow, whileIs, textEnd, rangeEnd, pla
 use Rattle.stream.specs.Record.{Fetched}
 use Rattle.stream.specs.declared.record.Record.{Record}
 use Rattle.layout.specs.Common.{mostRecords}
+use Rattle.records.specs.Productions.{ProductionNumber}
 use Rattle.layout.specs.Grammar.{endOf, classHead, elementHead}
 use Rattle.layout.specs.declared.grammar.End.{End}
 use Rattle.layout.specs.declared.grammar.End.the-variants.{At, Broken}
@@ -171,18 +172,15 @@ module _ {g : List ℕ} {p : ℕ} {r : Record} (f : Fetched g p r) where
       unfolding onlyIf
       class-right z = class-ranges h ∙ i ∙ rw (z, add-assoc)
 
-  -- a production's number, its unused c, and then its elements
-  pub production-number : (n : ℕ) → (r .a ≡ n → ⊥) → productionEnd g n p ≡ none
-  unfolding productionEnd thenRead onFound onlyIf
-  production-number n l = rw (ne-eqb _ _ (λ e. l (f .a ∙ e)))
+  -- a production's number, and then its elements
+  module _ {m : ℕ} (e : ProductionNumber r m) where
+    pub production-out : (n : ℕ) → (m ≡ n → ⊥) → productionEnd g n p ≡ none
+    unfolding productionEnd thenRead onFound onlyIf
+    production-out n l = rw (ne-eqb _ _ (λ z. l (e .is g p f ∙ z)))
 
-  pub production-over : (n : ℕ) → r .a ≡ n → (r .c ≡ 0 → ⊥) → productionEnd g n p ≡ none
-  unfolding productionEnd thenRead onFound onlyIf
-  production-over n e l = rw (eq-eqb _ _ (sym (f .a) ∙ e), ne-eqb _ _ (λ e. l (f .c ∙ e)))
-
-  pub production-elements : (n : ℕ) (o : Option ℕ) → r .a ≡ n → r .c ≡ 0 → inRow (elementEnd g) (r .d) (p + 1) ≡ o → productionEnd g n p ≡ o
-  unfolding productionEnd thenRead onFound onlyIf
-  production-elements n o a c h = rw (eq-eqb _ _ (sym (f .a) ∙ a), eq-eqb _ _ (sym (f .c) ∙ c), ← f .d) h
+    pub production-elements : (n : ℕ) (o : Option ℕ) → m ≡ n → inRow (elementEnd g) (r .d) (p + 1) ≡ o → productionEnd g n p ≡ o
+    unfolding productionEnd thenRead onFound onlyIf
+    production-elements n o l h = rw (eq-eqb _ _ (sym (e .is g p f) ∙ l), ← f .d) h
 
   -- an element: its head, and then its text
   head-is : elementHead r ≡ (eqb (kindOf g p) 4 && (leb (fieldA g p) 4 && ((eqb (fieldA g p) 4 || eqb (fieldC g p) 0) && eqb (fieldD g p) 0)))

@@ -18,7 +18,7 @@ use Rattle.theorems.specs.Heads.{Spans, Sorts, kind-after, not-first, grammar-s
 use Rattle.theorems.specs.Sizes.{each-in-row, each-numbered, row-grows, class-number}
 use Rattle.theorems.specs.LayoutExactly.{grammar-laid-exactly, templates-laid-exactly}
 use Rattle.layout.specs.Common.{mostRecords}
-use Rattle.layout.specs.Heads.{LaidGrammar, LaidTemplates, mostClasses, mostProductions, part, Tables, withRecords, SortRow, RowAhead, RowFilled}
+use Rattle.layout.specs.Heads.{LaidGrammar, LaidTemplates, mostClasses, part, Tables, withRecords, SortRow, RowAhead, RowFilled}
 use Rattle.layout.specs.declared.heads.RowEnd.{RowEnd}
 use Rattle.laws.specs.Reads.{few-records}
 
@@ -46,8 +46,8 @@ module _ {is : ℕ → Bool} {size : ℕ → ℕ} where
     resized-heads (one-thing n p q r x xs) =
         rw (← f p (x .is-one), ← x .end) (ap (λ ys. p ∷ ys) (resized-heads xs))
 
--- a row of one sort, whose heads are `first`, and then one of another, whose heads are `second`; of each there are at most so many, and there is room for both
-pub record TwoRows (s : List ℕ) (is is' : ℕ → Bool) (size other : ℕ → ℕ) (most most' room : ℕ) (first second : List ℕ) : Type 0 where
+-- a row of one sort, whose heads are `first`, at most so many, and then one of another, whose heads are `second`; and there is room for both
+pub record TwoRows (s : List ℕ) (is is' : ℕ → Bool) (size other : ℕ → ℕ) (most room : ℕ) (first second : List ℕ) : Type 0 where
   pub sized : streamLength s ≡ none
   pub count : ℕ
   pub middle : ℕ
@@ -58,7 +58,6 @@ pub record TwoRows (s : List ℕ) (is is' : ℕ → Bool) (size other : ℕ → 
   pub first-are : first ≡ heads size count 0
   pub second-are : second ≡ heads other count' middle
   pub few : count ≤ most
-  pub few' : count' ≤ most'
   pub fit : count + count' ≤ room
   pub inside : end ≤ mostRecords
 
@@ -72,7 +71,7 @@ module _ (a : ℕ) (xs : List ℕ) (l : a ≤ length xs) where
       drop-at (take a xs) _ a (length-take-le a xs l)
       ∙ rw (drop-of-length-le (drop a xs) {i = length xs - a} (simp length-drop (omega arith)), append-nil)
 
-module _ {s : List ℕ} {is is' : ℕ → Bool} {size other : ℕ → ℕ} {most most' room : ℕ} {first second : List ℕ} (h : TwoRows s is is' size other most most' room first second) where
+module _ {s : List ℕ} {is is' : ℕ → Bool} {size other : ℕ → ℕ} {most room : ℕ} {first second : List ℕ} (h : TwoRows s is is' size other most room first second) where
   pub first-ahead : {n : ℕ} → room ≤ n → RowAhead s is size 0 n
   first-ahead l =
       let z = row-grows (λ p q x. x .grows) (h .row' .things) in let y = h .inside in let x = h .fit in
@@ -131,16 +130,14 @@ module _ {s : List ℕ} {is is' : ℕ → Bool} {size other : ℕ → ℕ} {most
       unfolding table
       long = same-len-mid (one .count) (length xs - one .count) xs ys same'
 
-      pub tables : Tables most most' first second before (putMid (one .count) (length xs - one .count) xs ys) (record { first = one .count; second = two .count })
+      pub tables : Tables most room first second before (putMid (one .count) (length xs - one .count) xs ys) (record { first = one .count; second = two .count })
       unfolding table
       tables =
           let x = counted in
           let y = counted' in
           let i = h .few in
-          let j = h .few' in
           let k = h .fit in
-          let m = long in
-          record { few = omega arith; few' = omega arith; fit = omega arith; first-are = first-part; second-are = second-part; rest = rest-part }
+          record { few = omega arith; fit = omega arith; first-are = first-part; second-are = second-part; rest = rest-part }
 
 -- numbers of 8 bits
 few-numbered : {Thing : ℕ → ℕ → ℕ → Type 0} {n m p q : ℕ} → ((n p q : ℕ) → Thing n p q → n < 256) → Numbered Thing n m p q → n ≤ 256 → n + m ≤ 256
@@ -172,8 +169,8 @@ template-size t p e = rw (templates-sorts t .apart p e)
 module _ {s : List ℕ} {is is' : ℕ → Bool} {whole : ℕ → ℕ} {m n q e : ℕ} (o : Sorts s is is') (w : streamLength s ≡ none) (t : Tail s e)
     (a : InRow (Spans is whole) m 0 q) (b : InRow (Spans is' whole) n q e) (size other : ℕ → ℕ)
     (f : (p : ℕ) → is p ≡ true → whole p ≡ size p) (g : (p : ℕ) → is' p ≡ true → whole p ≡ other p) where
-  two-rows : (most most' room : ℕ) → m ≤ most → n ≤ most' → m + n ≤ room → TwoRows s is is' size other most most' room (heads whole m 0) (heads whole n q)
-  two-rows most most' room i j k =
+  two-rows : (most room : ℕ) → m ≤ most → m + n ≤ room → TwoRows s is is' size other most room (heads whole m 0) (heads whole n q)
+  two-rows most room i k =
       let z = kind-after (length-exactly s .0 w) t in
       record {
         sized = w;
@@ -186,24 +183,26 @@ module _ {s : List ℕ} {is is' : ℕ → Bool} {whole : ℕ → ℕ} {m n q e :
         first-are = resized-heads size f a;
         second-are = resized-heads other g b;
         few = i;
-        few' = j;
         fit = k;
         inside = let l = few-records s w in let k = t .inside in omega arith;
       }
 
-pub grammar-rows : {g : List ℕ} → LaidGrammar g → ((i : ℕ) → getD g i 0 < 256) → TwoRows g (isClass g) (ofKind g 3) (withRecords g) (productionSize g) mostClasses mostProductions (mostClasses + mostProductions) (classes g) (productions g)
+pub grammar-rows : {g : List ℕ} → LaidGrammar g → ((i : ℕ) → getD g i 0 < 256) → TwoRows g (isClass g) (ofKind g 3) (withRecords g) (productionSize g) mostClasses (recordCount g) (classes g) (productions g)
 grammar-rows {g} l small =
     let w = length-exactly g .0 (l .length-right) in
     let h = grammar-laid-exactly g w .0 (l .laid-out) in
-    let a : 0 + h .class-count ≤ 256 =
+    let few : 0 + h .class-count ≤ 256 =
     few-numbered (λ n p q x. let z = class-number x in let y = number-small g small p in omega arith) (h .classes) (omega arith) in
-    let b : 0 + h .production-count ≤ 256 =
-    few-numbered (λ n p q x. let z = x .number in let y = number-small g small p in omega arith) (h .productions) (omega arith) in
+    let a = each-numbered (λ n p q. class-spans) (h .classes) in
+    let b = each-numbered (λ n p q. production-spans) (h .productions) in
+    let x = row-grows (λ p q y. y .grows) a in
+    let y = row-grows (λ p q y. y .grows) b in
+    let z = h .tail .inside in
     rw (classes-are g w h, productions-are g w h)
-    (two-rows (grammar-sorts g) (l .length-right) (h .tail) (each-numbered (λ n p q. class-spans) (h .classes)) (each-numbered (λ n p q. production-spans) (h .productions))
-    (withRecords g) (productionSize g) (class-size g) (production-size g) mostClasses mostProductions (mostClasses + mostProductions) (omega arith) (omega arith) (omega arith))
+    (two-rows (grammar-sorts g) (l .length-right) (h .tail) a b (withRecords g) (productionSize g) (class-size g) (production-size g)
+    mostClasses (recordCount g) (omega arith) (omega arith))
 
-pub templates-rows : {t : List ℕ} → LaidTemplates t → TwoRows t (ofKind t 1) (ofKind t 3) (withRecords t) (fieldC t) (recordCount t) (recordCount t) (recordCount t) (types t) (templates t)
+pub templates-rows : {t : List ℕ} → LaidTemplates t → TwoRows t (ofKind t 1) (ofKind t 3) (withRecords t) (fieldC t) (recordCount t) (recordCount t) (types t) (templates t)
 templates-rows {t} l =
     let w = length-exactly t .0 (l .length-right) in
     let h = templates-laid-exactly t w .0 (l .laid-out) in
@@ -214,4 +213,4 @@ templates-rows {t} l =
     let z = h .tail .inside in
     rw (types-are t w h, templates-are t w h)
     (two-rows (templates-sorts t) (l .length-right) (h .tail) a b (withRecords t) (fieldC t) (type-size t) (template-size t)
-    (recordCount t) (recordCount t) (recordCount t) (omega arith) (omega arith) (omega arith))
+    (recordCount t) (recordCount t) (omega arith) (omega arith))

@@ -4,7 +4,7 @@ use mathlib.Core.Path.{_≡_}
 use mathlib.Core.List.{List}
 use mathlib.Core.Bool.{Bool, false}
 use mathlib.Core.Option.{none}
-use lib.ListN.{length, take, drop}
+use lib.ListN.{take, drop}
 use Rattle.rules.specs.Blocks.{streamLength}
 use Rattle.rules.specs.Records.{fieldD, heads}
 use Rattle.rules.specs.Layout.{grammarLayout, templatesLayout}
@@ -23,22 +23,19 @@ pub record LaidTemplates (t : List ℕ) : Type 0 where
   pub length-right : streamLength t ≡ none
   pub laid-out : templatesLayout t ≡ none
 
--- a grammar's classes and productions are numbered by 8 bits
+-- a grammar's classes are numbered by 8 bits
 abbrev pub mostClasses : ℕ
 mostClasses = 256
-
-abbrev pub mostProductions : ℕ
-mostProductions = 256
 
 -- the numbers of a table from a to e, as `&table[a..e]` lends them
 abbrev pub part : ℕ → ℕ → List ℕ → List ℕ
 part a e table = take (e - a) (drop a table)
 
--- a stream's table of heads: it begins with the heads xs, at most so many; then come the heads ys, at most so many; the rest of it is as it was
-pub record Tables (most most' : ℕ) (xs ys before table : List ℕ) (r : Counts) : Type 0 where
+-- a stream's table of heads: it begins with the heads xs, at most `most`; then come the heads ys, and both together are at most `room`; the rest
+-- of it is as it was
+pub record Tables (most room : ℕ) (xs ys before table : List ℕ) (r : Counts) : Type 0 where
   pub few : r .first ≤ most
-  pub few' : r .second ≤ most'
-  pub fit : r .first + r .second ≤ length table
+  pub fit : r .first + r .second ≤ room
   pub first-are : part 0 (r .first) table ≡ xs
   pub second-are : part (r .first) (r .first + r .second) table ≡ ys
   pub rest : drop (r .first + r .second) table ≡ drop (r .first + r .second) before

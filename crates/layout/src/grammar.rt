@@ -14,6 +14,7 @@ use records::class::is_class;
 use records::class::is_escaped;
 use records::element::text_length;
 use records::element::units;
+use records::production::number_of;
 use stream::record::Record;
 use stream::record::fetch;
 
@@ -147,10 +148,7 @@ fn production_row(g: &[u8], start: usize) -> End
         if production.kind != 3 {
             return End::At(p);
         }
-        if production.a as usize != n {
-            return End::Broken;
-        }
-        if production.c != 0 {
+        if number_of(production) != n {
             return End::Broken;
         }
         let End::At(next) = elements_end(g, p + 1, production.d as usize) else {

@@ -9,7 +9,7 @@ ghost use Rattle.rules.specs.Records.{recordCount, fieldC, after, ofKind};
 ghost use Rattle.rules.specs.Grammar.{isClass, elementSize, productionSize, classes, productions};
 ghost use Rattle.rules.specs.Templates.{types, templates};
 ghost use Rattle.layout.specs.Common.{mostRecords};
-ghost use Rattle.layout.specs.Heads.{LaidGrammar, LaidTemplates, mostClasses, mostProductions, Tables, withRecords, RowAhead, RowFilled};
+ghost use Rattle.layout.specs.Heads.{LaidGrammar, LaidTemplates, mostClasses, Tables, withRecords, RowAhead, RowFilled};
 use records::class::is_class;
 use records::element::size_of;
 use stream::record::fetch;
@@ -119,11 +119,11 @@ fn template_row(t: &[u8], start: usize, table: &mut [u16]) -> RowEnd
     }
 }
 
-// The heads of a grammar's classes, and behind them those of its productions. The table has room for the most there can be.
+// The heads of a grammar's classes, and behind them those of its productions: each has a record at least, so that a small stream takes a small table.
 pub fn grammar_heads(g: &[u8], heads: &mut [u16]) -> Counts
     requires { ⌜ LaidGrammar (now g) ⌝ }
-    requires { ⌜ mostClasses + mostProductions ≤ length (now heads) ⌝ }
-    ensures { λ r. ⌜ Tables mostClasses mostProductions (classes (now (g .entry))) (productions (now (g .entry))) (now (heads .entry)) (now (heads .exit)) r ⌝ }
+    requires { ⌜ recordCount (now g) ≤ length (now heads) ⌝ }
+    ensures { λ r. ⌜ Tables mostClasses (recordCount (now (g .entry))) (classes (now (g .entry))) (productions (now (g .entry))) (now (heads .entry)) (now (heads .exit)) r ⌝ }
 {
     let one = class_row(g, heads);
     let count = one.count;
@@ -134,7 +134,7 @@ pub fn grammar_heads(g: &[u8], heads: &mut [u16]) -> Counts
     }
 }
 
-// The heads of a template set's types, and behind them those of its templates: each has a record at least, so that a small stream takes a small table.
+// The heads of a template set's types, and behind them those of its templates, likewise.
 pub fn templates_heads(t: &[u8], heads: &mut [u16]) -> Counts
     requires { ⌜ LaidTemplates (now t) ⌝ }
     requires { ⌜ recordCount (now t) ≤ length (now heads) ⌝ }

@@ -1,17 +1,18 @@
--- The sizes of values and elements, and the ends of ranges, from their records.
+-- The sizes of values and elements, the numbers of productions, and the ends of ranges, from their records.
 use Prim.Native.Nat.{ℕ, _+_, _*_, _%_, _<_}
 use mathlib.Core.Path.{_≡_, sym, _∙_}
 use mathlib.Core.List.{List}
 use native.Mathlib.Omega.{arith}
 use borrow.Author.Tests.{eq-eqb, ne-eqb}
 use Rattle.rules.specs.Records.{kindOf, fieldA, units}
-use Rattle.rules.specs.Grammar.{textLength, elementSize}
+use Rattle.rules.specs.Grammar.{textLength, elementSize, productionNumber}
 use Rattle.rules.specs.Value.{valueSize}
 use Rattle.rules.specs.Lexeme.{lowest, highest}
 use Rattle.stream.specs.Record.{Fetched}
 use Rattle.stream.specs.declared.record.Record.{Record}
 use Rattle.stream.proofs.RecordLaws.{eight-bytes}
 use Rattle.records.specs.Sizes.{ValueSize, TextLength, ElementSize}
+use Rattle.records.specs.Productions.{ProductionNumber}
 
 pub size-yes-no : (r : Record) → r .kind ≡ 2 → ValueSize r 1
 unfolding valueSize
@@ -37,6 +38,11 @@ no-text r e h = record { is = λ g p f. rw (ne-eqb (fieldA g p) 0 (λ k. e (f .a
 pub element-size : (r : Record) (m n : ℕ) → TextLength r m → m < 65536 → n ≡ units m → ElementSize r (1 + n)
 unfolding elementSize units
 element-size r m n t l h = record { is = λ g p f. rw (← t .is g p f, h); small = omega arith }
+
+-- a low byte and a high one
+pub two-bytes : (r : Record) → r .a < 256 → r .c < 65536 → ProductionNumber r (r .a + 256 * r .c)
+unfolding productionNumber
+two-bytes r l m = record { is = λ g p f. let a = f .a in let c = f .c in omega arith; small = omega arith }
 
 -- both ends of a range
 pub range-low : (g : List ℕ) (i : ℕ) (r : Record) → Fetched g i r → r .a + 256 * r .b ≡ lowest g i

@@ -1,4 +1,5 @@
 pub mod Sizes
 pub mod Paths
+pub mod Productions
 pub mod Ranges
 pub mod Children

@@ -4,5 +4,6 @@ pub mod class;
 pub mod element;
 pub mod node;
 pub mod path;
+pub mod production;
 pub mod range;
 pub mod value;

@@ -52,9 +52,9 @@ class number least most ranges = head 1 number least most (length ranges) ++ fla
 unfoldable pub range : ℕ → ℕ → List ℕ
 range low high = 2 ∷ low % 256 ∷ low / 256 % 256 ∷ low / 65536 ∷ high % 256 ∷ high / 256 % 256 ∷ high / 65536 ∷ 0 ∷ []
 
--- "3 production: a number (from 0, consecutive ..), b its nonterminal, d count of elements."
+-- "3 production: a number (from 0, consecutive ..), b its nonterminal, d count of elements"; 02 f: "a holds its low byte and c its high byte"
 unfoldable pub production : ℕ → ℕ → List (List ℕ) → List ℕ
-production number nonterminal elements = head 3 number nonterminal 0 (length elements) ++ flatten elements
+production number nonterminal elements = head 3 (number % 256) nonterminal (number / 256) (length elements) ++ flatten elements
 
 -- "4 element: a = 0 keyword (b bytes of text follow), 1 class b, .. 3 repetition of nonterminal b."
 unfoldable pub keyword : String → List ℕ
@@ -200,7 +200,7 @@ unfolding flatten head size utf8 inUnits class range production keyword lexeme r
     Blocks.bytes32 Blocks.checked Blocks.filled Blocks.packedBlock Blocks.packedBlocks packed
     Lexeme.between Lexeme.inside Lexeme.firstByte Lexeme.laterByte Lexeme.nextByte Lexeme.decode Lexeme.decoded Lexeme.charactersOf Lexeme.lowest
     Lexeme.highest Lexeme.ranges Lexeme.inSome Lexeme.isXmlChar Lexeme.isOfClass Lexeme.allOfClass Lexeme.admits Lexeme.isPlainLexeme Lexeme.isLexeme
-    Grammar.textLength Grammar.isClass Grammar.elementSize Grammar.productionSize Grammar.grammarSize Grammar.grammarThings Grammar.classes Grammar.productions Grammar.class Grammar.plainClass
+    Grammar.textLength Grammar.isClass Grammar.elementSize Grammar.productionSize Grammar.productionNumber Grammar.grammarSize Grammar.grammarThings Grammar.classes Grammar.productions Grammar.class Grammar.plainClass
     Grammar.escapedClass Grammar.plainOf
     Grammar.production Grammar.elementNumbered Grammar.elementAt Grammar.elementHeads Grammar.elements Grammar.hasProduction Grammar.nonterminalExists
     Templates.templatesSize Templates.templatesThings Templates.types Templates.templates Templates.type Templates.template Templates.fieldHeads

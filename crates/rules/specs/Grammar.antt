@@ -1,5 +1,5 @@
 -- The grammar's records, section "Records": classes with their ranges, then productions with their elements.
-use Prim.Native.Nat.{ℕ, zero, suc, _+_, _-_}
+use Prim.Native.Nat.{ℕ, zero, suc, _+_, _-_, _*_}
 use mathlib.Core.List.{List, [], _∷_, map}
 use mathlib.Core.Bool.{Bool, false, cond, _||_}
 use mathlib.Core.Option.{Option, none}
@@ -18,6 +18,10 @@ elementSize g e = 1 + units (textLength g e)
 
 unfoldable pub productionSize : List ℕ → ℕ → ℕ
 productionSize g p = after (elementSize g) (fieldD g p) (p + 1) - p
+
+-- 02 f: "A production's number becomes a word: a holds its low byte and c its high byte". A c above 255 makes a number that no row comes to
+unfoldable pub productionNumber : List ℕ → ℕ → ℕ
+productionNumber g p = fieldA g p + 256 * fieldC g p
 
 -- 02 c: "Grammar record 5 declares an escaped class: a its number in the common row of classes, b an earlier plain class". A class is a record 1,
 -- which is a plain one, or a record 5; the latter's d is unused, so that no ranges follow it

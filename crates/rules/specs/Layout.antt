@@ -7,7 +7,7 @@ use lib.ListN.{drop}
 use lib.Dec.{eqb, leb, ltb}
 use Rattle.rules.specs.Faults.{need, onFound, onlyIf}
 use Rattle.rules.specs.Records.{recordCount, byteOf, kindOf, fieldA, fieldB, fieldC, fieldD, recordsFrom, units, paddingOf, zeros, ofKind}
-use Rattle.rules.specs.Grammar.{isClass, textLength}
+use Rattle.rules.specs.Grammar.{isClass, productionNumber, textLength}
 use Rattle.rules.specs.Templates.{formOf}
 use Rattle.rules.specs.declared.Form.{Form}
 use Rattle.rules.specs.declared.Form.the-variants.{Build, Literal, Place, Expand, If, For, Sequence, Unknown}
@@ -50,10 +50,10 @@ elementEnd g p =
     thenRead (onlyIf (eqb (kindOf g p) 4 && (leb (fieldA g p) 4 && ((eqb (fieldA g p) 4 || eqb (fieldC g p) 0) && eqb (fieldD g p) 0))) p)
     (textEnd g (textLength g p))
 
--- "3 production: a number (from 0, consecutive, so at most 256 of them), b its nonterminal, d count of elements"
+-- "3 production: a number (from 0, consecutive ..), b its nonterminal, d count of elements"; 02 f: "Refusal 3 no longer meets the 257th production;
+-- it meets a number out of sequence"
 unfoldable pub productionEnd : List ℕ → ℕ → ℕ → Option ℕ
-productionEnd g n p =
-    thenRead (onlyIf (eqb (fieldA g p) n && eqb (fieldC g p) 0) (p + 1)) (inRow (elementEnd g) (fieldD g p))
+productionEnd g n p = thenRead (onlyIf (eqb (productionNumber g p) n) (p + 1)) (inRow (elementEnd g) (fieldD g p))
 
 -- "Grammar, classes first"
 unfoldable pub grammarEnd : List ℕ → Option ℕ

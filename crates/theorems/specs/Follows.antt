@@ -1,7 +1,7 @@
 -- What follows a head, by the layout: each list of heads that the rules go by is a whole row of what is laid out there, with nothing left out and
 -- nothing between; and a class, a production, a type, a template is the one of its number.
 use mathlib.Core.Path.{_≡_, refl, sym, _∙_, ap, subst}
-use Prim.Native.Nat.{ℕ, zero, suc, _+_, _≤_}
+use Prim.Native.Nat.{ℕ, zero, suc, _+_, _*_, _≤_}
 use mathlib.Core.List.{List, [], _∷_, map}
 use mathlib.Core.Option.{some, Option·some-injective, Option·none-ne-some}
 use native.Mathlib.Omega.{arith}
@@ -41,7 +41,8 @@ pub record GrammarFollows (g : List ℕ) (h : GrammarLaid g) : Type 0 where
   pub class-by-order : (n : ℕ) → class g n ≡ nth (classes g) n
   pub production-by-order : (n : ℕ) → production g n ≡ nth (productions g) n
   pub class-numbered : (n p : ℕ) → class g n ≡ some p → fieldA g p ≡ n
-  pub production-numbered : (n p : ℕ) → production g n ≡ some p → fieldA g p ≡ n
+  -- 02 f: "a holds its low byte and c its high byte"
+  pub production-numbered : (n p : ℕ) → production g n ≡ some p → fieldA g p + 256 * fieldC g p ≡ n
   -- "d count of ranges", "d count of elements"
   pub all-ranges : (n p q : ℕ) → ClassAt g n p q → HeadsOf (RangeAt g) (ranges g p) (p + 1) q
   pub all-elements : (n p q : ℕ) → ProductionAt g n p q → HeadsOf (ElementAt g) (elementHeads g p) (p + 1) q
@@ -84,7 +85,7 @@ grammar-follows g w h = record {
       numbered-nth (fieldA g) (grammarSize g) (λ n p q. class-number) (λ n p q. class-size) (h .classes) n p
       (subst (λ (l : List ℕ). nth l n ≡ some p) (classes-are g w h) e) ∙ omega arith;
   production-numbered = λ n p e.
-      numbered-nth (fieldA g) (grammarSize g) (λ n p q a. a .number) (λ n p q. production-size) (h .productions) n p
+      numbered-nth (λ p. fieldA g p + 256 * fieldC g p) (grammarSize g) (λ n p q a. a .number) (λ n p q. production-size) (h .productions) n p
       (subst (λ (l : List ℕ). nth l n ≡ some p) (productions-are g w h) e) ∙ omega arith;
   all-ranges = λ n p q a. row-of (λ p q. range-size) (ranges-row a);
   all-elements = λ n p q a. heads-of (elementSize g) (λ p q. element-size) (a .elements);

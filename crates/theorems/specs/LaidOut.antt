@@ -1,6 +1,6 @@
 -- Layout as a relation, in the words of section "Records": which records lay out a thing from p up to q.
 use mathlib.Core.Path.{_≡_}
-use Prim.Native.Nat.{ℕ, suc, _+_, _-_, _≤_, _<_}
+use Prim.Native.Nat.{ℕ, suc, _+_, _-_, _*_, _≤_, _<_}
 use mathlib.Core.List.{List}
 use lib.ListN.{getD}
 use Rattle.rules.specs.Records.{recordCount, byteOf, kindOf, fieldA, fieldB, fieldC, fieldD, units, paddingOf}
@@ -49,10 +49,10 @@ pub data ElementAt (g : List ℕ) : ℕ → ℕ → Type 0 where
   a-name : (p : ℕ) → ElementHead g p → 1 ≤ fieldA g p → fieldA g p ≤ 3 → fieldC g p ≡ 0 → ElementAt g p (p + 1)
   a-separated : (p : ℕ) → ElementHead g p → fieldA g p ≡ 4 → Padded g (fieldC g p) p → ElementAt g p (p + 1 + units (fieldC g p))
 
+-- "3 production: a number (from 0, consecutive ..), b its nonterminal, d count of elements"; 02 f: "a holds its low byte and c its high byte"
 pub record ProductionAt (g : List ℕ) (n p q : ℕ) : Type 0 where
   pub kind : kindOf g p ≡ 3
-  pub number : fieldA g p ≡ n
-  pub unused-c : fieldC g p ≡ 0
+  pub number : fieldA g p + 256 * fieldC g p ≡ n
   pub elements : InRow (ElementAt g) (fieldD g p) (p + 1) q
 
 -- "Grammar, classes first"

@@ -14,7 +14,7 @@ use lib.Dec.{eqb}
 use borrow.Author.Tests.{eqb-true, eqb-false, eq-eqb, ne-eqb}
 use Rattle.rules.specs.Faults.{onFound, onlyIf}
 use Rattle.rules.specs.Records.{base, recordCount, byteOf, kindOf, fieldA, fieldB, fieldC, fieldD, recordsFrom, paddingOf, units, zeros, ofKind}
-use Rattle.rules.specs.Grammar.{isClass, textLength}
+use Rattle.rules.specs.Grammar.{isClass, productionNumber, textLength}
 use Rattle.rules.specs.Templates.{formNumbered, formOf}
 use Rattle.rules.specs.Layout.{thenRead, inRow, whileIs, textEnd, rangeEnd, plainEnd, escapedEnd, classEnd, elementEnd, productionEnd, grammarEnd, namingEnd, typeFormEnd, typeEnd, pathEnd, formEnd, sized, nodeEnd, templateEnd, templatesEnd, childrenEnd, kindEnd, valueEnd, tailRight, layoutFault, grammarLayout, templatesLayout, valueLayout}
 use Rattle.laws.specs.Faults.{need-iff, onFound-true, only-if-iff, and-iff, eqb-iff, leb-iff}
@@ -249,15 +249,14 @@ element-to {g} (a-separated p h a z) = element-read h (omega arith) (λ n. absur
 element-exactly : (g : List ℕ) (p q : ℕ) → (elementEnd g p ≡ some q) ↔ ElementAt g p q
 element-exactly g p q = (element-from g p q, element-to)
 
-elements-exactly : (g : List ℕ) (n p q : ℕ) → (inRow (elementEnd g) n p ≡ some q) ↔ InRow (ElementAt g) n p q
+pub elements-exactly : (g : List ℕ) (n p q : ℕ) → (inRow (elementEnd g) n p ≡ some q) ↔ InRow (ElementAt g) n p q
 elements-exactly g = row-exactly (elementEnd g) (element-exactly g)
 
-production-exactly : (g : List ℕ) (n p q : ℕ) → ((kindOf g p ≡ 3) × (productionEnd g n p ≡ some q)) ↔ ProductionAt g n p q
-unfolding productionEnd
+pub production-exactly : (g : List ℕ) (n p q : ℕ) → ((kindOf g p ≡ 3) × (productionEnd g n p ≡ some q)) ↔ ProductionAt g n p q
+unfolding productionEnd productionNumber
 production-exactly g n p q = (
-  λ e. let h = simp (only-if-then, and-iff, eqb-iff, elements-exactly) at (e .1) in
-      record { kind = e .0; number = h .0 .0; unused-c = h .0 .1; elements = h .1 },
-  λ r. (r .kind, simp (only-if-then, and-iff, eqb-iff, elements-exactly) ((r .number, r .unused-c), r .elements)),
+  λ e. let h = simp (only-if-then, eqb-iff, elements-exactly) at (e .1) in record { kind = e .0; number = h .0; elements = h .1 },
+  λ r. (r .kind, simp (only-if-then, eqb-iff, elements-exactly) (r .number, r .elements)),
 )
 
 -- Templates

@@ -116,8 +116,11 @@ module _ (g g′ : List ℕ) (d : DifferInForm g g′) where
   unfolding elementHeads
   production-too n p q i h = record {
     kind = sym (same-kind g g′ d p) ∙ h .kind;
-    number = sym (same-a g g′ d p (same-unless-4 p (λ k. let z = h .kind in omega arith))) ∙ h .number;
-    unused-c = sym (same-c g g′ d p) ∙ h .unused-c;
+    number =
+        let a = same-a g g′ d p (same-unless-4 p (λ k. let z = h .kind in omega arith)) in
+        let c = same-c g g′ d p in
+        let n = h .number in
+        omega arith;
     elements = subst (λ (m : ℕ). InRow (ElementAt g′) m (p + 1) q) (same-d g g′ d p)
         (row-too (elementSize g) (λ p q. element-size) (λ e r j a. element-laid a (record { head = p; a-production = i; its-element = j })) (h .elements));
   }

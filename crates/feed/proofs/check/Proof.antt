@@ -20,20 +20,20 @@ returns c = c .refused .ensures ∙ check-streams _ _ _ (refuses _ _ _ _ _ (c .b
 enum-told : tie.Need-enum-told
 enum-told c = search needs
 
-slice-aggregate-check-set : tie.Need-slice-aggregate-check-set
-slice-aggregate-check-set c = search needs
+slice-aggregate-check-tabled : tie.Need-slice-aggregate-check-tabled
+slice-aggregate-check-tabled c = search needs
 
-check-set-requires : tie.Need-check-set-requires
-check-set-requires c κs = small-check _ _ _ (passes _ _ (c .before .before .before .before .judge-two .ensures) (c .before .before .enum-told .given .1)) (c .before .if1 .taken) (search needs)
+check-tabled-requires : tie.Need-check-tabled-requires
+check-tabled-requires c κs = small-check _ _ _ (passes _ _ (c .before .before .before .before .judge-two .ensures) (c .before .before .enum-told .given .1)) (c .before .if1 .taken) (search needs)
 
 returns-2 : tie.Need-returns-2
 returns-2 c = search needs
 
-slice-aggregate-check-set-2 : tie.Need-slice-aggregate-check-set-2
-slice-aggregate-check-set-2 c = search needs
+slice-aggregate-check-tabled-2 : tie.Need-slice-aggregate-check-tabled-2
+slice-aggregate-check-tabled-2 c = search needs
 
-check-set-requires-2 : tie.Need-check-set-requires-2
-check-set-requires-2 c κs = large-check _ _ _ (passes _ _ (c .before .before .before .before .judge-two .ensures) (c .before .before .enum-told .given .1)) (search needs)
+check-tabled-requires-2 : tie.Need-check-tabled-requires-2
+check-tabled-requires-2 c κs = large-check _ _ _ (passes _ _ (c .before .before .before .before .judge-two .ensures) (c .before .before .enum-told .given .1)) (search needs)
 
 returns-3 : tie.Need-returns-3
 returns-3 c = search needs
@@ -47,9 +47,9 @@ check-spec =
     refused-requires
     returns
     enum-told
-    slice-aggregate-check-set
-    check-set-requires
+    slice-aggregate-check-tabled
+    check-tabled-requires
     returns-2
-    slice-aggregate-check-set-2
-    check-set-requires-2
+    slice-aggregate-check-tabled-2
+    check-tabled-requires-2
     returns-3)

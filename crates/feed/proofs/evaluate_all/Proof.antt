@@ -26,11 +26,11 @@ returns c = answered _ _ _ _ _ (c .refused .ensures) (evaluate-streams _ _ _ _ _
 enum-told : tie.Need-enum-told
 enum-told c = search needs
 
-slice-aggregate-evaluate-set : tie.Need-slice-aggregate-evaluate-set
-slice-aggregate-evaluate-set c = search needs
+slice-aggregate-evaluate-tabled : tie.Need-slice-aggregate-evaluate-tabled
+slice-aggregate-evaluate-tabled c = search needs
 
-evaluate-set-requires : tie.Need-evaluate-set-requires
-evaluate-set-requires c κs = small-evaluate _ _ _ _ _ _ (passes _ _ (c .before .before .before .before .before .before .before .before .before .before .before .before .judge-all .ensures .is) (c .before .before .before .before .before .before .enum-told .given .1)) (c .before .before .before .before .before .before .before .before .before .before .before .before .judge-all .ensures .children (c .before .before .before .before .before .before .enum-told .given .1)) (c .before .before .before .before .before .if1 .taken) (search needs)
+evaluate-tabled-requires : tie.Need-evaluate-tabled-requires
+evaluate-tabled-requires c κs = small-evaluate _ _ _ _ _ _ (passes _ _ (c .before .before .before .before .before .before .before .before .before .before .before .before .judge-all .ensures .is) (c .before .before .before .before .before .before .enum-told .given .1)) (c .before .before .before .before .before .before .before .before .before .before .before .before .judge-all .ensures .children (c .before .before .before .before .before .before .enum-told .given .1)) (c .before .before .before .before .before .if1 .taken) (search needs)
 
 same-length-3 : tie.Need-same-length-3
 same-length-3 c = search needs
@@ -47,11 +47,11 @@ same-length-6 c = search needs
 returns-2 : tie.Need-returns-2
 returns-2 c = search needs
 
-slice-aggregate-evaluate-set-2 : tie.Need-slice-aggregate-evaluate-set-2
-slice-aggregate-evaluate-set-2 c = search needs
+slice-aggregate-evaluate-tabled-2 : tie.Need-slice-aggregate-evaluate-tabled-2
+slice-aggregate-evaluate-tabled-2 c = search needs
 
-evaluate-set-requires-2 : tie.Need-evaluate-set-requires-2
-evaluate-set-requires-2 c κs = large-evaluate _ _ _ _ _ _ (passes _ _ (c .before .before .before .before .before .before .before .before .before .before .before .before .judge-all .ensures .is) (c .before .before .before .before .before .before .enum-told .given .1)) (c .before .before .before .before .before .before .before .before .before .before .before .before .judge-all .ensures .children (c .before .before .before .before .before .before .enum-told .given .1)) (search needs)
+evaluate-tabled-requires-2 : tie.Need-evaluate-tabled-requires-2
+evaluate-tabled-requires-2 c κs = large-evaluate _ _ _ _ _ _ (passes _ _ (c .before .before .before .before .before .before .before .before .before .before .before .before .judge-all .ensures .is) (c .before .before .before .before .before .before .enum-told .given .1)) (c .before .before .before .before .before .before .before .before .before .before .before .before .judge-all .ensures .children (c .before .before .before .before .before .before .enum-told .given .1)) (search needs)
 
 same-length-7 : tie.Need-same-length-7
 same-length-7 c = search needs
@@ -79,15 +79,15 @@ evaluate-all-spec =
     same-length-2
     returns
     enum-told
-    slice-aggregate-evaluate-set
-    evaluate-set-requires
+    slice-aggregate-evaluate-tabled
+    evaluate-tabled-requires
     same-length-3
     same-length-4
     same-length-5
     same-length-6
     returns-2
-    slice-aggregate-evaluate-set-2
-    evaluate-set-requires-2
+    slice-aggregate-evaluate-tabled-2
+    evaluate-tabled-requires-2
     same-length-7
     same-length-8
     same-length-9
