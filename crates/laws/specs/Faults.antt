@@ -23,6 +23,19 @@ unfolding need
 need-iff true x = (λ e. refl, λ e. refl)
 need-iff false x = (λ e. absurd (Option·some-ne-none x e), λ e. absurd (false≢true e))
 
+pub need-some : {A : Type 0} (b : Bool) (x : A) → (need b x ≡ none → ⊥) → need b x ≡ some x
+unfolding need
+need-some true x h = absurd (h refl)
+need-some false x h = refl
+
+-- two tests that fail alike
+pub need-alike : {A : Type 0} (x : A) (b b′ : Bool) → (need b x ≡ none → need b′ x ≡ none) → (need b′ x ≡ none → need b x ≡ none) → need b x ≡ need b′ x
+unfolding need
+need-alike x true true f h = refl
+need-alike x true false f h = sym (f refl)
+need-alike x false true f h = h refl
+need-alike x false false f h = refl
+
 pub both-none : {A : Type 0} (a b : Option A) → both a b ≡ none → (a ≡ none) × (b ≡ none)
 unfolding both
 both-none none b e = (refl, e)

@@ -33,7 +33,7 @@ unfolding thenRead onFound
 then-iff none next q = (λ e. absurd (Option·none-ne-some q e), λ h. absurd (Option·none-ne-some (h .0) (h .1)))
 then-iff (some r) next q = (λ e. (r, refl, e), λ h. rw (Option·some-injective r (h .0) (h .1)) (h .2))
 
-only-if-then : (b : Bool) (p : ℕ) (next : ℕ → Option ℕ) (q : ℕ) → (thenRead (onlyIf b p) next ≡ some q) ↔ ((b ≡ true) × (next p ≡ some q))
+pub only-if-then : (b : Bool) (p : ℕ) (next : ℕ → Option ℕ) (q : ℕ) → (thenRead (onlyIf b p) next ≡ some q) ↔ ((b ≡ true) × (next p ≡ some q))
 unfolding onlyIf thenRead onFound
 only-if-then true p next q = (λ e. (refl, e), λ h. h .1)
 only-if-then false p next q = (λ e. absurd (Option·none-ne-some q e), λ h. absurd (false≢true (h .0)))
@@ -188,14 +188,14 @@ escaped-exactly : (g : List ℕ) (n p q : ℕ)
 unfolding escapedEnd
 escaped-exactly g n p q = simp (only-if-iff, and-iff, eqb-iff) Iff·rfl
 
-class-from : (g : List ℕ) (n p q : ℕ) → isClass g p ≡ true → classEnd g n p ≡ some q → ClassAt g n p q
+pub class-from : (g : List ℕ) (n p q : ℕ) → isClass g p ≡ true → classEnd g n p ≡ some q → ClassAt g n p q
 unfolding classEnd
 class-from g n p q i e = elim (class-kinds g p i) [
   | inl k ↦ let h = plain-exactly g n p q .0 (rw (ne-eqb (kindOf g p) 5 (λ z. omega arith)) at e) in a-plain k (h .0) (h .1)
   | inr k ↦ let h = escaped-exactly g n p q .0 (rw (eq-eqb (kindOf g p) 5 k) at e) in an-escaped k (h .0 .0) (h .0 .1 .0) (h .0 .1 .1) (sym (h .1))
 ]
 
-class-to : {g : List ℕ} {n p q : ℕ} → ClassAt g n p q → classEnd g n p ≡ some q
+pub class-to : {g : List ℕ} {n p q : ℕ} → ClassAt g n p q → classEnd g n p ≡ some q
 unfolding classEnd
 class-to {g} {n} {p} {q} (a-plain k a rs) = rw (ne-eqb (kindOf g p) 5 (λ z. omega arith)) (plain-exactly g n p q .1 (a, rs))
 class-to {g} {n} {p} {q} (an-escaped k a c d e) = rw (eq-eqb (kindOf g p) 5 k) (escaped-exactly g n p q .1 ((a, (c, d)), sym e))
@@ -481,12 +481,12 @@ value-read h (suc k) l = value-to h k (omega arith)
 -- Whole streams
 
 -- no fault exactly if there is an end, and after it zero records only
-fault-iff : (s : List ℕ) (end : Option ℕ) → (layoutFault s end ≡ none) ↔ ((e : ℕ) × (end ≡ some e) × Tail s e)
+pub fault-iff : (s : List ℕ) (end : Option ℕ) → (layoutFault s end ≡ none) ↔ ((e : ℕ) × (end ≡ some e) × Tail s e)
 unfolding layoutFault
 fault-iff s end = simp (need-iff, onFound-true, tail-exactly) Iff·rfl
 
 -- a row of one sort, then a row of another
-two-rows-from : {A B : ℕ → ℕ → ℕ → Type 0} (s : List ℕ) (is are : ℕ → Bool) (one other : ℕ → ℕ → Option ℕ)
+pub two-rows-from : {A B : ℕ → ℕ → ℕ → Type 0} (s : List ℕ) (is are : ℕ → Bool) (one other : ℕ → ℕ → Option ℕ)
     → ((n p q : ℕ) → is p ≡ true → one n p ≡ some q → A n p q) → ((n p q : ℕ) → are p ≡ true → other n p ≡ some q → B n p q)
     → (e : ℕ) → thenRead (whileIs is one (recordCount s) 0 0) (whileIs are other (recordCount s) 0) ≡ some e
     → (m : ℕ) × (n : ℕ) × (q : ℕ) × Numbered A 0 m 0 q × Numbered B 0 n q e
@@ -496,7 +496,7 @@ two-rows-from s is are one other f g e i =
     let b = while-from are other g (recordCount s) 0 (h .0) e (h .2) in
     (a .0, b .0, h .0, a .1, b .1)
 
-two-rows-to : {A B : ℕ → ℕ → ℕ → Type 0} {s : List ℕ} {is are : ℕ → Bool} {size : ℕ → ℕ} {m n q e : ℕ} (one other : ℕ → ℕ → Option ℕ) → Sorts s is are
+pub two-rows-to : {A B : ℕ → ℕ → ℕ → Type 0} {s : List ℕ} {is are : ℕ → Bool} {size : ℕ → ℕ} {m n q e : ℕ} (one other : ℕ → ℕ → Option ℕ) → Sorts s is are
     → ((n p q : ℕ) → A n p q → Spans is size p q) → ((n p q : ℕ) → B n p q → Spans are size p q)
     → ((n p q : ℕ) → A n p q → q ≤ recordCount s → one n p ≡ some q) → ((n p q : ℕ) → B n p q → q ≤ recordCount s → other n p ≡ some q)
     → WellSized s → Tail s e → Numbered A 0 m 0 q → Numbered B 0 n q e

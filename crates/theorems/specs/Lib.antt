@@ -7,6 +7,7 @@ pub mod LayoutExactly
 pub mod Least
 pub mod Ranges
 pub mod Follows
+pub mod ManyProductions
 pub mod Around
 pub mod LimitsExactly
 pub mod Apart
@@ -59,6 +60,7 @@ pub mod XmlLexemes
 pub mod FinishedLexemes
 pub mod SaltAndRope
 pub mod Unpacked
+pub mod AsManyAsFit
 pub mod Starts
 pub mod Chained
 pub mod Published

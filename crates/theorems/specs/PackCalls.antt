@@ -109,7 +109,7 @@ pub wrote-all : (bytes : Unit {0} → List ℕ) (out : List ℕ) → Wrote (byte
 unfolding written accept
 wrote-all bytes out = record { bytes-counted = refl; only-these = refl }
 
-packable-test : (payload : List ℕ) → ((leb 8 (length payload) && (leb (length payload) 64512 && eqb (length payload % 8) 0)) ≡ true) ↔ Packable payload
+pub packable-test : (payload : List ℕ) → ((leb 8 (length payload) && (leb (length payload) 64512 && eqb (length payload % 8) 0)) ≡ true) ↔ Packable payload
 packable-test payload = (
   λ e. let h = and-iff _ _ .0 e in let k = and-iff _ _ .0 (h .1) in
       record { at-least = leb-iff _ _ .0 (h .0); at-most = leb-iff _ _ .0 (k .0); whole-records = eqb-iff _ _ .0 (k .1) },

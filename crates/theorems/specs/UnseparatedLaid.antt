@@ -3,15 +3,12 @@ use mathlib.Core.Path.{_≡_, refl, sym, _∙_, ap, subst}
 use mathlib.Core.Logic.{inl, inr}
 use Prim.Native.Nat.{ℕ, _+_, _-_, _*_, _/_, _≤_, _<_}
 use mathlib.Core.List.{List}
-use mathlib.Core.Bool.{Bool, true, false}
-use mathlib.Core.Option.{none}
 use native.Mathlib.Omega.{arith}
 use lib.ListN.{length, getD, drop}
-use Rattle.rules.specs.Faults.{need}
 use Rattle.rules.specs.Records.{kindOf, fieldB, fieldC, fieldD, recordCount, recordsFrom, units, paddingOf, heads}
 use Rattle.rules.specs.Grammar.{textLength, elementSize, grammarSize, productions, elementHeads}
 use Rattle.rules.specs.Layout.{layoutFault, grammarLayout}
-use Rattle.laws.specs.Faults.{In, here, later}
+use Rattle.laws.specs.Faults.{In, here, later, need-alike}
 use Rattle.theorems.specs.Streams.{WellSized}
 use Rattle.theorems.specs.LaidOut.{InRow, no-thing, one-thing, Numbered, no-more, one-more, Padded, Tail, RangeAt, ClassAt, ElementHead, ElementAt, ProductionAt, GrammarLaid}
 use Rattle.theorems.specs.LaidOut.ClassAt.{a-plain, an-escaped}
@@ -149,13 +146,6 @@ module _ (g g′ : List ℕ) (d : DifferInForm g g′) where
         (λ k p q i. production-too k p q (subst (In p) (sym (productions-are g w h)) i)) (h .productions);
     tail = tail-too (h .tail);
   }
-
-need-alike : {A : Type 0} (x : A) (b b′ : Bool) → (need b x ≡ none → need b′ x ≡ none) → (need b′ x ≡ none → need b x ≡ none) → need b x ≡ need b′ x
-unfolding need
-need-alike x true true f h = refl
-need-alike x true false f h = sym (f refl)
-need-alike x false true f h = h refl
-need-alike x false false f h = refl
 
 well-sized-too : {s s′ : List ℕ} → length s ≡ length s′ → WellSized s → WellSized s′
 well-sized-too e w = let a = w .some-bytes in let b = w .at-most in let c = w .whole-blocks in record { some-bytes = rw e at a; at-most = rw e at b; whole-blocks = rw e at c }
