@@ -129,10 +129,11 @@ impl Grammar {
         word(self.productions.len() - 1)
     }
 
-    /// The records in order. Numbers over 255 are cut to a byte, and so refused by the machine.
+    /// The records in order. A production's number is a word, its low byte in a and its high byte in
+    /// c. A class's is a byte: those over 255 are cut to one, and so refused by the machine.
     ///
     /// # Panics
-    /// A count or a text's length over 65,535.
+    /// A count, a text's length or a production's number over 65,535.
     #[must_use]
     pub fn records(&self) -> Vec<Record> {
         let mut records = Vec::new();
@@ -140,11 +141,7 @@ impl Grammar {
             push_class(&mut records, number as u8, class);
         }
         for (number, production) in self.productions.iter().enumerate() {
-            let elements = word(production.elements.len());
-            records.push(record(3, number as u8, production.nonterminal, 0, elements));
-            for element in &production.elements {
-                push_element(&mut records, element);
-            }
+            push_production(&mut records, word(number), production);
         }
         records
     }
@@ -152,7 +149,7 @@ impl Grammar {
     /// The packed stream.
     ///
     /// # Panics
-    /// A count or a text's length over 65,535.
+    /// A count, a text's length or a production's number over 65,535.
     #[must_use]
     pub fn stream(&self) -> Vec<u8> {
         blocks(GRAMMAR, &self.records())
@@ -175,6 +172,21 @@ fn range(&(lowest, highest): &(u32, u32)) -> Record {
     [2, l0, l1, l2, h0, h1, h2, 0]
 }
 
+fn push_production(records: &mut Vec<Record>, number: u16, production: &Production) {
+    let [low, high] = number.to_le_bytes();
+    let elements = word(production.elements.len());
+    records.push(record(
+        3,
+        low,
+        production.nonterminal,
+        high.into(),
+        elements,
+    ));
+    for element in &production.elements {
+        push_element(records, element);
+    }
+}
+
 fn push_element(records: &mut Vec<Record>, element: &Element) {
     match element {
         Element::Keyword(text) => {
@@ -187,6 +199,27 @@ fn push_element(records: &mut Vec<Record>, element: &Element) {
         Element::Separated(number, separator) => {
             records.push(record(4, 4, *number, word(separator.len()), 0));
             records.extend(text_units(separator));
+        }
+    }
+}
+
+#[cfg(test)]
+mod tests {
+    use super::*;
+
+    #[test]
+    fn a_productions_number_is_a_word_and_a_classs_a_byte() {
+        let mut grammar = Grammar::new();
+        for number in 0..700 {
+            grammar.class(0, 0, &[]);
+            assert_eq!(grammar.production(7, []), number);
+        }
+        let records = grammar.records();
+        let (classes, productions) = records.split_at(700);
+        for (number, (class, production)) in classes.iter().zip(productions).enumerate() {
+            let [low, high] = [number % 256, number / 256].map(|byte| byte as u8);
+            assert_eq!(*class, [1, low, 0, 0, 0, 0, 0, 0]);
+            assert_eq!(*production, [3, low, 7, 0, high, 0, 0, 0]);
         }
     }
 }

@@ -142,9 +142,10 @@ fn read_range(reader: &mut Reader<'_>) -> Result<CodeRange, Broken> {
     })
 }
 
+/// Reads a production, whose number is a word: a holds its low byte and c its high byte.
 fn read_production<'a>(reader: &mut Reader<'a>, number: usize) -> Result<Production<'a>, Broken> {
     let head = reader.record_of(3)?;
-    ask(usize::from(head.a()) == number && head.c() == 0)?;
+    ask(usize::from(head.a()) + 256 * usize::from(head.c()) == number)?;
     let mut elements = Vec::new();
     for _ in 0..head.d() {
         elements.push(read_element(reader)?);
