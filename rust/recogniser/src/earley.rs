@@ -41,8 +41,8 @@ struct Set {
     seen: HashSet<Item>,
     /// What each item that asks for a nonterminal becomes once it is there.
     waiting: HashMap<u16, Vec<Item>>,
-    /// Nonterminals that derive the empty text here.
-    empty: HashSet<u16>,
+    /// Nonterminals that derive the bytes from a place to here.
+    derived: HashSet<(u16, usize)>,
 }
 
 impl Set {
@@ -136,19 +136,30 @@ impl<'a> Run<'a> {
         }
     }
 
-    /// Asks for a nonterminal here, behind which `then` goes on.
+    /// Asks for a nonterminal here, behind which `then` goes on. A nonterminal may have thousands of
+    /// productions: the first that asks lets them begin.
     fn ask(&mut self, nonterminal: u16, then: Item, at: usize) {
         let set = &mut self.sets[at];
-        set.waiting.entry(nonterminal).or_default().push(then);
-        if set.empty.contains(&nonterminal) {
+        if set.derived.contains(&(nonterminal, at)) {
             set.add(then);
         }
-        self.predict(nonterminal, at);
+        let waiting = set.waiting.entry(nonterminal).or_default();
+        waiting.push(then);
+        if waiting.len() == 1 {
+            self.predict(nonterminal, at);
+        }
     }
 
+    /// Lets the productions of a nonterminal begin here, but for those that begin with a keyword which
+    /// the text hasn't here.
     fn predict(&mut self, nonterminal: u16, at: usize) {
-        let productions = self.grammar.by_nonterminal.get(&nonterminal);
+        let grammar = self.grammar;
+        let productions = grammar.by_nonterminal.get(&nonterminal);
         for &production in productions.into_iter().flatten() {
+            let first = grammar.productions[production].elements.first();
+            if matches!(first, Some(Element::Keyword(text)) if !self.text[at..].starts_with(text)) {
+                continue;
+            }
             self.sets[at].add(Item {
                 production,
                 element: 0,
@@ -158,10 +169,11 @@ impl<'a> Run<'a> {
         }
     }
 
-    /// A nonterminal derives the bytes from `origin` to here: who waited there goes on here.
+    /// A nonterminal derives the bytes from `origin` to here: who waited there goes on here, once.
+    /// (Who asks for it later, at its origin, finds it derived.)
     fn complete(&mut self, nonterminal: u16, origin: usize, at: usize) {
-        if origin == at {
-            self.sets[at].empty.insert(nonterminal);
+        if !self.sets[at].derived.insert((nonterminal, origin)) {
+            return;
         }
         let waiting = self.sets[origin].waiting.get(&nonterminal);
         for item in waiting.cloned().unwrap_or_default() {

@@ -265,3 +265,73 @@ fn separators_may_have_other_characters_too() {
     assert!(derives(&grammar, 0, "[a\u{B}\u{FFFE}b]".as_bytes()));
     assert!(!derives(&grammar, 0, "[a\u{B}b]".as_bytes()));
 }
+
+/// Nonterminal 0 is a row of nonterminal 1, which has so many keywords, `<0>` and on.
+fn keywords(count: usize) -> Grammar {
+    let mut grammar = Grammar::new();
+    grammar.production(0, [Element::separated(1, ",")]);
+    for number in 0..count {
+        grammar.production(1, [keyword(&format!("<{number}>"))]);
+    }
+    grammar
+}
+
+#[test]
+fn thousands_of_productions_of_one_nonterminal() {
+    for count in [255, 256, 257, 700, 2_600] {
+        let grammar = keywords(count);
+        // Of so many items each would take all productions, if these began where the text hasn't their
+        // keyword: past the budget.
+        let row = |last: usize| {
+            let items = (0..200).map(|item| format!("<{}>", item % count));
+            items
+                .chain([format!("<{last}>")])
+                .collect::<Vec<_>>()
+                .join(",")
+        };
+        assert!(derives(&grammar, 0, row(count - 1).as_bytes()), "{count}");
+        for missing in [count, count + 255, count + 256] {
+            assert!(!derives(&grammar, 0, row(missing).as_bytes()), "{missing}");
+        }
+    }
+}
+
+/// Production n of nonterminal n: `n(`, that of n + 1 or nothing, and `)`.
+#[test]
+fn thousands_of_nonterminals_in_one_another() {
+    const COUNT: u16 = 1_200;
+    let mut grammar = Grammar::new();
+    for number in 0..COUNT {
+        let inner = Nonterminal(number + 1);
+        grammar.production(
+            number,
+            [keyword(&format!("{number}(")), inner, keyword(")")],
+        );
+        grammar.production(number, []);
+    }
+    grammar.production(COUNT, []);
+    let nested = |levels: u16| {
+        let open: String = (0..levels).map(|number| format!("{number}(")).collect();
+        open + &")".repeat(levels.into())
+    };
+    for levels in [0, 1, 257, 700, COUNT] {
+        let text = nested(levels);
+        assert!(derives(&grammar, 0, text.as_bytes()), "{levels}");
+        assert!(!derives(&grammar, 0, format!("{text})").as_bytes()));
+        assert_eq!(derives(&grammar, 1, text.as_bytes()), levels == 0);
+    }
+    assert!(!derives(&grammar, 0, nested(COUNT + 1).as_bytes()));
+}
+
+/// Who asked goes on once, though thousands of productions are there, and who asks later goes on, too.
+#[test]
+fn thousands_of_askers_for_thousands_of_empty_productions() {
+    let mut grammar = Grammar::new();
+    for _ in 0..3_000 {
+        grammar.production(0, [Nonterminal(1), keyword("a")]);
+        grammar.production(1, []);
+    }
+    assert!(derives(&grammar, 0, b"a"));
+    assert!(!derives(&grammar, 0, b""));
+    assert!(!derives(&grammar, 0, b"aa"));
+}
