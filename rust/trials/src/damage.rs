@@ -2,7 +2,7 @@
 
 use build::{blocks, due_start, mend, mend_from, records_of, Record, BLOCK};
 
-use crate::faulty::classes;
+use crate::faulty::{classes, productions};
 use crate::generate::Streams;
 use crate::random::Random;
 use crate::uploads;
@@ -12,7 +12,7 @@ pub fn damage(random: &mut Random, streams: &mut Streams, other: &Streams) {
     let index = random.below(3);
     let kind = index as u8 + 1;
     let stream = streams.part_mut(index);
-    match random.below(28) {
+    match random.below(32) {
         0..=7 => change_field(random, stream, kind),
         8 | 9 => move_records(random, stream, kind),
         10 | 11 => flip(random, stream),
@@ -27,6 +27,7 @@ pub fn damage(random: &mut Random, streams: &mut Streams, other: &Streams) {
         19 | 20 => change_repetition(random, &mut streams.grammar),
         21..=24 => damage_chain(random, streams, other),
         25 | 26 => change_escaped(random, &mut streams.grammar),
+        27..=30 => change_numbers(random, &mut streams.grammar),
         _ => *stream = other.parts()[random.below(3)].to_vec(),
     }
 }
@@ -118,6 +119,57 @@ fn change_escaped(random: &mut Random, stream: &mut Vec<u8>) {
         _ => record[0] = *random.pick(&[1, 2, 3, 4, 6]),
     }
     *stream = blocks(1, &records);
+}
+
+/// Changes the number of a production of the grammar, or of all from one on; the checks are mended.
+fn change_numbers(random: &mut Random, stream: &mut Vec<u8>) {
+    let mut records = records_of(stream);
+    let heads = productions(&records);
+    if heads.is_empty() {
+        return;
+    }
+    let mut borders = vec![
+        0,
+        255,
+        256,
+        257,
+        512,
+        heads.len() - 1,
+        random.below(heads.len()),
+    ];
+    borders.retain(|&number| number < heads.len());
+    let first = *random.pick(&borders);
+    match random.below(8) {
+        0..=3 => change_number(random, &mut records[heads[first]]),
+        // They start again.
+        4 | 5 => renumber(&mut records, &heads, 256, |number| number % 256),
+        // One is left out.
+        6 => renumber(&mut records, &heads, first, |number| number + 1),
+        // One comes twice.
+        _ => renumber(&mut records, &heads, first, |number| {
+            number.saturating_sub(1)
+        }),
+    }
+    *stream = blocks(1, &records);
+}
+
+/// Changes a byte of a production's number, or exchanges the two, or lets c be 256 or more.
+fn change_number(random: &mut Random, head: &mut Record) {
+    match random.below(6) {
+        0 => head[1] = odd_byte(random, head[1]),
+        1 | 2 => head[4] = odd_byte(random, head[4]),
+        3 => (head[1], head[4]) = (head[4], head[1]),
+        4 => head[5] = random.byte() | 1,
+        _ => (head[4], head[5]) = (head[5], head[4]),
+    }
+}
+
+/// Gives the productions from one on other numbers.
+fn renumber(records: &mut [Record], heads: &[usize], first: usize, other: impl Fn(usize) -> usize) {
+    for (number, &head) in heads.iter().enumerate().skip(first) {
+        let [low, high] = (other(number) as u16).to_le_bytes();
+        (records[head][1], records[head][4]) = (low, high);
+    }
 }
 
 /// A record of some of them, mostly one that isn't a unit of text.

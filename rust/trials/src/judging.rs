@@ -141,7 +141,8 @@ impl Judging {
     }
 }
 
-fn set_b(record: &mut Record, number: usize) {
+/// Lets a record name a number.
+pub(crate) fn set_b(record: &mut Record, number: usize) {
     record[2..4].copy_from_slice(&(number as u16).to_le_bytes());
 }
 

@@ -14,6 +14,7 @@ pub mod generate;
 pub mod judging;
 pub mod machine;
 pub mod mutants;
+pub mod numbers;
 #[cfg(feature = "proved")]
 pub mod proved;
 pub mod random;

@@ -7,6 +7,7 @@ use crate::chains::Chain;
 use crate::faulty::{elements_of_form, productions, text_length, walk, Fault};
 use crate::judging::Judging;
 use crate::machine::{Fields, Machine, Reference};
+use crate::numbers::Numbering;
 use crate::unescaping::Unescaping;
 
 /// A fault put on top of the reference.
@@ -66,6 +67,8 @@ pub enum Mutant {
     Unescapes(Unescaping),
     /// Admits characters with a fault.
     Admits(Admission),
+    /// Numbers productions with a fault.
+    Numbers(Numbering),
     /// Judges the blocks of a set by another chain of checks.
     Judges(Chain),
     /// Unpacks by another chain of checks.
@@ -91,6 +94,7 @@ impl Mutant {
         let escaped = Judging::ALL.map(Mutant::JudgesEscaped);
         let unescapes = Unescaping::ALL.map(Mutant::Unescapes);
         let mut all = [&Self::OTHERS[..], &walks, &packs, &escaped, &unescapes].concat();
+        all.extend(Numbering::ALL.map(Mutant::Numbers));
         all.extend(judges);
         all.extend(Admission::all().into_iter().map(Mutant::Admits));
         all
@@ -176,7 +180,7 @@ fn drop_zero_block(stream: &mut Vec<u8>) -> bool {
 }
 
 /// Changes the records of a stream of a kind whose blocks are sound.
-fn change_records(stream: &mut Vec<u8>, kind: u8, change: impl Fn(&mut [Record])) {
+pub(crate) fn change_records(stream: &mut Vec<u8>, kind: u8, change: impl Fn(&mut [Record])) {
     if stream.get(2) != Some(&kind) {
         return;
     }
@@ -230,6 +234,10 @@ impl Machine for Mutant {
         match self {
             Mutant::JudgesEscaped(fault) => fault.check(grammar, templates),
             Mutant::Admits(fault) => fault.check(grammar, templates),
+            Mutant::Numbers(fault) => {
+                let [grammar, templates] = fault.taken(grammar, templates);
+                Reference.check(&grammar, &templates)
+            }
             _ => Reference.check(&self.taken(grammar), &self.taken(templates)),
         }
     }
@@ -259,6 +267,10 @@ impl Machine for Mutant {
                 fields
             }
             Mutant::Admits(fault) => fault.evaluate(parts, fuel, out, scratch),
+            Mutant::Numbers(fault) => {
+                let [grammar, templates] = fault.taken(parts[0], parts[1]);
+                Reference.evaluate([&grammar, &templates, parts[2]], fuel, out, scratch)
+            }
             Mutant::Walks(fault) => {
                 let fields = Reference.evaluate(parts, fuel, &mut out.to_vec(), scratch);
                 match fields[0] {

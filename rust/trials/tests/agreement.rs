@@ -8,6 +8,7 @@ use trials::compare::{self, Call, Conversion};
 use trials::faulty::Fault;
 use trials::generate::{self, Streams};
 use trials::mutants::Mutant;
+use trials::numbers::Numbering;
 use trials::run::run;
 use trials::unescaping::Unescaping;
 use trials::{Machine, Random, Reference, SECOND};
@@ -42,8 +43,8 @@ fn every_mutant_is_found() {
     }
 }
 
-/// What the faults in separators, entities, unescape calls, admission and chains of checks are put into
-/// is right without one.
+/// What the faults in separators, entities, unescape calls, admission, numbers and chains of checks are
+/// put into is right without one.
 #[test]
 fn a_machine_without_a_fault_is_no_mutant() {
     let chains = [Mutant::Judges, Mutant::Unpacks, Mutant::Packs].map(|part| part(Chain::Right));
@@ -51,6 +52,7 @@ fn a_machine_without_a_fault_is_no_mutant() {
         Mutant::Walks(Fault::None),
         Mutant::Unescapes(Unescaping::Right),
         Mutant::Admits(Admission::Right),
+        Mutant::Numbers(Numbering::Right),
     ];
     for right in [&others[..], &chains].concat() {
         if let Err(failure) = run(&Reference, &right, seed(), 0..2_000) {

@@ -7,13 +7,13 @@ use build::{
 
 use super::grammars::draw_class;
 use super::lexemes::{lexeme, near_lexeme};
-use super::{admission, escapes, separators, Streams};
+use super::{admission, escapes, productions, separators, Streams};
 use crate::random::Random;
 use crate::uploads;
 
 /// A set of one of the families.
 pub(super) fn set(random: &mut Random) -> Streams {
-    match random.below(39) {
+    match random.below(42) {
         0 => deep_body(random),
         1 => deep_value(random),
         2 => thousands_deep(random),
@@ -24,8 +24,8 @@ pub(super) fn set(random: &mut Random) -> Streams {
         7 => endless_expand(random),
         8 | 9 => tree(random),
         10 => many_classes(random),
-        11 => many_productions(random),
-        12 => many_fields(random),
+        11 => many_fields(random),
+        12 => most_blocks(random),
         13 => long_texts(random),
         14 => tails(random),
         15..=17 => words(random),
@@ -33,7 +33,7 @@ pub(super) fn set(random: &mut Random) -> Streams {
         21 => chances(random),
         22..=28 => escapes::set(random),
         29..=37 => admission::set(random),
-        _ => most_blocks(random),
+        _ => productions::set(random),
     }
 }
 
@@ -276,25 +276,6 @@ fn many_classes(random: &mut Random) -> Streams {
     templates.template(7, [text], body);
     let text = *random.pick(&["abc", "", "αβγ"]);
     Streams::of(&grammar, &templates, &Value::text(text))
-}
-
-/// About 256 productions, some of one nonterminal, the last of them used.
-fn many_productions(random: &mut Random) -> Streams {
-    let count = *random.pick(&[200, 255, 256, 257, 258]);
-    let mut grammar = Grammar::new();
-    for number in 0..count {
-        let nonterminal = (number % random.between(1, count)) as u16;
-        grammar.production(nonterminal, [Element::keyword(format!("<{number}>"))]);
-    }
-    grammar.productions[0].nonterminal = grammar.productions[count - 1].nonterminal;
-    let mut templates = Templates::new();
-    let yes_no = templates.yes_no();
-    let builds = [0, count - 1].map(|number| Node::build(number as u16, []));
-    let [first, last] = builds;
-    let body = Node::either(Path::variable(0), first, last);
-    let nonterminal = grammar.productions[0].nonterminal;
-    templates.template(nonterminal, [yes_no], body);
-    Streams::of(&grammar, &templates, &Value::YesNo(random.once_in(2)))
 }
 
 /// Records of about 256 fields in one another, read at late fields.

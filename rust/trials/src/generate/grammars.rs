@@ -1,6 +1,6 @@
 //! Random grammars in which every nonterminal can be built in one step.
 
-use build::{Element, Grammar};
+use build::{Element, Grammar, Production};
 
 use super::lexemes::ALPHABETS;
 use crate::random::Random;
@@ -55,11 +55,27 @@ pub(super) fn grammar(random: &mut Random) -> Drawn {
             }
         }
     }
+    if random.once_in(8) {
+        let mut before = others(random, &nonterminals);
+        before.append(&mut rows);
+        rows = before;
+    }
     grammar.productions = rows;
     Drawn {
         grammar,
         nonterminals,
     }
+}
+
+/// Productions of none of the nonterminals, so that those behind them have numbers of two bytes.
+fn others(random: &mut Random, nonterminals: &[u16]) -> Vec<Production> {
+    let count = *random.pick(&[250, 253, 255, 256, 300, 510, 695, 1_500]);
+    let free = (0..).find(|number| !nonterminals.contains(number));
+    let other = Production {
+        nonterminal: free.expect("a number that is free"),
+        elements: vec![],
+    };
+    vec![other; count]
 }
 
 /// A repetition of one of the nonterminals, with a separator or without.

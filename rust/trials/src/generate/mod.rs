@@ -5,6 +5,7 @@ mod escapes;
 mod families;
 mod grammars;
 mod lexemes;
+mod productions;
 mod separators;
 mod sketch;
 mod values;
