@@ -44,12 +44,31 @@ fn grammar(before: usize, ranges: u32) -> Grammar {
     grammar
 }
 
-/// A small grammar, and one of 256 classes that fills 128 blocks: tables may grow with them. Each with
-/// the number of its class of many ranges.
-fn grammars() -> [(Vec<u8>, u16); 2] {
-    let full = grammar(254, 7_784);
-    assert_eq!(full.records().len(), usize::from(FULL));
-    [(grammar(0, 3), 0), (full, 254)].map(|(grammar, class)| (grammar.stream(), class))
+/// The same with as many empty productions behind as 128 blocks hold.
+fn filled(mut grammar: Grammar) -> Grammar {
+    for _ in grammar.records().len()..FULL.into() {
+        grammar.production(0, []);
+    }
+    grammar
+}
+
+/// A small grammar, and some that fill 128 blocks, as tables may grow with what they hold: 256 classes
+/// and ranges, classes and productions, all three, and productions with next to nothing else. Each with
+/// what it is called and the number of its class of many ranges.
+fn grammars() -> [(&'static str, Vec<u8>, u16); 5] {
+    let full = [
+        ("256 classes and ranges", grammar(254, 7_784), 254),
+        ("256 classes and productions", filled(grammar(254, 3)), 254),
+        ("all three", filled(grammar(254, 3_900)), 254),
+        ("productions", filled(grammar(0, 3)), 0),
+    ];
+    for (name, grammar, _) in &full {
+        assert_eq!(grammar.records().len(), usize::from(FULL), "{name}");
+    }
+    let [ranges, productions, all, alone] = full;
+    let small = ("a small grammar", grammar(0, 3), 0);
+    [small, ranges, productions, all, alone]
+        .map(|(name, grammar, class)| (name, grammar.stream(), class))
 }
 
 /// Templates on lists of lists, with these bodies.
@@ -272,11 +291,12 @@ fn escaped_letters() -> Vec<u8> {
 
 /// Tries all cases on a machine. The streams are built outside of the small stack.
 fn on_a_small_stack(machine: impl Machine + Send + 'static) {
-    let sets = grammars().map(|(grammar, class)| (grammar, cases(class)));
+    let sets = grammars().map(|(held, grammar, class)| (held, grammar, cases(class)));
     let text = escaped_letters();
     let calls = move || {
-        for (grammar, cases) in &sets {
-            cases.iter().for_each(|case| call(&machine, grammar, case));
+        for (held, grammar, cases) in &sets {
+            let tried = cases.iter();
+            tried.for_each(|case| call(&machine, held, grammar, case));
         }
         let mut plain = vec![0; text.len()];
         let bytes = 1_000 * (5 + LETTERS.len() + 4) as u64;
@@ -288,12 +308,13 @@ fn on_a_small_stack(machine: impl Machine + Send + 'static) {
 }
 
 /// An evaluate call and a check call, which refuses only templates that are over a limit.
-fn call(machine: &dyn Machine, grammar: &[u8], (name, templates, value, expected): &Case) {
-    let name = format!(
-        "{name}, {} bytes of grammar, {}",
-        grammar.len(),
-        machine.name()
-    );
+fn call(
+    machine: &dyn Machine,
+    held: &str,
+    grammar: &[u8],
+    (name, templates, value, expected): &Case,
+) {
+    let name = format!("{name}, {held}, {}", machine.name());
     let (mut out, mut scratch) = (vec![0; 2_000], vec![0; 4_800]);
     let streams = [grammar, templates, value];
     let fields = machine.evaluate(streams, u32::MAX, &mut out, &mut scratch);
@@ -362,9 +383,9 @@ mod painted {
     fn most() -> (usize, String) {
         let (mut out, mut scratch) = (vec![0; 2_000], vec![0; 4_800]);
         let mut all = Vec::new();
-        for (grammar, class) in &grammars() {
+        for (held, grammar, class) in &grammars() {
             for (name, templates, value, _) in &cases(*class) {
-                let name = format!("{name}, {} bytes of grammar", grammar.len());
+                let name = format!("{name}, {held}");
                 let evaluate = taken(|| {
                     SECOND.evaluate(
                         [grammar, templates, value],
