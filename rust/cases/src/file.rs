@@ -8,8 +8,8 @@ use std::ops::Range;
 /// The bytes that each stream has room for.
 const ROOM: usize = 66_048;
 
-/// A run shorter than this is cheaper as the bytes that it is.
-const SHORTEST_RUN: usize = 32;
+/// The bytes of a head. A run shorter than this is cheaper as the bytes that it is.
+const HEAD: usize = 32;
 
 /// A call as the file says it: its number, the number that it is given, what it is lent.
 struct Asked<'a> {
@@ -65,17 +65,15 @@ impl Writer {
 
     /// The pieces of a stream that it does not hold yet.
     fn put(&mut self, stream: usize, bytes: &[u8]) {
-        for (literal, run) in pieces(bytes) {
-            let held = &mut self.streams[stream][literal.start..run.end];
-            let piece = &bytes[literal.start..run.end];
-            if held == piece {
-                continue;
+        for span in changed(&self.streams[stream], bytes) {
+            let new = &bytes[span.clone()];
+            self.streams[stream][span.clone()].copy_from_slice(new);
+            for (literal, run) in pieces(new) {
+                let (first, step) = progression(&new[run.clone()]);
+                let (at, count) = (span.start + literal.start, literal.len());
+                let head = [stream + 1, at, count, run.len(), first, step, 0, 0];
+                self.part(head, &new[literal]);
             }
-            held.copy_from_slice(piece);
-            let (first, step) = progression(&bytes[run.clone()]);
-            let (at, count) = (literal.start, literal.len());
-            let head = [stream + 1, at, count, run.len(), first, step, 0, 0];
-            self.part(head, &bytes[literal]);
         }
     }
 
@@ -113,13 +111,26 @@ fn asked(call: &Call) -> Asked<'_> {
     }
 }
 
+/// Where bytes differ from those that are held. What lies between two differences is cheaper put once
+/// more than passed over, if it is shorter than a head.
+fn changed(held: &[u8], bytes: &[u8]) -> Vec<Range<usize>> {
+    let mut spans: Vec<Range<usize>> = Vec::new();
+    for at in (0..bytes.len()).filter(|&at| held[at] != bytes[at]) {
+        match spans.last_mut() {
+            Some(span) if at - span.end < HEAD => span.end = at + 1,
+            _ => spans.push(at..at + 1),
+        }
+    }
+    spans
+}
+
 /// Where the pieces of some bytes lie: bytes as they are, and a run after them.
 fn pieces(bytes: &[u8]) -> Vec<(Range<usize>, Range<usize>)> {
     let mut pieces = Vec::new();
     let (mut start, mut at) = (0, 0);
     while at < bytes.len() {
         let end = at + run_length(&bytes[at..]);
-        if end - at >= SHORTEST_RUN {
+        if end - at >= HEAD {
             pieces.push((start..at, at..end));
             (start, at) = (end, end);
         } else {
@@ -147,5 +158,48 @@ fn progression(bytes: &[u8]) -> (usize, usize) {
         [] => (0, 0),
         [first] => ((*first).into(), 0),
         [first, second, ..] => ((*first).into(), second.wrapping_sub(*first).into()),
+    }
+}
+
+#[cfg(test)]
+mod tests {
+    use super::*;
+
+    /// Reads the file as the program does: puts the pieces, and at each call hands over its label and
+    /// what it is lent of the streams.
+    fn read(mut file: &[u8], mut call: impl FnMut(&[u8], [&[u8]; 3])) {
+        let mut streams = [(); 3].map(|()| vec![0; ROOM]);
+        while let Some((head, rest)) = file.split_at_checked(HEAD) {
+            let number = |at: usize| {
+                let bytes = head[4 * at..4 * at + 4].try_into().expect("four bytes");
+                u32::from_le_bytes(bytes) as usize
+            };
+            let kind = number(0);
+            if let Some(stream) = (1..=3).contains(&kind).then(|| &mut streams[kind - 1]) {
+                let (at, count, length) = (number(1), number(2), number(3));
+                stream[at..at + count].copy_from_slice(&rest[..count]);
+                for place in 0..length {
+                    let byte = (number(4) + place * number(5)) as u8;
+                    stream[at + count + place] = byte;
+                }
+                file = &rest[count..];
+            } else {
+                let (label, rest) = rest.split_at(number(1));
+                call(label, [0, 1, 2].map(|at| &streams[at][..number(3 + at)]));
+                file = rest;
+            }
+        }
+    }
+
+    #[test]
+    fn each_call_is_lent_its_streams() {
+        let cases = crate::all();
+        let mut left = cases.iter();
+        read(&file(&cases), |label, streams| {
+            let case = left.next().expect("a case for each call");
+            assert_eq!(label, case.label.as_bytes());
+            assert!(streams == asked(&case.call).streams, "{}", case.label);
+        });
+        assert!(left.next().is_none(), "a call for each case");
     }
 }
