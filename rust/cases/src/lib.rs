@@ -13,6 +13,7 @@
 //! | `separators` | repetitions with a separator: layout, names, typing, runs |
 //! | `escapes` | escaped classes: texts, literals, positions, layout, names; the unescape call |
 //! | `admission` | characters that XML 1.0 admits: titles, literals, class tables; where it isn't asked |
+//! | `productions` | more than 256 productions: their numbers, and builds of them |
 //!
 //! To add a case, add it to one of these, then `cargo run -p cases`.
 
@@ -24,6 +25,7 @@ mod escapes;
 mod example;
 mod expected;
 mod file;
+mod productions;
 mod records;
 mod runs;
 mod separators;
@@ -48,6 +50,7 @@ pub fn all() -> Vec<Case> {
         separators::all(),
         escapes::all(),
         admission::all(),
+        productions::all(),
     ]
     .concat()
 }
