@@ -7,8 +7,8 @@
 //! is loaded as well: where code lies in memory counts for some percent, and two builds that are
 //! loaded alike lie alike. A copy of the old one as the new one says how much a ratio is worth. Each
 //! build packs the streams that it is measured on: builds from before and after request b write other
-//! checks, and refuse each other's. Sets of a form and calls that the old build doesn't have are left
-//! out.
+//! checks, and refuse each other's. Sets of a layout that the old build refuses and calls that it doesn't
+//! have are left out.
 
 #[allow(unsafe_code)]
 mod loaded;
@@ -425,9 +425,9 @@ fn against_row(family: &Family, new: &dyn Calls, old: &dyn Calls, rounds: usize)
     let streams = (family.set)(4);
     let mut cells = vec![family.name.to_string(), input(&streams).to_string()];
     let [streams, olds] = [new, old].map(|machine| set_packed_by(machine, &streams));
-    // The layout of a form that an older build doesn't know.
+    // A form that an older build doesn't know, or more productions than it takes.
     if old.check(&olds.grammar, &olds.templates)[0] == 3 {
-        cells.extend(["no such form in the old".into(), String::new()]);
+        cells.extend(["no such layout in the old".into(), String::new()]);
         return cells;
     }
     let answers = finished(new, family, &streams);

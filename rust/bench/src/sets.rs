@@ -16,7 +16,7 @@ pub struct Family {
 }
 
 /// All families.
-pub const FAMILIES: [Family; 30] = [
+pub const FAMILIES: [Family; 31] = [
     Family {
         name: "the paper's example",
         set: |_| example(),
@@ -105,6 +105,11 @@ pub const FAMILIES: [Family; 30] = [
     Family {
         name: "256 productions of one nonterminal",
         set: many_productions,
+        grows: true,
+    },
+    Family {
+        name: "2,000 productions of many nonterminals",
+        set: many_nonterminals,
         grows: true,
     },
     Family {
@@ -368,6 +373,31 @@ fn many_productions(scale: usize) -> Streams {
     let yes_no = templates.yes_no();
     let builds = (0..1_900 * scale).map(|number| Node::build((count - 1 - number % 50) as u16, []));
     templates.template(0, [yes_no], Node::build(0, [Node::sequence(builds)]));
+    Streams::of(&grammar, &templates, &Value::YesNo(true))
+}
+
+/// 500 to 2,000 productions. Nonterminal 1 has as many pieces as fit, each with a nonterminal of its own
+/// below it, whose production stands as far behind. They are built from all over the row.
+fn many_nonterminals(scale: usize) -> Streams {
+    let pieces = 250 * scale as u16 - 1;
+    let (row, close) = (Element::Repetition(1), Element::Nonterminal(0xFFFF));
+    let mut grammar = Grammar::new();
+    grammar.production(0, [keyword("{"), row, close]);
+    for piece in 1..=pieces {
+        grammar.production(1, [Element::Nonterminal(1 + piece)]);
+    }
+    for piece in 1..=pieces {
+        grammar.production(1 + piece, [keyword(&format!("<p{piece:03}/>"))]);
+    }
+    let close = grammar.production(0xFFFF, [keyword("}")]);
+    let mut templates = Templates::new();
+    let yes_no = templates.yes_no();
+    let items = (0..970 * scale).map(|number| {
+        let piece = (611 * number % usize::from(pieces)) as u16 + 1;
+        Node::build(piece, [Node::build(pieces + piece, [])])
+    });
+    let page = [Node::sequence(items), Node::build(close, [])];
+    templates.template(0, [yes_no], Node::build(0, page));
     Streams::of(&grammar, &templates, &Value::YesNo(true))
 }
 
