@@ -3,7 +3,7 @@
 
 use crate::assembly::sheet::{Origin, What};
 use crate::words::named;
-use std::collections::BTreeMap;
+use std::collections::{BTreeMap, HashSet};
 
 /// The names of a set's things. What isn't known is called by its number.
 #[derive(Clone, Debug, Default, PartialEq, Eq)]
@@ -30,21 +30,24 @@ impl Names {
     /// The names that a grammar and templates have by their maps. A nonterminal has the number in the
     /// order of the first productions, as the assembler gives it.
     pub fn of(grammar: &[Origin], templates: &[Origin]) -> Self {
-        let mut names = Self::default();
-        grammar.iter().for_each(|origin| names.of_grammar(origin));
+        let (mut names, mut known) = (Self::default(), HashSet::new());
+        for origin in grammar {
+            names.of_grammar(origin, &mut known);
+        }
         for (index, origin) in templates.iter().enumerate() {
             names.of_templates(origin, index);
         }
         names
     }
 
-    /// Classes come before productions; behind these a class's name is that of an element.
-    fn of_grammar(&mut self, origin: &Origin) {
+    /// Classes come before productions; behind these a class's name is that of an element. The
+    /// nonterminals met so far are known.
+    fn of_grammar<'a>(&mut self, origin: &'a Origin, known: &mut HashSet<&'a str>) {
         match origin.names.as_slice() {
             [(What::Class, name)] if self.productions.is_empty() => self.classes.push(name.clone()),
             [(What::Production, name), (What::Nonterminal, of)] => {
                 self.productions.push(name.clone());
-                if !self.nonterminals.contains(of) {
+                if known.insert(of) {
                     self.nonterminals.push(of.clone());
                 }
             }
