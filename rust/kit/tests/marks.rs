@@ -1,7 +1,7 @@
 //! The kit's marks against the proved library: a stream has a mark exactly when the library answers 3.
 
 use kit::streams::layout::lines;
-use kit::streams::record::{Found, Kind};
+use kit::streams::record::{Found, Kind, Record};
 use std::fs;
 use std::path::Path;
 
@@ -81,6 +81,30 @@ fn marks_and_refusals_agree_on_the_papers_example() {
 #[test]
 fn marks_and_refusals_agree_on_the_podcast_example() {
     agree("podcast", &[|b| b.wrapping_add(1)]);
+}
+
+/// The numbers of productions around the 256th, and of the first and the last: each byte that a and c have
+/// takes every value.
+#[test]
+fn marks_and_refusals_agree_on_the_numbers_of_productions() {
+    let production = |number: u16| {
+        let [a, c] = number.to_le_bytes();
+        Record::new(3, a, [0, c.into(), 0]).0
+    };
+    let mut payload: Vec<u8> = (0..300).flat_map(production).collect();
+    assert!(!is_marked(Kind::Grammar, &payload) && !is_refused(Kind::Grammar, &payload));
+    for number in [0, 1, 254, 255, 256, 257, 299] {
+        for at in [1, 4, 5].map(|byte| 8 * number + byte) {
+            let own = payload[at];
+            for other in (0..=u8::MAX).filter(|&byte| byte != own) {
+                payload[at] = other;
+                let marked = is_marked(Kind::Grammar, &payload);
+                let refused = is_refused(Kind::Grammar, &payload);
+                assert!(marked && refused, "byte {at} is {other}");
+            }
+            payload[at] = own;
+        }
+    }
 }
 
 #[test]

@@ -152,6 +152,24 @@ mod tests {
     }
 
     #[test]
+    fn a_production_past_the_256th() {
+        let production = |number: u16| {
+            let [low, high] = number.to_le_bytes();
+            Record::new(3, low, [0, high.into(), 0])
+        };
+        let grammar: Vec<Record> = (0..700).map(production).collect();
+        let said = |number| {
+            let build = [Record::new(5, 0, [number, 1, 0])];
+            named(Stream::Templates, &grammar, &build, &Names::default(), 0)
+        };
+        assert_eq!([255, 256, 699].map(said), [None, None, None]);
+        for number in [700, 768, 65_535] {
+            let line = format!("there is no production {number}: the last is production 699");
+            assert_eq!(said(number), Some(line));
+        }
+    }
+
+    #[test]
     fn fields_of_later_types() {
         let names = Names {
             types: words("title sound sounds"),

@@ -1,6 +1,6 @@
 //! The rules in the papers' own words: document 01, and 02 for what its requests have changed.
 
-use feed::Refusal;
+use feed::{Refusal, Stream};
 
 /// What is known of a refusal, beside its number, that decides which sentences it stands on.
 #[derive(Clone, Copy, Debug, PartialEq, Eq)]
@@ -24,11 +24,15 @@ pub fn quotes(refusal: Refusal, why: Why) -> Vec<&'static str> {
         Why::Number => {}
     }
     let mut found = vec![what_stops(refusal)];
-    found.extend(match refusal {
+    let more: &[_] = match refusal {
         Refusal::Block { .. } => &[CHAIN],
-        Refusal::Layout { .. } => LAYOUT,
+        Refusal::Layout {
+            stream: Stream::Grammar,
+        } => &[FIELDS, NUMBER],
+        Refusal::Layout { .. } => &[FIELDS, SIZE],
         _ => &[],
-    });
+    };
+    found.extend(more);
     found
 }
 
@@ -84,11 +88,16 @@ fn what_stops(refusal: Refusal) -> &'static str {
 const CHAIN: &str = "The check of each block now starts from the check of the block before it; \
                      block 0 still starts from 2166136261.";
 
-const LAYOUT: &[&str] = &[
-    "Unused fields are zero. Text follows its head in units of 8 bytes, the last zero-padded; \
-     length 0 has no unit. After the last thing come zero records only, fewer than 63.",
-    "Size is the number of records of a thing, head and all below it.",
-];
+const FIELDS: &str = "Unused fields are zero. Text follows its head in units of 8 bytes, \
+                      the last zero-padded; length 0 has no unit. \
+                      After the last thing come zero records only, fewer than 63.";
+
+/// No record of a grammar has a size.
+const SIZE: &str = "Size is the number of records of a thing, head and all below it.";
+
+/// Only a grammar's records hold their numbers.
+const NUMBER: &str =
+    "A production's number becomes a word: a holds its low byte and c its high byte.";
 
 const SEPARATOR: &str = "The separator is written before every item but the first, \
                          whether from a for, the sequence itself or several fors in a row. \

@@ -140,10 +140,15 @@ fn class(record: Record, spot: Spot<'_>) -> Head {
         }
     };
     let due = spot.number;
-    head.odd_if(
-        usize::from(own) != due,
-        format!("the next class is number {due}"),
-    )
+    head.odd_if(usize::from(own) != due, next_class(due))
+}
+
+/// Which class is due. The number of a class is a byte, that of a production isn't.
+fn next_class(due: usize) -> String {
+    match u8::try_from(due) {
+        Ok(due) => format!("the next class is number {due}"),
+        Err(_) => "a class's number is a byte, and 256 classes stand before this one".to_string(),
+    }
 }
 
 fn range(record: Record) -> Head {
@@ -155,17 +160,21 @@ fn range(record: Record) -> Head {
 }
 
 fn production(record: Record, spot: Spot<'_>) -> Head {
-    let (own, elements) = (record.a(), usize::from(record.d()));
+    let (own, elements) = (record.production_number(), usize::from(record.d()));
     let counts = counted(elements, "element", "elements");
-    let called = with_name(own, spot.names.productions.get(usize::from(own)));
+    let called = with_name(own, spot.names.productions.get(own));
     let of = nonterminal_called(spot.names, record.b());
-    let due = spot.number;
+    let (a, c, due) = (record.a(), record.c(), spot.number);
     Head::new(format!("production {called} of nonterminal {of}: {counts}"))
         .odd_if(
-            usize::from(own) != due,
-            format!("the next production is number {due}"),
+            own != due,
+            format!(
+                "this production has the number {own} (a {a}, c {c}), \
+                 and the next in the row is {due} (a {}, c {})",
+                due % 256,
+                due / 256
+            ),
         )
-        .unused(&[("c", record.c())])
         .below(&[(Thing::Element, elements)])
 }
 

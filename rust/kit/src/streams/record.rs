@@ -49,6 +49,12 @@ impl Record {
         self.word(6)
     }
 
+    /// The number of a production by its head: a is the low byte, c the high one. A c that is no byte makes
+    /// a number that no row comes to.
+    pub fn production_number(self) -> usize {
+        usize::from(self.a()) + 256 * usize::from(self.c())
+    }
+
     /// Whether all 8 bytes are zero.
     pub fn is_zero(self) -> bool {
         self.0 == [0; RECORD]
@@ -239,6 +245,24 @@ mod tests {
         assert_eq!(record.0, [5, 6, 2, 1, 4, 3, 6, 5]);
         assert_eq!((record.kind(), record.a()), (5, 6));
         assert_eq!((record.b(), record.c(), record.d()), (0x102, 0x304, 0x506));
+    }
+
+    #[test]
+    fn the_number_of_a_production() {
+        for (a, c, number) in [
+            (0, 0, 0),
+            (255, 0, 255),
+            (0, 1, 256),
+            (1, 1, 257),
+            (187, 2, 699),
+            (127, 31, 8_063),
+            (255, 255, 65_535),
+            (0, 256, 65_536),
+            (255, 65_535, 16_777_215),
+        ] {
+            let head = Record::new(3, a, [7, c, 7]);
+            assert_eq!(head.production_number(), number, "a {a}, c {c}");
+        }
     }
 
     #[test]

@@ -62,8 +62,8 @@ fn a_dump_of_a_damaged_stream() {
     desk.kit(&["dump", "value.blk"]).reported(r#"
 value.blk: grammar, 1 block, 63 records, 1 damaged block
 ! block 0: its check is 0x3c407393, and its bytes give 0x4c3e8ff9 from 0x811c9dc5, where block 0 starts
-        0  production 0 of nonterminal 0: 2 elements
-!            the unused field c is 5, not zero
+        0  production 1280 of nonterminal 0: 2 elements
+!            this production has the number 1280 (a 0, c 5), and the next in the row is 0 (a 0, c 0)
         1  class 0: 2 to 2 characters, 0 ranges
 !            an element is expected here
         2  bytes 61 62 00 00 00 00 00 00

@@ -152,6 +152,81 @@ fn a_broken_layout_is_marked_where_it_breaks() {
     );
 }
 
+/// A production without elements, with a number of these two fields.
+fn production(a: u8, c: u16) -> Record {
+    Record::new(3, a, [0, c, 0])
+}
+
+/// So many of them, with the numbers that they should have.
+fn productions(count: u16) -> Vec<Record> {
+    let numbers = (0..count).map(u16::to_le_bytes);
+    numbers.map(|[a, c]| production(a, c.into())).collect()
+}
+
+#[test]
+fn productions_past_the_256th_are_read() {
+    let records = productions(8_064);
+    assert_eq!(odd(Kind::Grammar, &records), []);
+    let texts = texts(Kind::Grammar, &records);
+    assert_eq!(texts.len(), 8_064);
+    for number in [0, 255, 256, 257, 699, 8_063] {
+        let line = format!("{number:>9}  production {number} of nonterminal 0: 0 elements");
+        assert_eq!(texts[number], line);
+    }
+}
+
+#[test]
+fn a_production_out_of_its_row_is_marked_with_both_its_bytes() {
+    for (at, a, c, own, due) in [
+        (0, 0, 1, "256 (a 0, c 1)", "0 (a 0, c 0)"),
+        (0, 1, 0, "1 (a 1, c 0)", "0 (a 0, c 0)"),
+        (255, 255, 1, "511 (a 255, c 1)", "255 (a 255, c 0)"),
+        (256, 0, 0, "0 (a 0, c 0)", "256 (a 0, c 1)"),
+        (256, 1, 0, "1 (a 1, c 0)", "256 (a 0, c 1)"),
+        (256, 0, 256, "65536 (a 0, c 256)", "256 (a 0, c 1)"),
+        (257, 1, 0, "1 (a 1, c 0)", "257 (a 1, c 1)"),
+        (257, 0, 1, "256 (a 0, c 1)", "257 (a 1, c 1)"),
+        (258, 1, 2, "513 (a 1, c 2)", "258 (a 2, c 1)"),
+        (
+            299,
+            43,
+            0xffff,
+            "16777003 (a 43, c 65535)",
+            "299 (a 43, c 1)",
+        ),
+    ] {
+        let mut records = productions(300);
+        records[at] = production(a, c);
+        let said =
+            format!("this production has the number {own}, and the next in the row is {due}");
+        assert_eq!(odd(Kind::Grammar, &records), [(at, said)]);
+    }
+}
+
+/// As a writer makes them that keeps the low byte only, and one that exchanges the two bytes.
+#[test]
+fn every_production_of_a_wrong_row_is_marked() {
+    let mut again = productions(700);
+    again.iter_mut().for_each(|head| head.0[4] = 0);
+    let marks = odd(Kind::Grammar, &again);
+    assert_eq!((marks.len(), marks[0].0), (700 - 256, 256));
+    let mut exchanged = productions(700);
+    exchanged.iter_mut().for_each(|head| head.0.swap(1, 4));
+    let marks = odd(Kind::Grammar, &exchanged);
+    // Where both bytes are equal, they may be exchanged: 0, 257 and 514.
+    assert_eq!((marks.len(), marks[0].0), (700 - 3, 1));
+}
+
+#[test]
+fn the_257th_class_is_marked() {
+    let class = |number: u8| Record::new(1, number, [0; 3]);
+    let mut records: Vec<Record> = (0..=u8::MAX).map(class).collect();
+    assert_eq!(odd(Kind::Grammar, &records), []);
+    records.push(class(0));
+    let said = "a class's number is a byte, and 256 classes stand before this one";
+    assert_eq!(odd(Kind::Grammar, &records), [(256, said.to_string())]);
+}
+
 #[test]
 fn any_records_are_read_to_their_end() {
     for seed in 0..2_000_u32 {
