@@ -40,7 +40,7 @@ impl<'a> Rows<'a> {
         Self {
             nonterminals: nonterminals(&tree.productions, &classes, mistakes),
             classes,
-            productions: row(productions, "a production", 256, mistakes),
+            productions: row(productions, "a production", STREAM_RECORDS, mistakes),
             types: row(types, "a type", STREAM_RECORDS, mistakes),
             templates: row(templates, "a template", STREAM_RECORDS, mistakes),
             forms: tree

@@ -9,6 +9,7 @@ mod limits;
 mod lint;
 mod names;
 mod positions;
+mod productions;
 mod size;
 mod streams;
 mod typing;

@@ -10,14 +10,14 @@ use crate::streams::record::Record;
 use crate::words::named;
 
 impl Assembler<'_> {
-    /// The classes, then the productions. A 257th of them is a mistake that [`Rows`](crate::language::rows::Rows)
-    /// has told.
+    /// The classes, then the productions. One past the numbers of its row is a mistake that
+    /// [`Rows`](crate::language::rows::Rows) has told.
     pub(super) fn grammar(&mut self, tree: &Description) -> Sheet {
         let mut sheet = Sheet::default();
         for (number, class) in (0..=u8::MAX).zip(&tree.classes) {
             self.class(number, class, &mut sheet);
         }
-        for (number, production) in (0..=u8::MAX).zip(&tree.productions) {
+        for (number, production) in (0..=u16::MAX).zip(&tree.productions) {
             self.production(number, production, &mut sheet);
         }
         sheet
@@ -45,11 +45,13 @@ impl Assembler<'_> {
         }
     }
 
-    fn production(&mut self, number: u8, production: &Production, sheet: &mut Sheet) {
+    /// A production, whose number has its low byte in a and its high byte in c.
+    fn production(&mut self, number: u16, production: &Production, sheet: &mut Sheet) {
+        let [low, high] = number.to_le_bytes();
         let nonterminal = &production.nonterminal.word;
         let of = self.rows.nonterminals.get(nonterminal.as_str()).copied();
         let count = word(production.elements.len());
-        let head = Record::new(3, number, [of.unwrap_or_default(), 0, count]);
+        let head = Record::new(3, low, [of.unwrap_or_default(), high.into(), count]);
         let Name { word: name, at } = &production.name;
         let index = sheet.push_named(head, *at, What::Production, name);
         let names = &mut sheet.origins[index].names;

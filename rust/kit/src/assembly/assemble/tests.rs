@@ -1,4 +1,5 @@
 use super::*;
+use crate::streams::record::Found;
 
 const SMALL: &str = r#"
     class letter 0 to 9 { 'a'-'z' }
@@ -183,6 +184,68 @@ fn the_257th_class_is_a_mistake() {
     assert_eq!(
         mistake[0].to_string(),
         "line 257, column 7: this is a class past the 256 that fit"
+    );
+}
+
+/// So many productions of one nonterminal, of which each writes its own number; the last is built.
+fn numbered_productions(count: usize) -> String {
+    let productions: String = (0..count)
+        .map(|n| format!("production p{n} of n = \"{n}\"\n"))
+        .collect();
+    let last = count - 1;
+    format!("{productions}type t = yesno template m (t: t) of n = build p{last} value yes")
+}
+
+#[test]
+fn productions_past_the_256th_are_built() {
+    for count in [1, 255, 256, 257, 258, 512, 513, 700, 2_688] {
+        let text = text_of(&numbered_productions(count));
+        assert_eq!(text, (count - 1).to_string());
+    }
+}
+
+#[test]
+fn the_number_of_a_production_is_a_word() {
+    let streams = assemble(&numbered_productions(700)).expect("streams");
+    let grammar = Found::read(&streams.grammar, Some(Kind::Grammar)).records;
+    for (number, a, c) in [
+        (0, 0, 0),
+        (255, 255, 0),
+        (256, 0, 1),
+        (257, 1, 1),
+        (511, 255, 1),
+        (512, 0, 2),
+        (699, 187, 2),
+    ] {
+        // Each takes three records: its head, its keyword and the keyword's text.
+        assert_eq!(grammar[3 * number].0, [3, a, 0, 0, c, 0, 1, 0], "{number}");
+    }
+    let templates = Found::read(&streams.templates, Some(Kind::Templates)).records;
+    assert_eq!(templates[3].0, [5, 0, 187, 2, 1, 0, 0, 0]);
+}
+
+#[test]
+fn as_many_productions_as_a_stream_holds() {
+    let productions = |count: usize| -> String {
+        let production = |n| format!("production p{n} of n =\n");
+        (0..count).map(production).collect()
+    };
+    let rest = "type t = yesno template m (t: t) of n = build p8063 value yes";
+    let full = productions(8_064) + rest;
+    assert_eq!(text_of(&full), "");
+    let mistake = |description: &str| assemble(description).expect_err("too many")[0].to_string();
+    assert_eq!(
+        mistake(&(productions(8_065) + rest)),
+        "line 8065, column 12: this is a production past the 8064 that fit"
+    );
+    assert_eq!(
+        mistake(&format!("{full} class c 0 to 1 {{}}")),
+        "line 8064, column 12: the grammar takes 8065 records, and a stream holds 8064: \
+         from here on they don't fit"
+    );
+    assert_eq!(
+        mistake(&(productions(70_000) + rest)),
+        "line 8065, column 12: this is a production past the 8064 that fit"
     );
 }
 
