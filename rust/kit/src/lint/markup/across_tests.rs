@@ -253,13 +253,24 @@ fn chain(length: usize, around: impl Fn(usize) -> String) -> String {
     )
 }
 
+/// About as long as a stream holds.
 #[test]
 fn long_chains() {
-    let text = chain(256, |_| "NEXT".to_string());
-    assert_eq!(said(&text), [content(259, 24, IN_P)]);
-    let text = chain(256, |_| "\"\" NEXT*(\" \") \"\" NEXT".to_string());
+    let text = chain(4_000, |_| "NEXT".to_string());
+    assert_eq!(said(&text), [content(4_003, 25, IN_P)]);
+    let text = chain(1_300, |_| "\"\" NEXT*(\" \") \"\" NEXT".to_string());
     let between = "where production `p` has it between `<a>` and `..</a>`";
-    assert_eq!(said(&text), [content(259, 24, between)]);
+    assert_eq!(said(&text), [content(1_303, 25, between)]);
+}
+
+/// Thousands of productions of one nonterminal, each of which uses that nonterminal itself.
+#[test]
+fn a_long_row_of_alternatives() {
+    let rows: String = (0..2_000)
+        .map(|number| format!("production q{number} of q = \"<b>\" q \"</b>\"\n"))
+        .collect();
+    let text = format!("production p of p = \"<a>\" q \"</a>\"\nproduction q of q = t\n{rows}");
+    assert_eq!(said(&text), [content(3, 21, IN_P)]);
 }
 
 #[test]
