@@ -117,10 +117,11 @@ fn the_visits_are_where_the_page_has_them() {
     assert_eq!(Run::of(EXAMPLES[0]).answer().0[3], rows.len() as u64);
 }
 
-/// Where the page changes its two examples.
-const CHANGES: [&str; 2] = [
-    "### Changes of it, and their answers",
-    "### Changes of the second example",
+/// Where the page changes its examples, each with the one that is changed.
+const CHANGES: [(&str, &str); 3] = [
+    ("### Changes of it, and their answers", EXAMPLES[0]),
+    ("### Productions above 255", EXAMPLES[0]),
+    ("### Changes of the second example", EXAMPLES[1]),
 ];
 
 /// The refusals are 1 to 12, in order; each is met by some change, with a kind that its row has.
@@ -130,7 +131,7 @@ fn the_changes_have_their_answers_and_meet_every_refusal() {
     let numbers: Vec<_> = refusals.iter().map(|row| number(&row[0])).collect();
     assert_eq!(numbers, (1..=12).collect::<Vec<_>>());
     let mut met = [0; 13];
-    for (example, heading) in EXAMPLES.into_iter().zip(CHANGES) {
+    for (heading, example) in CHANGES {
         for row in table(heading, "| change |") {
             let mut run = Run::of(example);
             row[0].split("; ").for_each(|change| run.change(change));

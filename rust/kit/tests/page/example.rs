@@ -71,10 +71,14 @@ impl Run {
             [_, "records"] => self.records[at].truncate(number(right)),
             [_, "length"] => self.lengths[at] = number(right),
             [_, "byte", place] => self.wrong.push((at, number(place), bytes(right).0[0])),
-            [_, "insert", place] => {
+            [_, how @ ("insert" | "number"), place] => {
                 let (inserted, place) = (bytes(right).0, number(place));
                 let record = |bytes: &[u8]| bytes.try_into().expect("a record's bytes");
-                self.records[at].splice(place..place, inserted.chunks(8).map(record));
+                let mut inserted: Vec<Record> = inserted.chunks(8).map(record).collect();
+                if how == "number" {
+                    count_up(&mut inserted);
+                }
+                self.records[at].splice(place..place, inserted);
             }
             [_, place] => self.records[at][number(place)] = bytes(right).0.try_into().expect("8"),
             _ => panic!("{change}"),
@@ -98,6 +102,16 @@ impl Run {
         let answer = feed::evaluate(grammar, templates, value, self.fuel, out, room).fields();
         output.truncate(answer[4] as usize);
         (answer, output)
+    }
+}
+
+/// Gives each record but the first a number one above that of the one before, low byte in a and high in c.
+fn count_up(records: &mut [Record]) {
+    let first = records
+        .first()
+        .map_or(0, |it| u16::from_le_bytes([it[1], it[4]]));
+    for (record, number) in records.iter_mut().zip(first..) {
+        [record[1], record[4]] = number.to_le_bytes();
     }
 }
 
