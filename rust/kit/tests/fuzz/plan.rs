@@ -121,8 +121,13 @@ impl Plan {
             self.classes.push(class);
         }
         let nonterminals = random.between(1, 5);
-        for _ in 0..nonterminals {
-            let count = random.between(1, 3);
+        // Behind a long first row the others have numbers that are no bytes.
+        let long = random.one_in(10);
+        for number in 0..nonterminals {
+            let count = match number {
+                0 if long => random.between(250, 700),
+                _ => random.between(1, 3),
+            };
             let row = (0..count).map(|it| self.production(random, nonterminals, it == 0));
             let row = row.collect();
             self.nonterminals.push(row);

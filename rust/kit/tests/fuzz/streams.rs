@@ -85,7 +85,7 @@ fn records_changed(random: &mut Random, stream: &[u8]) -> Vec<u8> {
         let Some(&record) = records.get(place) else {
             break;
         };
-        match random.below(8) {
+        match random.below(9) {
             0 => drop(records.remove(place)),
             1 => records.insert(place, record),
             2 => records.swap(place, other),
@@ -95,10 +95,28 @@ fn records_changed(random: &mut Random, stream: &[u8]) -> Vec<u8> {
                 let times = random.mostly_small(8100);
                 records.splice(place..place, std::iter::repeat_n(record, times));
             }
+            6 => renumbered(random, &mut records[place..]),
             _ => records[place] = field_changed(random, record),
         }
     }
     packed(kind, &records).unwrap_or_else(|_| stream.to_vec())
+}
+
+/// The numbers of productions as another writer may give them: with the low byte alone, with the bytes
+/// exchanged, or further on in the row.
+fn renumbered(random: &mut Random, records: &mut [Record]) {
+    let how = random.below(3);
+    let further = random.pick(&WORDS);
+    for Record(head) in records.iter_mut().filter(|it| it.kind() == 3) {
+        match how {
+            0 => head[4..6].fill(0),
+            1 => head.swap(1, 4),
+            _ => {
+                let number = u16::from_le_bytes([head[1], head[4]]).wrapping_add(*further);
+                [head[1], head[4]] = number.to_le_bytes();
+            }
+        }
+    }
 }
 
 fn field_changed(random: &mut Random, Record(mut bytes): Record) -> Record {
