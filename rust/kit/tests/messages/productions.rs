@@ -149,6 +149,25 @@ evaluate: the same refusal
     );
 }
 
+#[test]
+fn a_walk_that_stops_in_a_build_above_255() {
+    desk_with(show_page(700))
+        .kit(&["check", "feed.txt", "--output", "2000"])
+        .refused(
+            r#"
+feed.txt:967:20: a keyword, lexeme or separator passes the end of the output (refusal 12)
+        build part263 (place word)
+                       ^
+  = the text "ab" has 2 bytes, and 0 are left
+  = the way there:
+      template `main`
+  = the walk took 528 steps with fuel 1000000 and wrote 2000 of 2000 bytes; the text so far ends with .. "ab<p259>ab<p260>ab<p261>ab<p262>ab<p263>"
+  = an output of 5497 bytes would do
+  = rule: "A keyword or lexeme passes the end of the output."
+"#,
+        );
+}
+
 /// The record of the build of a part's production.
 fn build_of(production: usize) -> usize {
     5 + 3 * (production - 1)

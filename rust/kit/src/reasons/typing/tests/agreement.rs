@@ -98,6 +98,19 @@ fn faults_are_where_the_library_refuses() {
     }
 }
 
+/// The same set behind so many other productions that the numbers of its own are no bytes.
+#[test]
+fn faults_are_where_the_library_refuses_above_255_productions() {
+    let others: String = (0..300)
+        .map(|number| format!("production other{number} of other =\n"))
+        .collect();
+    let streams = crate::assemble(&(others + SMALL)).expect("streams");
+    let failed = failed(&streams, CHANGES);
+    for rule in [CLASS, COUNTS, NONTERMINAL, TYPING] {
+        assert!(failed.contains_key(rule), "{rule}: {failed:?}");
+    }
+}
+
 /// Other forms with the same records: a build for a sequence, a place for an if's branch, and so on. Each
 /// node in turn stands where each other stood, whole, and its neighbours' sizes are kept right.
 #[test]
