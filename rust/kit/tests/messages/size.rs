@@ -3,6 +3,7 @@
 use super::desk::{changed, desk_with, Said};
 
 /// What is said of so many equal entries, with options.
+#[track_caller]
 fn size(entries: usize, options: &[&str]) -> Said {
     let entry = r#"{"word": "ab", "loud": false}"#;
     let data = format!(
