@@ -26,8 +26,8 @@ use Rattle.walk.specs.Asks.{sources, Walkable}
 use Rattle.feed.specs.declared.verdict.Verdict.{Verdict}
 use Rattle.feed.specs.declared.verdict.Verdict.the-variants.{Refused, Passed}
 use Rattle.feed.specs.Verdict.{verdictOf, streamsRefusal, setJudgement, judgement}
-use Rattle.feed.specs.Asks.{ChildRoom, Tabled, Judgeable, SetAsks, SetJudged, JudgeAsks, HeadsAsk, HeadsJudged, GrammarRoom, CheckAsks, EvaluateAsks}
-use Rattle.feed.proofs.OrderLaws.{two-laid, three-laid, set-alone, value-refused, value-passed}
+use Rattle.feed.specs.Asks.{ChildRoom, AllJudged, Tabled, Judgeable, SetAsks, SetJudged, JudgeAsks, HeadsAsk, HeadsJudged, GrammarRoom, CheckAsks, StreamsLaid, EvaluateAsks}
+use Rattle.feed.proofs.OrderLaws.{passes, two-laid, three-laid, set-alone, value-refused, value-passed}
 use Rattle.feed.proofs.EndLaws.{paths-fit}
 
 -- rows for the children of a value: a small one for a stream of at most 8 blocks, a large one for any that refusal 1 lets through
@@ -54,12 +54,12 @@ module _ (g t of-t : List ℕ) (passed : streamsRefusal (Answers.grammar g ∷ A
   pub large-check : length of-t ≡ 8064 → CheckAsks g t of-t
   large-check e = let h = few-records t (two-laid g t passed .1 .length-right) in record { passed = passed; room = omega arith }
 
-module _ (g t v firsts places of-t : List ℕ) (passed : streamsRefusal (Answers.grammar g ∷ Answers.templates t ∷ Answers.value v ∷ []) accept ≡ none) (table : Children v firsts places) where
+module _ (g t v firsts places of-t : List ℕ) (laid : StreamsLaid g t v firsts places) where
   pub small-evaluate : length t ≤ 4096 → length of-t ≡ 504 → EvaluateAsks g t v firsts places of-t
-  small-evaluate l e = let h = small-records t l in record { passed = passed; room = omega arith; children = table }
+  small-evaluate l e = let h = small-records t l in record { laid = laid; room = omega arith }
 
   pub large-evaluate : length of-t ≡ 8064 → EvaluateAsks g t v firsts places of-t
-  large-evaluate e = let h = few-records t (three-laid g t v passed .1 .length-right) in record { passed = passed; room = omega arith; children = table }
+  large-evaluate e = let h = few-records t (three-laid g t v (laid .passed) .1 .length-right) in record { laid = laid; room = omega arith }
 
 -- and for the heads of a grammar, with an entry to spare
 pub small-heads : (g of-g : List ℕ) → length g ≤ 4096 → 505 ≤ length of-g → GrammarRoom g of-g
@@ -67,6 +67,10 @@ small-heads g of-g l e = let h = small-records g l in record { room = omega arit
 
 pub large-heads : (g of-g : List ℕ) → streamLength g ≡ none → 8065 ≤ length of-g → GrammarRoom g of-g
 large-heads g of-g w e = let h = few-records g w in record { room = omega arith }
+
+-- the streams are laid out, if 1 to 3 let them through
+pub streams-laid : {g t v firsts places : List ℕ} {r : Verdict} → AllJudged g t v firsts places r → r ≡ Passed → StreamsLaid g t v firsts places
+streams-laid h e = record { passed = passes _ _ (h .is) e; children = h .children e }
 
 -- what judging asks, in a check and in an evaluate call
 pub check-judges : (g t of-g of-t : List ℕ) → CheckAsks g t of-t → GrammarRoom g of-g → HeadsAsk g t g of-g of-t
@@ -76,7 +80,7 @@ check-judges g t of-g of-t a r =
 
 pub evaluate-judges : (g t v firsts places of-g of-t : List ℕ) → EvaluateAsks g t v firsts places of-t → GrammarRoom g of-g → HeadsAsk g t v of-g of-t
 evaluate-judges g t v firsts places of-g of-t a r =
-    let l = three-laid g t v (a .passed) in
+    let l = three-laid g t v (a .laid .passed) in
     record { grammar-laid = l .0; templates-laid = l .1; value-sized = l .2; grammar-room = omega (arith, r .room); templates-room = a .room }
 
 -- the parts of the tables that were filled

@@ -85,11 +85,14 @@ pub record CheckAsks (g t of-t : List ℕ) : Type 0 where
   pub passed : streamsRefusal (grammar g ∷ Answers.templates t ∷ []) accept ≡ none
   pub room : recordCount t ≤ length of-t
 
--- the value's children are in their table besides
-pub record EvaluateAsks (g t v firsts places of-t : List ℕ) : Type 0 where
+-- the same with a value, whose children are in their table
+pub record StreamsLaid (g t v firsts places : List ℕ) : Type 0 where
   pub passed : streamsRefusal (grammar g ∷ Answers.templates t ∷ value v ∷ []) accept ≡ none
-  pub room : recordCount t ≤ length of-t
   pub children : Children v firsts places
+
+pub record EvaluateAsks (g t v firsts places of-t : List ℕ) : Type 0 where
+  pub laid : StreamsLaid g t v firsts places
+  pub room : recordCount t ≤ length of-t
 
 -- the table of a grammar's heads, with an entry to spare; what it becomes for the walk, from r on
 pub record MarkAsks (g heads : List ℕ) (cs ps : ℕ) : Type 0 where

@@ -2,7 +2,7 @@
 // stated order of the checks; the exports for other languages are in `c`.
 ghost use mathlib.Core.Path.{_≡_};
 ghost use Rattle.rules.specs.Answers.{check, evaluate};
-ghost use Rattle.feed.specs.Asks.{ChildRoom, GrammarRoom, CheckAsks, EvaluateAsks, MarkAsks, HeadsMarked};
+ghost use Rattle.feed.specs.Asks.{GrammarRoom, CheckAsks, StreamsLaid, EvaluateAsks, MarkAsks, HeadsMarked};
 ghost use Rattle.feed.specs.Verdict.{outcome};
 
 pub mod c;
@@ -96,7 +96,7 @@ fn mark_heads(g: &[u8], heads: &mut [u16], classes: usize, productions: usize) -
     classes - marks
 }
 
-// 4 to 9 of a set and a value that 1 to 3 let through, and the walk.
+// 4 to 9 of a set and a value that 1 to 3 let through, and the walk. The heads go into tables that are lent.
 fn evaluate_set(
     g: &[u8],
     t: &[u8],
@@ -176,23 +176,20 @@ fn evaluate_tabled(
     )
 }
 
-// 1 to 3 of all three streams, with the table of the value's children, and what comes after them.
-fn evaluate_all(
+// The same with a table of the templates' heads of its own.
+fn evaluate_laid(
     g: &[u8],
     t: &[u8],
     v: &[u8],
-    firsts: &mut [u16],
-    places: &mut [u16],
+    firsts: &[u16],
+    places: &[u16],
     fuel: u32,
     out: &mut [u8],
     scratch: &mut [u16],
 ) -> Answer
-    requires { ⌜ ChildRoom (now v) (now firsts) (now places) ⌝ }
+    requires { ⌜ StreamsLaid (now g) (now t) (now v) (now firsts) (now places) ⌝ }
     ensures { λ r. ⌜ outcome r (now (out .exit)) (now (scratch .exit)) ≡ evaluate (now (g .entry)) (now (t .entry)) (now (v .entry)) fuel (now (out .entry)) (now (scratch .entry)) ⌝ }
 {
-    if let Verdict::Refused(number, kind, place) = judge_all(g, t, v, firsts, places) {
-        return refused(number, kind, place);
-    }
     if t.len() <= SMALL_STREAM {
         let mut theads = [0u16; SMALL_RECORDS];
         return evaluate_tabled(g, t, v, firsts, places, &mut theads, fuel, out, scratch);
@@ -202,7 +199,8 @@ fn evaluate_all(
 }
 
 // The evaluate call: 1 to 9, and then the walk. Refused by 1 to 9 it leaves the output and the scratch as they were. A small value takes a small
-// table of children; one of no right length needs none, as 1 refuses it.
+// table of children; one of no right length needs none, as 1 refuses it. (1 to 3 are judged in each branch: called from two places, the scan of
+// the value stays a function of its own in the machine code, and keeps its registers to itself.)
 pub fn evaluate(
     g: &[u8],
     t: &[u8],
@@ -216,9 +214,17 @@ pub fn evaluate(
     if v.len() <= SMALL_STREAM {
         let mut firsts = [0u16; SMALL_RECORDS];
         let mut places = [0u16; SMALL_RECORDS];
-        return evaluate_all(g, t, v, &mut firsts, &mut places, fuel, out, scratch);
+        let verdict = judge_all(g, t, v, &mut firsts, &mut places);
+        if let Verdict::Refused(number, kind, place) = verdict {
+            return refused(number, kind, place);
+        }
+        return evaluate_laid(g, t, v, &firsts, &places, fuel, out, scratch);
     }
     let mut firsts = [0u16; RECORDS];
     let mut places = [0u16; RECORDS];
-    evaluate_all(g, t, v, &mut firsts, &mut places, fuel, out, scratch)
+    let verdict = judge_all(g, t, v, &mut firsts, &mut places);
+    if let Verdict::Refused(number, kind, place) = verdict {
+        return refused(number, kind, place);
+    }
+    evaluate_laid(g, t, v, &firsts, &places, fuel, out, scratch)
 }

@@ -23,7 +23,7 @@ same-length-2 : tie.Need-same-length-2
 same-length-2 c = search needs
 
 returns : tie.Need-returns
-returns c = answered _ _ _ _ _ (c .refused .ensures) (evaluate-refused _ _ _ _ _ _ _ (c .before .before .before .before .before .before .before .before .before .before .before .before .before .before .before .before .before .before .before .before .pre .0 .passed) (refuses _ _ _ _ _ (c .before .before .before .before .before .before .before .before .judge .ensures .is) (c .before .before .verdict .given .1)))
+returns c = answered _ _ _ _ _ (c .refused .ensures) (evaluate-refused _ _ _ _ _ _ _ (c .before .before .before .before .before .before .before .before .before .before .before .before .before .before .before .before .before .before .before .before .pre .0 .laid .passed) (refuses _ _ _ _ _ (c .before .before .before .before .before .before .before .before .judge .ensures .is) (c .before .before .verdict .given .1)))
 
 enum-told : tie.Need-enum-told
 enum-told c = search needs
@@ -38,7 +38,7 @@ same-length-4 : tie.Need-same-length-4
 same-length-4 c = search needs
 
 returns-2 : tie.Need-returns-2
-returns-2 c = answered _ _ _ _ _ (c .refused2 .ensures) (evaluate-scratch _ _ _ _ _ _ (c .before .before .before .before .before .before .before .before .before .before .before .before .before .before .before .before .before .before .before .before .pre .0 .passed) (passes _ _ (c .before .before .before .before .before .before .before .before .judge .ensures .is) (c .before .before .enum-told .given .1)) (c .before .if1 .taken))
+returns-2 c = answered _ _ _ _ _ (c .refused2 .ensures) (evaluate-scratch _ _ _ _ _ _ (c .before .before .before .before .before .before .before .before .before .before .before .before .before .before .before .before .before .before .before .before .pre .0 .laid .passed) (passes _ _ (c .before .before .before .before .before .before .before .before .judge .ensures .is) (c .before .before .enum-told .given .1)) (c .before .if1 .taken))
 
 mul-ts : tie.Need-mul-ts
 mul-ts c = search needs
@@ -71,7 +71,7 @@ part-ps-end : tie.Need-part-ps-end
 part-ps-end c = search needs
 
 run-requires : tie.Need-run-requires
-run-requires c κs = walk-asks _ _ _ _ _ _ _ _ _ _ _ (c .before .before .before .before .before .before .before .before .before .before .before .before .before .before .before .before .before .judge .ensures .tabled) (c .before .before .before .before .before .before .mark-heads .ensures .table) (judged-set _ _ _ (passes _ _ (c .before .before .before .before .before .before .before .before .before .before .before .before .before .before .before .before .before .judge .ensures .is) (c .before .before .before .before .before .before .before .before .before .before .before .enum-told .given .1)) .0) (judged-set _ _ _ (passes _ _ (c .before .before .before .before .before .before .before .before .before .before .before .before .before .before .before .before .before .judge .ensures .is) (c .before .before .before .before .before .before .before .before .before .before .before .enum-told .given .1)) .1) (three-laid _ _ _ (c .before .before .before .before .before .before .before .before .before .before .before .before .before .before .before .before .before .before .before .before .before .before .before .before .before .before .before .before .before .pre .0 .passed) .2) (c .before .before .before .before .before .before .before .before .before .before .before .before .before .before .before .before .before .before .before .before .before .before .before .before .before .before .before .before .before .pre .0 .children) (c .before .before .before .before .before .before .before .before .before .before .if1 .left)
+run-requires c κs = walk-asks _ _ _ _ _ _ _ _ _ _ _ (c .before .before .before .before .before .before .before .before .before .before .before .before .before .before .before .before .before .judge .ensures .tabled) (c .before .before .before .before .before .before .mark-heads .ensures .table) (judged-set _ _ _ (passes _ _ (c .before .before .before .before .before .before .before .before .before .before .before .before .before .before .before .before .before .judge .ensures .is) (c .before .before .before .before .before .before .before .before .before .before .before .enum-told .given .1)) .0) (judged-set _ _ _ (passes _ _ (c .before .before .before .before .before .before .before .before .before .before .before .before .before .before .before .before .before .judge .ensures .is) (c .before .before .before .before .before .before .before .before .before .before .before .enum-told .given .1)) .1) (three-laid _ _ _ (c .before .before .before .before .before .before .before .before .before .before .before .before .before .before .before .before .before .before .before .before .before .before .before .before .before .before .before .before .before .pre .0 .laid .passed) .2) (c .before .before .before .before .before .before .before .before .before .before .before .before .before .before .before .before .before .before .before .before .before .before .before .before .before .before .before .before .before .pre .0 .laid .children) (c .before .before .before .before .before .before .before .before .before .before .if1 .left)
 
 ended-requires : tie.Need-ended-requires
 ended-requires c κs = search needs
@@ -89,7 +89,7 @@ same-length-8 : tie.Need-same-length-8
 same-length-8 c = search needs
 
 returns-3 : tie.Need-returns-3
-returns-3 c = answered _ _ _ _ _ (c .ended .ensures) (evaluate-walks _ _ _ _ _ _ _ _ _ (none-refuses _ _ _ _ (c .before .before .before .before .before .before .before .before .before .before .before .before .before .before .before .before .before .before .before .before .before .before .before .before .before .before .before .before .before .before .before .before .before .before .before .pre .0 .passed) (passes _ _ (c .before .before .before .before .before .before .before .before .before .before .before .before .before .before .before .before .before .before .before .before .before .before .before .judge .ensures .is) (c .before .before .before .before .before .before .before .before .before .before .before .before .before .before .before .before .before .enum-told .given .1)) (c .before .before .before .before .before .before .before .before .before .before .before .before .before .before .before .before .if1 .left)) (search needs) (c .before .before .before .before .before .run .ensures))
+returns-3 c = answered _ _ _ _ _ (c .ended .ensures) (evaluate-walks _ _ _ _ _ _ _ _ _ (none-refuses _ _ _ _ (c .before .before .before .before .before .before .before .before .before .before .before .before .before .before .before .before .before .before .before .before .before .before .before .before .before .before .before .before .before .before .before .before .before .before .before .pre .0 .laid .passed) (passes _ _ (c .before .before .before .before .before .before .before .before .before .before .before .before .before .before .before .before .before .before .before .before .before .before .before .judge .ensures .is) (c .before .before .before .before .before .before .before .before .before .before .before .before .before .before .before .before .before .enum-told .given .1)) (c .before .before .before .before .before .before .before .before .before .before .before .before .before .before .before .before .if1 .left)) (search needs) (c .before .before .before .before .before .run .ensures))
 
 pub evaluate-set-spec : {M : Type 1} → statement M
 evaluate-set-spec =

@@ -26,7 +26,7 @@ slice-aggregate-evaluate-set-2 : tie.Need-slice-aggregate-evaluate-set-2
 slice-aggregate-evaluate-set-2 c = search needs
 
 evaluate-set-requires-2 : tie.Need-evaluate-set-requires-2
-evaluate-set-requires-2 c κs = (c .before .before .before .before .before .before .before .before .before .before .before .before .before .pre, large-heads _ _ (three-laid _ _ _ (c .before .before .before .before .before .before .before .before .before .before .before .before .before .pre .passed) .0 .length-right) (search needs))
+evaluate-set-requires-2 c κs = (c .before .before .before .before .before .before .before .before .before .before .before .before .before .pre, large-heads _ _ (three-laid _ _ _ (c .before .before .before .before .before .before .before .before .before .before .before .before .before .pre .laid .passed) .0 .length-right) (search needs))
 
 same-length-4 : tie.Need-same-length-4
 same-length-4 c = search needs
