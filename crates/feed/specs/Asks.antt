@@ -85,11 +85,12 @@ pub record CheckAsks (g t of-t : List ℕ) : Type 0 where
   pub passed : streamsRefusal (grammar g ∷ Answers.templates t ∷ []) accept ≡ none
   pub room : recordCount t ≤ length of-t
 
--- the same with a value, whose children are in their table
+-- 1 to 3 let all three streams through, and the value's children are in their table
 pub record StreamsLaid (g t v firsts places : List ℕ) : Type 0 where
   pub passed : streamsRefusal (grammar g ∷ Answers.templates t ∷ value v ∷ []) accept ≡ none
   pub children : Children v firsts places
 
+-- and there is room for the heads of the templates' stream
 pub record EvaluateAsks (g t v firsts places of-t : List ℕ) : Type 0 where
   pub laid : StreamsLaid g t v firsts places
   pub room : recordCount t ≤ length of-t

@@ -17,8 +17,8 @@ use Rattle.rules.specs.Grammar.{isClass, textLength}
 use Rattle.rules.specs.Layout.{thenRead, inRow, whileIs, textEnd, rangeEnd, plainEnd, escapedEnd, classEnd, elementEnd, productionEnd, grammarEnd, tailRight, layoutFault, grammarLayout}
 use Rattle.stream.specs.Record.{Fetched}
 use Rattle.stream.specs.declared.record.Record.{Record}
-use Rattle.layout.specs.Common.{mostRecords}
 use Rattle.records.specs.Productions.{ProductionNumber}
+use Rattle.layout.specs.Common.{mostRecords}
 use Rattle.layout.specs.Grammar.{endOf, classHead, elementHead}
 use Rattle.layout.specs.declared.grammar.End.{End}
 use Rattle.layout.specs.declared.grammar.End.the-variants.{At, Broken}

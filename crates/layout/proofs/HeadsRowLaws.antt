@@ -7,7 +7,7 @@ use mathlib.Core.Option.{none}
 use native.Mathlib.Omega.{arith}
 use lib.ListN.{length, getD, take, drop, length-drop, drop-of-length-le}
 use lib.Seq.{take-all, drop-at, drop-drop, length-take-le}
-use borrow.Rule.Slice.PartMut.{putMid, same-len-mid, take-put}
+use borrow.Rule.Slice.PartMut.{putMid, take-put}
 use Rattle.rules.specs.Blocks.{streamLength}
 use Rattle.rules.specs.Records.{base, byteOf, fieldA, recordCount, fieldC, heads, ofKind}
 use Rattle.rules.specs.Grammar.{isClass, productionSize, grammarSize, classes, productions}
@@ -96,8 +96,7 @@ module _ {s : List ℕ} {is is' : ℕ → Bool} {size other : ℕ → ℕ} {most
         (record { sized = h .sized; count = h .count'; end = h .end; row = h .row'; fits = omega arith; inside = h .inside })
 
     -- and so is the second
-    module _ {ys : List ℕ} {two : RowEnd} (b : RowFilled is' other (one .next) (take (length xs - one .count) (drop (one .count) xs)) ys two)
-        (same' : length ys ≡ length (take (length xs - one .count) (drop (one .count) xs))) where
+    module _ {ys : List ℕ} {two : RowEnd} (b : RowFilled is' other (one .next) (take (length xs - one .count) (drop (one .count) xs)) ys two) where
       counted' : two .count ≡ h .count'
       counted' = same-row (subst (λ p. SortRow is' other p (two .count) (two .next)) after-first (b .row)) (h .row') .0
 
@@ -125,10 +124,6 @@ module _ {s : List ℕ} {is is' : ℕ → Bool} {size other : ℕ → ℕ} {most
           ∙ b .rest
           ∙ ap (drop (two .count)) (lent-from (one .count) xs in-table ∙ a .rest)
           ∙ drop-drop (two .count) (one .count) before
-
-      long : length table ≡ length xs
-      unfolding table
-      long = same-len-mid (one .count) (length xs - one .count) xs ys same'
 
       pub tables : Tables most room first second before (putMid (one .count) (length xs - one .count) xs ys) (record { first = one .count; second = two .count })
       unfolding table

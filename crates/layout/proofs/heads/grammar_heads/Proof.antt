@@ -26,7 +26,7 @@ same-length : tie.Need-same-length
 same-length c = search needs
 
 returns : tie.Need-returns
-returns c = tables (grammar-rows (c .before .before .before .before .before .before .before .before .before .before .pre .0) (λ i. c .before .before .before .before .before .before .before .before .before .shared-slice-known .given i .fits)) (c .before .before .before .before .before .before .class-row .ensures) (c .before .before .before .before .before .before .class-row .kept .1 .0) (c .before .before .before .before .before .before .before .before .before .before .pre .1) (c .before .before .production-row .ensures) (c .before .before .production-row .kept .1 .1 .0)
+returns c = tables (grammar-rows (c .before .before .before .before .before .before .before .before .before .before .pre .0) (λ i. c .before .before .before .before .before .before .before .before .before .shared-slice-known .given i .fits)) (c .before .before .before .before .before .before .class-row .ensures) (c .before .before .before .before .before .before .class-row .kept .1 .0) (c .before .before .before .before .before .before .before .before .before .before .pre .1) (c .before .before .production-row .ensures)
 
 pub grammar-heads-spec : {M : Type 1} → statement M
 grammar-heads-spec =

@@ -26,7 +26,7 @@ same-length : tie.Need-same-length
 same-length c = search needs
 
 returns : tie.Need-returns
-returns c = tables (templates-rows (c .before .before .before .before .before .before .before .before .before .before .pre .0)) (c .before .before .before .before .before .before .type-row .ensures) (c .before .before .before .before .before .before .type-row .kept .1 .0) (c .before .before .before .before .before .before .before .before .before .before .pre .1) (c .before .before .template-row .ensures) (c .before .before .template-row .kept .1 .1 .0)
+returns c = tables (templates-rows (c .before .before .before .before .before .before .before .before .before .before .pre .0)) (c .before .before .before .before .before .before .type-row .ensures) (c .before .before .before .before .before .before .type-row .kept .1 .0) (c .before .before .before .before .before .before .before .before .before .before .pre .1) (c .before .before .template-row .ensures)
 
 pub templates-heads-spec : {M : Type 1} → statement M
 templates-heads-spec =
