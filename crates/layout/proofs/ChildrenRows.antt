@@ -1,7 +1,7 @@
 -- The rows of a value's children while its heads are gone over: one row, and all rows so far.
 use Prim.Native.Nat.{ℕ, zero, suc, _+_, _-_, _≤_, _<_, _^_}
 use mathlib.Core.Path.{_≡_, refl, ap, sym, _∙_, subst}
-use mathlib.Core.List.{List, []}
+use mathlib.Core.List.{List, [], _∷_}
 use mathlib.Core.Bool.{Bool, true, false, cond, false≢true}
 use mathlib.Core.Option.{Option, some, Option·none-ne-some, Option·some-injective}
 use native.Mathlib.Omega.{arith}
@@ -11,7 +11,7 @@ use lib.Dec.{eqb, leb, ltb}
 use lib.ListN.{length, getD, set, length-set}
 use lib.Seq.{getD-set-same, getD-set-other}
 use Rattle.rules.specs.Records.{kindOf, fieldD, heads, after, nth}
-use Rattle.rules.specs.Value.{valueSize, children, valuesBelow}
+use Rattle.rules.specs.Value.{valueSize, children, content, valuesBelow}
 use Rattle.laws.specs.Reads.{only-some, few-records}
 use Rattle.stream.specs.declared.record.Place.{Place}
 use Rattle.stream.specs.Record.{placeOf}
@@ -193,14 +193,16 @@ module _ {v : List ℕ} {e : ℕ} {firsts₀ places₀ firsts places : List ℕ}
 
 -- Each value that stands is a head, and its children are the things below it
 
-kind-below : (v : List ℕ) (w kind r : ℕ) → kindHead v kind w ≡ some r → cond (leb 3 kind) (children v w) [] ≡ heads (valueSize v) (kindBelow v kind w) r
-unfolding kindHead kindBelow children heads
+kind-below : (v : List ℕ) (w kind r : ℕ) → kindHead v kind w ≡ some r
+    → cond (eqb kind 5) (content w ∷ []) (cond (leb 3 kind) (children v w) []) ≡ heads (valueSize v) (kindBelow v kind w) r
+unfolding kindHead kindBelow children content heads
 kind-below v w zero r e = absurd (Option·none-ne-some r e)
 kind-below v w (suc zero) r e = refl
 kind-below v w (suc (suc zero)) r e = refl
 kind-below v w (suc (suc (suc zero))) r e = ap (heads (valueSize v) (fieldD v w)) (only-some _ (w + 1) r e .1)
 kind-below v w (suc (suc (suc (suc zero)))) r e = ap (heads (valueSize v) (fieldD v w)) (only-some _ (w + 1) r e .1)
-kind-below v w (suc (suc (suc (suc (suc kind))))) r e = absurd (Option·none-ne-some r e)
+kind-below v w (suc (suc (suc (suc (suc zero))))) r e = ap (heads (valueSize v) 1) (only-some _ (w + 1) r e .1)
+kind-below v w (suc (suc (suc (suc (suc (suc kind)))))) r e = absurd (Option·none-ne-some r e)
 
 values-below : (v : List ℕ) (w r : ℕ) → headEnd Value v w ≡ some r → valuesBelow v w ≡ heads (valueSize v) (below Value v w) r
 unfolding headEnd below valuesBelow

@@ -9,4 +9,5 @@ pub mod TemplateLaws
 pub mod TreeLaws
 pub mod TreeThings
 pub mod TreeTurns
+pub mod TypeLaws
 pub mod ValueLaws

@@ -1,27 +1,26 @@
--- The records of templates, by the tests of the code: rows of one kind, heads of nodes, types.
-use Prim.Native.Nat.{ℕ, zero, suc, _+_, _-_, _%_, _≤_, _<_}
+-- The records of templates, by the tests of the code: rows of one kind, heads of nodes.
+use Prim.Native.Nat.{ℕ, _+_, _-_, _%_, _≤_, _<_}
 use mathlib.Core.Path.{_≡_, refl, ap, sym, _∙_}
 use mathlib.Core.List.{List, append-nil}
 use mathlib.Core.Bool.{Bool, true, false, _&&_}
-use mathlib.Core.Option.{Option, none, some}
-use mathlib.Core.Logic.{_⊎_, ⊎-elim, inl, inr}
+use mathlib.Core.Option.{Option, none}
 use native.Mathlib.Omega.{arith}
 use native.Mathlib.Nat.{add-assoc}
-use borrow.Author.Tests.{eqb-true, eq-eqb, ne-eqb}
+use borrow.Author.Tests.{eq-eqb, ne-eqb}
 use lib.ListN.{drop}
 use lib.Dec.{eqb, leb}
 use Rattle.rules.specs.Faults.{onFound, onlyIf}
-use Rattle.rules.specs.Records.{byteOf, kindOf, fieldB, fieldC, fieldD, recordsFrom, zeros}
+use Rattle.rules.specs.Records.{byteOf, kindOf, fieldB, fieldD, recordsFrom, zeros}
 use Rattle.rules.specs.Templates.{formNumbered}
-use Rattle.rules.specs.Layout.{thenRead, inRow, namingEnd, pathEnd, typeFormEnd, typeEnd}
+use Rattle.rules.specs.Layout.{thenRead, inRow, namingEnd, pathEnd}
 use Rattle.rules.specs.declared.Form.{Form}
-use Rattle.rules.specs.declared.Form.the-variants.{Build, Literal, Place, Expand, If, For, Sequence, Unknown}
+use Rattle.rules.specs.declared.Form.the-variants.{Build, Literal, Place, Expand, If, For, Sequence, Match, Unknown}
 use Rattle.stream.specs.declared.record.Record.{Record}
 use Rattle.stream.specs.declared.record.Place as place
 use Rattle.stream.specs.Record.{bytesOf, Fetched, placeOf}
 use Rattle.layout.specs.declared.tree.Head.{Head}
 use Rattle.layout.specs.declared.tree.Head.the-variants.{Right, Wrong}
-use Rattle.layout.specs.Tree.{Node, textHead, pathHead, formHead, formBelow, headEnd, below, Headed, CountsOn, HeadIn}
+use Rattle.layout.specs.Tree.{Node, textHead, pathHead, barePathHead, formHead, formBelow, headEnd, below, Headed, CountsOn, HeadIn}
 use Rattle.layout.specs.Template.{naming, pathRecord, recordEnd}
 use Rattle.layout.proofs.CommonLaws.{recordBytes, fetched-zeros}
 use Rattle.laws.specs.Reads.{in-row-go, in-row-broken}
@@ -87,31 +86,41 @@ room-near a = record { sized = a .sized; index = a .within .index; place-is = a 
 
 -- Heads of nodes
 
--- a head that says nothing but that a path follows
+-- a head that a path follows
 module _ (t : List ℕ) (p : ℕ) (r : Record) (f : Fetched t p r) (n : ℕ) where
-  path-not : eqb (fieldB t p) 0 && eqb (fieldD t p) 0 ≡ false → Headed p Wrong (pathHead t p) n
-  unfolding pathHead thenRead onFound onlyIf
-  path-not e = wrong p _ n (rw e)
-
   pub path-b : (r .b ≡ 0 → ⊥) → Headed p Wrong (pathHead t p) n
-  path-b b = path-not (rw (ne-eqb (fieldB t p) 0 (λ e. b (f .b ∙ e))))
+  unfolding pathHead thenRead onFound onlyIf
+  path-b b = wrong p _ n (rw (ne-eqb (fieldB t p) 0 (λ e. b (f .b ∙ e))))
 
-  module _ (b : r .b ≡ 0) where
-    pub path-d : (r .d ≡ 0 → ⊥) → Headed p Wrong (pathHead t p) n
-    path-d d = path-not (rw (eq-eqb (fieldB t p) 0 (sym (f .b) ∙ b), ne-eqb (fieldD t p) 0 (λ e. d (f .d ∙ e))))
+  module _ (b : r .b ≡ 0) (z : Bool) (e : onlyIf z (p + 1 + 1) ≡ pathEnd t (p + 1)) where
+    head-is : pathHead t p ≡ onlyIf z (p + 1 + 1)
+    unfolding pathHead thenRead onFound onlyIf
+    head-is = rw (eq-eqb (fieldB t p) 0 (sym (f .b) ∙ b)) (sym e)
 
-    module _ (d : r .d ≡ 0) (z : Bool) (e : onlyIf z (p + 1 + 1) ≡ pathEnd t (p + 1)) where
-      head-is : pathHead t p ≡ onlyIf z (p + 1 + 1)
-      unfolding pathHead thenRead onFound onlyIf
-      head-is = rw (eq-eqb (fieldB t p) 0 (sym (f .b) ∙ b), eq-eqb (fieldD t p) 0 (sym (f .d) ∙ d)) (sym e)
+    pub path-right : z ≡ true → Headed p (Right 2 n) (pathHead t p) n
+    unfolding onlyIf
+    path-right w = right p _ 2 n n (head-is ∙ rw (w, add-assoc p 1 1)) refl
 
-      pub path-right : z ≡ true → Headed p (Right 2 n) (pathHead t p) n
-      unfolding onlyIf
-      path-right w = right p _ 2 n n (head-is ∙ rw (w, add-assoc p 1 1)) refl
+    pub path-wrong : z ≡ false → Headed p Wrong (pathHead t p) n
+    unfolding onlyIf
+    path-wrong w = wrong p _ n (head-is ∙ rw w)
 
-      pub path-wrong : z ≡ false → Headed p Wrong (pathHead t p) n
-      unfolding onlyIf
-      path-wrong w = wrong p _ n (head-is ∙ rw w)
+  -- one that counts nothing
+  pub bare-path : r .d ≡ 0 → (h : Head) → Headed p h (pathHead t p) n → Headed p h (barePathHead t p) n
+  unfolding pathHead barePathHead
+  bare-path d h is = as-head (ap (λ (b : Bool). thenRead (onlyIf b (p + 1)) (pathEnd t)) (rw (eq-eqb (fieldD t p) 0 (sym (f .d) ∙ d)) (and-yes (eqb (fieldB t p) 0)))) refl is
+    where
+      and-yes : (b : Bool) → b && true ≡ b
+      and-yes true = refl
+      and-yes false = refl
+
+  pub bare-d : (r .d ≡ 0 → ⊥) → Headed p Wrong (barePathHead t p) n
+  unfolding barePathHead thenRead onFound onlyIf
+  bare-d d = wrong p _ n (rw (ne-eqb (fieldD t p) 0 (λ e. d (f .d ∙ e))) (and-none (eqb (fieldB t p) 0)))
+    where
+      and-none : (b : Bool) → thenRead (onlyIf (b && false) (p + 1)) (pathEnd t) ≡ none
+      and-none true = refl
+      and-none false = refl
 
 -- a head and its d paths
 module _ (t : List ℕ) (p d : ℕ) (e : d ≡ fieldD t p) (z : Bool) (h : onlyIf z (p + 1 + d) ≡ inRow (recordEnd t 6) d (p + 1)) where
@@ -158,7 +167,7 @@ module _ (t : List ℕ) (p : ℕ) (r : Record) (f : Fetched t p r) where
     unfolding formHead thenRead onFound onlyIf
     not-literal e d = as-form Literal e (wrong p _ _ (rw (ne-eqb (fieldD t p) 0 (λ e. d (f .d ∙ e)))))
 
-    pub a-place : form ≡ Place → (h : Head) → Headed p h (pathHead t p) 0 → Headed p h (headEnd Node t p) (below Node t p)
+    pub a-place : form ≡ Place → (h : Head) → Headed p h (barePathHead t p) 0 → Headed p h (headEnd Node t p) (below Node t p)
     unfolding formHead formBelow
     a-place e h is = as-form Place e is
 
@@ -166,11 +175,11 @@ module _ (t : List ℕ) (p : ℕ) (r : Record) (f : Fetched t p r) where
     unfolding formHead formBelow
     an-expand e h is = as-form Expand e is
 
-    pub an-if : form ≡ If → (h : Head) → Headed p h (pathHead t p) 2 → Headed p h (headEnd Node t p) (below Node t p)
+    pub an-if : form ≡ If → (h : Head) → Headed p h (barePathHead t p) 2 → Headed p h (headEnd Node t p) (below Node t p)
     unfolding formHead formBelow
     an-if e h is = as-form If e is
 
-    pub a-for : form ≡ For → (h : Head) → Headed p h (pathHead t p) 1 → Headed p h (headEnd Node t p) (below Node t p)
+    pub a-for : form ≡ For → (h : Head) → Headed p h (barePathHead t p) 1 → Headed p h (headEnd Node t p) (below Node t p)
     unfolding formHead formBelow
     a-for e h is = as-form For e is
 
@@ -182,90 +191,10 @@ module _ (t : List ℕ) (p : ℕ) (r : Record) (f : Fetched t p r) where
     unfolding formHead onlyIf
     not-sequence e b = as-form Sequence e (wrong p _ _ (rw (ne-eqb (fieldB t p) 0 (λ e. b (f .b ∙ e)))))
 
+    pub a-match : form ≡ Match → (h : Head) → Headed p h (pathHead t p) (r .d) → Headed p h (headEnd Node t p) (below Node t p)
+    unfolding formHead formBelow
+    a-match e h is = as-form Match e (as-head refl (sym (f .d)) is)
+
     pub unknown : form ≡ Unknown → Headed p Wrong (headEnd Node t p) (below Node t p)
     unfolding formHead
     unknown e = as-form Unknown e (wrong p _ _ refl)
-
--- A type, by its form: it has one record, and one for each field
-
-only-same : (b : Bool) (x y : ℕ) → (b ≡ true → x ≡ y) → onlyIf b x ≡ onlyIf b y
-unfolding onlyIf
-only-same true x y h = ap some (h refl)
-only-same false x y h = refl
-
-used-c : (t : List ℕ) (p form : ℕ) → eqb (fieldC t p) 0 ≡ false → typeFormEnd t form p ≡ none
-unfolding typeFormEnd onlyIf thenRead onFound
-used-c t p zero e = rw e
-used-c t p (suc zero) e = rw e (and-none (eqb (fieldB t p) 0) (p + 1))
-  where
-    and-none : (b : Bool) (q : ℕ) → onlyIf (b && false) q ≡ none
-    and-none true q = refl
-    and-none false q = refl
-used-c t p (suc (suc zero)) e = rw e
-used-c t p (suc (suc (suc zero))) e = rw e (and-none (eqb (fieldB t p) 0) (p + 1))
-  where
-    and-none : (b : Bool) (q : ℕ) → thenRead (onlyIf (b && false) q) (inRow (namingEnd t 2) (fieldD t p)) ≡ none
-    and-none true q = refl
-    and-none false q = refl
-used-c t p (suc (suc (suc (suc form)))) e = refl
-
-other-type : (t : List ℕ) (p form : ℕ) → ((form ≡ 0) ⊎ (form ≡ 2) → ⊥) → (form ≡ 1 → ⊥) → (form ≡ 3 → ⊥) → typeFormEnd t form p ≡ none
-unfolding typeFormEnd
-other-type t p zero s o f = absurd (s (inl refl))
-other-type t p (suc zero) s o f = absurd (o refl)
-other-type t p (suc (suc zero)) s o f = absurd (s (inr refl))
-other-type t p (suc (suc (suc zero))) s o f = absurd (f refl)
-other-type t p (suc (suc (suc (suc form)))) s o f = refl
-
-module _ (t : List ℕ) (p : ℕ) (r : Record) (f : Fetched t p r) where
-  -- where the type ends: after its record and its d fields
-  abbrev end : ℕ
-  end = p + 1 + fieldD t p
-
-  type-at : (form : ℕ) → r .a ≡ form → typeEnd t p ≡ typeFormEnd t form p
-  unfolding typeEnd
-  type-at form e = rw (sym (f .a) ∙ e)
-
-  not-type : (form : ℕ) → r .a ≡ form → typeFormEnd t form p ≡ none → onlyIf false end ≡ typeEnd t p
-  unfolding onlyIf
-  not-type form e z = sym (type-at form e ∙ z)
-
-  pub type-c : (r .c ≡ 0 → ⊥) → onlyIf false end ≡ typeEnd t p
-  type-c c = not-type (r .a) refl (used-c t p (r .a) (ne-eqb (fieldC t p) 0 (λ e. c (f .c ∙ e))))
-
-  pub type-other : ((r .a ≡ 0) ⊎ (r .a ≡ 2) → ⊥) → (r .a ≡ 1 → ⊥) → (r .a ≡ 3 → ⊥) → onlyIf false end ≡ typeEnd t p
-  type-other s o u = not-type (r .a) refl (other-type t p (r .a) s o u)
-
-  -- with no fields
-  no-fields : onlyIf (eqb (r .d) 0) end ≡ onlyIf (eqb (fieldD t p) 0) (p + 1)
-  no-fields =
-      ap (λ (d : ℕ). onlyIf (eqb d 0) end) (f .d)
-      ∙ only-same (eqb (fieldD t p) 0) end (p + 1) (λ e. let z : fieldD t p ≡ 0 = eqb-true (fieldD t p) 0 e in omega arith)
-
-  module _ (c : r .c ≡ 0) where
-    zero-c : eqb (fieldC t p) 0 ≡ true
-    zero-c = eq-eqb (fieldC t p) 0 (sym (f .c) ∙ c)
-
-    pub type-named : (r .a ≡ 0) ⊎ (r .a ≡ 2) → onlyIf (eqb (r .d) 0) end ≡ typeEnd t p
-    unfolding typeFormEnd
-    type-named e = no-fields ∙ ⊎-elim (λ a. sym (type-at 0 a ∙ rw zero-c)) (λ a. sym (type-at 2 a ∙ rw zero-c)) e
-
-    pub type-used-b : (r .a ≡ 1) ⊎ (r .a ≡ 3) → (r .b ≡ 0 → ⊥) → onlyIf false end ≡ typeEnd t p
-    unfolding typeFormEnd onlyIf thenRead onFound
-    type-used-b e b =
-        let z : eqb (fieldB t p) 0 ≡ false = ne-eqb (fieldB t p) 0 (λ e. b (f .b ∙ e)) in
-        ⊎-elim (λ a. not-type 1 a (rw z)) (λ a. not-type 3 a (rw z)) e
-
-    module _ (b : r .b ≡ 0) where
-      zero-b : eqb (fieldB t p) 0 ≡ true
-      zero-b = eq-eqb (fieldB t p) 0 (sym (f .b) ∙ b)
-
-      pub type-yes-no : r .a ≡ 1 → onlyIf (eqb (r .d) 0) end ≡ typeEnd t p
-      unfolding typeFormEnd
-      type-yes-no a = no-fields ∙ sym (type-at 1 a ∙ rw (zero-b, zero-c))
-
-      pub type-record : r .a ≡ 3 → (z : Bool) → onlyIf z (p + 1 + r .d) ≡ inRow (recordEnd t 2) (r .d) (p + 1) → onlyIf z end ≡ typeEnd t p
-      unfolding typeFormEnd recordEnd thenRead onFound onlyIf
-      type-record a z h =
-          let e : onlyIf z end ≡ inRow (namingEnd t 2) (fieldD t p) (p + 1) = rw (← f .d) h in
-          e ∙ sym (type-at 3 a ∙ rw (zero-b, zero-c))

@@ -12,10 +12,10 @@ use Rattle.rules.specs.Faults.{onFound, onlyIf}
 use Rattle.rules.specs.Records.{kindOf, fieldA, fieldB, fieldC, fieldD, units, paddingOf, zeros}
 use Rattle.rules.specs.Templates.{formOf}
 use Rattle.rules.specs.Value.{valueSize}
-use Rattle.rules.specs.Layout.{thenRead, inRow, textEnd, pathEnd, formEnd, sized, nodeEnd, childrenEnd, kindEnd, valueEnd}
+use Rattle.rules.specs.Layout.{thenRead, inRow, textEnd, pathEnd, formEnd, sized, nodeEnd, childrenEnd, caseEnd, kindEnd, valueEnd}
 use Rattle.rules.specs.declared.Form.{Form}
-use Rattle.rules.specs.declared.Form.the-variants.{Build, Literal, Place, Expand, If, For, Sequence, Unknown}
-use Rattle.layout.specs.Tree.{Thing, Node, Value, textHead, pathHead, formHead, formBelow, kindHead, kindBelow, headEnd, below, thingEnd}
+use Rattle.rules.specs.declared.Form.the-variants.{Build, Literal, Place, Expand, If, For, Sequence, Match, Unknown}
+use Rattle.layout.specs.Tree.{Thing, Node, Value, textHead, pathHead, barePathHead, formHead, formBelow, kindHead, kindBelow, headEnd, below, thingEnd}
 use Rattle.laws.specs.Reads.{only-some, then-some, some-then}
 use Rattle.layout.proofs.TreeLaws.{treeEnd, end-sized}
 
@@ -46,24 +46,24 @@ then-text s b p q e =
     let h = then-some (onlyIf b p) (textHead s) q e in
     omega (arith, only-some b p (h .0) (h .1) .1, text-grows s (h .0) q (h .2))
 
-then-path : (s : List ℕ) (p q : ℕ) → pathHead s p ≡ some q → p < q
-unfolding pathHead
-then-path s p q e =
-    let h = then-some (onlyIf _ (p + 1)) (pathEnd s) q e in
-    omega (arith, only-some _ (p + 1) (h .0) (h .1) .1, path-ends s (h .0) q (h .2))
+then-path : (s : List ℕ) (b : Bool) (p q : ℕ) → thenRead (onlyIf b (p + 1)) (pathEnd s) ≡ some q → p < q
+then-path s b p q e =
+    let h = then-some (onlyIf b (p + 1)) (pathEnd s) q e in
+    omega (arith, only-some b (p + 1) (h .0) (h .1) .1, path-ends s (h .0) q (h .2))
 
 then-next : (b : Bool) (p q : ℕ) → onlyIf b (p + 1) ≡ some q → p < q
 then-next b p q e = omega (arith, only-some b (p + 1) q e .1)
 
 form-grows : (t : List ℕ) (f : Form) (p q : ℕ) → formHead t f p ≡ some q → p < q
-unfolding formHead
+unfolding formHead pathHead barePathHead
 form-grows t Build p q e = let w : p + 1 ≡ q = cc in omega arith
 form-grows t Literal p q e = then-text t _ p q e
-form-grows t Place p q e = then-path t p q e
+form-grows t Place p q e = then-path t _ p q e
 form-grows t Expand p q e = omega (arith, row-ends (pathEnd t) (path-ends t) (fieldD t p) (p + 1) q e)
-form-grows t If p q e = then-path t p q e
-form-grows t For p q e = then-path t p q e
+form-grows t If p q e = then-path t _ p q e
+form-grows t For p q e = then-path t _ p q e
 form-grows t Sequence p q e = then-next _ p q e
+form-grows t Match p q e = then-path t _ p q e
 form-grows t Unknown p q e = absurd (Option·none-ne-some q e)
 
 kind-grows : (v : List ℕ) (kind p q : ℕ) → kindHead v kind p ≡ some q → p < q
@@ -73,7 +73,8 @@ kind-grows v (suc zero) p q e = then-text v _ p q e
 kind-grows v (suc (suc zero)) p q e = then-next _ p q e
 kind-grows v (suc (suc (suc zero))) p q e = then-next _ p q e
 kind-grows v (suc (suc (suc (suc zero)))) p q e = then-next _ p q e
-kind-grows v (suc (suc (suc (suc (suc kind))))) p q e = absurd (Option·none-ne-some q e)
+kind-grows v (suc (suc (suc (suc (suc zero))))) p q e = then-next _ p q e
+kind-grows v (suc (suc (suc (suc (suc (suc kind)))))) p q e = absurd (Option·none-ne-some q e)
 
 pub head-grows : (thing : Thing) (s : List ℕ) (p q : ℕ) → headEnd thing s p ≡ some q → p < q
 unfolding headEnd
@@ -131,25 +132,25 @@ text-split s one b p =
     ∙ whole-leaf (thenRead (onlyIf b p) (textHead s)) one (p + valueSize s p)
 
 -- what stands below a node's head is its own records, and then nodes
-path-split : (t : List ℕ) (node : ℕ → Option ℕ) (n p : ℕ)
-    → thenRead (thenRead (onlyIf (eqb (fieldB t p) 0 && eqb (fieldD t p) 0) (p + 1)) (λ q. thenRead (pathEnd t q) (inRow node n))) (closed (p + valueSize t p))
-    ≡ whole (pathHead t p) node n (p + valueSize t p)
-unfolding whole pathHead
-path-split t node n p =
-    let b : Bool = eqb (fieldB t p) 0 && eqb (fieldD t p) 0 in
+path-split : (t : List ℕ) (b : Bool) (node : ℕ → Option ℕ) (n p : ℕ)
+    → thenRead (thenRead (onlyIf b (p + 1)) (λ q. thenRead (pathEnd t q) (inRow node n))) (closed (p + valueSize t p))
+    ≡ whole (thenRead (onlyIf b (p + 1)) (pathEnd t)) node n (p + valueSize t p)
+unfolding whole
+path-split t b node n p =
     ap (λ (o : Option ℕ). thenRead o (closed (p + valueSize t p))) (sym (then-then (onlyIf b (p + 1)) (pathEnd t) (inRow node n)))
     ∙ then-then (thenRead (onlyIf b (p + 1)) (pathEnd t)) (inRow node n) (closed (p + valueSize t p))
 
 form-split : (t : List ℕ) (f : Form) (node : ℕ → Option ℕ) (p : ℕ)
     → thenRead (formEnd t f node p) (closed (p + valueSize t p)) ≡ whole (formHead t f p) node (formBelow t f p) (p + valueSize t p)
-unfolding formEnd formHead formBelow whole pathHead
+unfolding formEnd formHead formBelow whole pathHead barePathHead
 form-split t Build node p = sym (some-then (some (p + 1)) (λ q. thenRead (inRow node (fieldD t p) q) (closed (p + valueSize t p))) (p + 1) refl)
 form-split t Literal node p = then-then (onlyIf (eqb (fieldD t p) 0) p) (textEnd t (fieldB t p)) (closed (p + valueSize t p)) ∙ text-split t node (eqb (fieldD t p) 0) p
 form-split t Place node p = whole-leaf _ node (p + valueSize t p)
 form-split t Expand node p = whole-leaf _ node (p + valueSize t p)
-form-split t If node p = path-split t node 2 p
-form-split t For node p = path-split t node 1 p
+form-split t If node p = path-split t _ node 2 p
+form-split t For node p = path-split t _ node 1 p
 form-split t Sequence node p = then-then (onlyIf (eqb (fieldB t p) 0) (p + 1)) (inRow node (fieldD t p)) (closed (p + valueSize t p))
+form-split t Match node p = path-split t _ node (fieldD t p) p
 form-split t Unknown node p = whole-leaf none node (p + valueSize t p)
 
 size-field : (s : List ℕ) (p kind : ℕ) → kindOf s p ≡ kind → eqb kind 2 ≡ false → p + fieldC s p ≡ p + valueSize s p
@@ -178,6 +179,12 @@ module _ (v : List ℕ) (value : ℕ → Option ℕ) (p : ℕ) where
       after-test (eqb (fieldA v p) 0 && eqb (fieldB v p) 0) p (p + 1) _ _
       (λ e. ap (λ (z : ℕ). thenRead (inRow value (fieldD v p) (p + 1)) (closed z)) z)
 
+  case-split : p + fieldC v p ≡ p + valueSize v p
+      → caseEnd v value p ≡ whole (onlyIf (eqb (fieldB v p) 0 && eqb (fieldD v p) 0) (p + 1)) value 1 (p + valueSize v p)
+  unfolding caseEnd sized whole closed
+  case-split z =
+      after-test (eqb (fieldB v p) 0 && eqb (fieldD v p) 0) p (p + 1) _ _ (λ e. ap (λ (z : ℕ). thenRead (inRow value 1 (p + 1)) (closed z)) z)
+
   leaf-split : (b : Bool) → onlyIf b (p + 1) ≡ whole (onlyIf b (p + 1)) value 0 (p + 1)
   unfolding whole closed inRow thenRead onFound onlyIf
   leaf-split true = rw (eq-eqb (p + 1) (p + 1) refl)
@@ -193,7 +200,8 @@ module _ (v : List ℕ) (value : ℕ → Option ℕ) (p : ℕ) where
   kind-split (suc (suc zero)) e = leaf-split _ ∙ ap (whole (kindHead v 2 p) value 0) (sym (size-one v p e))
   kind-split (suc (suc (suc zero))) e = children-split (size-field v p 3 e refl)
   kind-split (suc (suc (suc (suc zero)))) e = children-split (size-field v p 4 e refl)
-  kind-split (suc (suc (suc (suc (suc kind))))) e = sym (whole-none value (fieldD v p) (p + valueSize v p))
+  kind-split (suc (suc (suc (suc (suc zero))))) e = case-split (size-field v p 5 e refl)
+  kind-split (suc (suc (suc (suc (suc (suc kind)))))) e = sym (whole-none value 0 (p + valueSize v p))
 
 pub thing-is : (thing : Thing) (s : List ℕ) (k p : ℕ) → thingEnd thing s k p ≡ treeEnd (headEnd thing s) (valueSize s) (below thing s) k p
 unfolding thingEnd nodeEnd valueEnd treeEnd headEnd below whole closed

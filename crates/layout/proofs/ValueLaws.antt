@@ -15,7 +15,7 @@ use Rattle.stream.specs.declared.record.Record.{Record}
 use Rattle.stream.specs.Record.{Fetched}
 use Rattle.layout.specs.declared.tree.Head.{Head}
 use Rattle.layout.specs.declared.tree.Head.the-variants.{Right, Wrong}
-use Rattle.layout.specs.Tree.{Value, textHead, kindHead, kindBelow, headEnd, below, thingEnd, fills, Headed, yesNo}
+use Rattle.layout.specs.Tree.{Value, textHead, kindHead, kindBelow, headEnd, below, thingEnd, fills, Headed, yesNo, caseHead}
 use Rattle.laws.specs.Faults.{only-no}
 use Rattle.layout.proofs.CommonLaws.{tail-past}
 use Rattle.layout.proofs.TreeThings.{thing-sized}
@@ -29,15 +29,16 @@ no-head b p next e = rw e
 and-not : (a b : Bool) → a ≡ false → a && b ≡ false
 and-not a b e = rw e
 
--- what kinds share: a is unused but for a yes/no; a list and a record; no other kind is a value
-unused-a : (v : List ℕ) (p kind : ℕ) → (kind ≡ 2 → ⊥) → eqb (fieldA v p) 0 ≡ false → kindHead v kind p ≡ none
+-- what kinds share: a is unused but for a yes/no and a case; a list and a record; no other kind is a value
+unused-a : (v : List ℕ) (p kind : ℕ) → (kind ≡ 2 → ⊥) → (kind ≡ 5 → ⊥) → eqb (fieldA v p) 0 ≡ false → kindHead v kind p ≡ none
 unfolding kindHead
-unused-a v p zero k e = refl
-unused-a v p (suc zero) k e = no-head _ p (textHead v) (and-not _ _ e)
-unused-a v p (suc (suc zero)) k e = absurd (k refl)
-unused-a v p (suc (suc (suc zero))) k e = only-no _ (p + 1) (and-not _ _ e)
-unused-a v p (suc (suc (suc (suc zero)))) k e = only-no _ (p + 1) (and-not _ _ e)
-unused-a v p (suc (suc (suc (suc (suc kind))))) k e = refl
+unused-a v p zero k n e = refl
+unused-a v p (suc zero) k n e = no-head _ p (textHead v) (and-not _ _ e)
+unused-a v p (suc (suc zero)) k n e = absurd (k refl)
+unused-a v p (suc (suc (suc zero))) k n e = only-no _ (p + 1) (and-not _ _ e)
+unused-a v p (suc (suc (suc (suc zero)))) k n e = only-no _ (p + 1) (and-not _ _ e)
+unused-a v p (suc (suc (suc (suc (suc zero))))) k n e = absurd (n refl)
+unused-a v p (suc (suc (suc (suc (suc (suc kind)))))) k n e = refl
 
 with-children : (v : List ℕ) (p kind : ℕ) → 3 ≤ kind → kind < 5
     → (kindHead v kind p ≡ onlyIf (eqb (fieldA v p) 0 && eqb (fieldB v p) 0) (p + 1)) × (kindBelow v kind p ≡ fieldD v p)
@@ -56,14 +57,15 @@ other-low v p (suc zero) a b l = absurd (a refl)
 other-low v p (suc (suc zero)) a b l = absurd (b refl)
 other-low v p (suc (suc (suc kind))) a b l = absurd (omega arith)
 
-other-high : (v : List ℕ) (p kind : ℕ) → 5 ≤ kind → kindHead v kind p ≡ none
+other-high : (v : List ℕ) (p kind : ℕ) → (kind ≡ 5 → ⊥) → 5 ≤ kind → kindHead v kind p ≡ none
 unfolding kindHead
-other-high v p zero l = absurd (omega arith)
-other-high v p (suc zero) l = absurd (omega arith)
-other-high v p (suc (suc zero)) l = absurd (omega arith)
-other-high v p (suc (suc (suc zero))) l = absurd (omega arith)
-other-high v p (suc (suc (suc (suc zero)))) l = absurd (omega arith)
-other-high v p (suc (suc (suc (suc (suc kind))))) l = refl
+other-high v p zero n l = absurd (omega arith)
+other-high v p (suc zero) n l = absurd (omega arith)
+other-high v p (suc (suc zero)) n l = absurd (omega arith)
+other-high v p (suc (suc (suc zero))) n l = absurd (omega arith)
+other-high v p (suc (suc (suc (suc zero)))) n l = absurd (omega arith)
+other-high v p (suc (suc (suc (suc (suc zero))))) n l = absurd (n refl)
+other-high v p (suc (suc (suc (suc (suc (suc kind)))))) n l = refl
 
 module _ (v : List ℕ) (p : ℕ) (r : Record) (f : Fetched v p r) where
   -- the value's kind, by its number
@@ -86,8 +88,20 @@ module _ (v : List ℕ) (p : ℕ) (r : Record) (f : Fetched v p r) where
   unfolding kindHead
   yes-wrong e z = not-head 2 e (only-no _ (p + 1) (sym (z ∙ yes-is)))
 
-  pub used-a : (r .kind ≡ 2 → ⊥) → (r .a ≡ 0 → ⊥) → Headed p Wrong (headEnd Value v p) (below Value v p)
-  used-a k z = not-head (r .kind) refl (unused-a v p (r .kind) k (ne-eqb (fieldA v p) 0 (λ e. z (f .a ∙ e))))
+  case-is : caseHead r ≡ eqb (fieldB v p) 0 && eqb (fieldD v p) 0
+  unfolding caseHead
+  case-is = rw (f .b, f .d)
+
+  pub case-right : r .kind ≡ 5 → true ≡ caseHead r → Headed p (Right 1 1) (headEnd Value v p) (below Value v p)
+  unfolding kindHead kindBelow onlyIf
+  case-right e z = right p _ 1 1 _ (at-kind 5 e .0 ∙ ap (λ (b : Bool). onlyIf b (p + 1)) (sym (z ∙ case-is))) (sym (at-kind 5 e .1))
+
+  pub case-wrong : r .kind ≡ 5 → false ≡ caseHead r → Headed p Wrong (headEnd Value v p) (below Value v p)
+  unfolding kindHead
+  case-wrong e z = not-head 5 e (only-no _ (p + 1) (sym (z ∙ case-is)))
+
+  pub used-a : (r .kind ≡ 2 → ⊥) → (r .kind ≡ 5 → ⊥) → (r .a ≡ 0 → ⊥) → Headed p Wrong (headEnd Value v p) (below Value v p)
+  used-a k n z = not-head (r .kind) refl (unused-a v p (r .kind) k n (ne-eqb (fieldA v p) 0 (λ e. z (f .a ∙ e))))
 
   module _ (a : r .a ≡ 0) where
     zero-a : eqb (fieldA v p) 0 ≡ true
@@ -116,8 +130,8 @@ module _ (v : List ℕ) (p : ℕ) (r : Record) (f : Fetched v p r) where
   pub low-kind : (r .kind ≡ 1 → ⊥) → (r .kind ≡ 2 → ⊥) → r .kind < 3 → Headed p Wrong (headEnd Value v p) (below Value v p)
   low-kind a b l = not-head (r .kind) refl (other-low v p (r .kind) a b l)
 
-  pub high-kind : 5 ≤ r .kind → Headed p Wrong (headEnd Value v p) (below Value v p)
-  high-kind l = not-head (r .kind) refl (other-high v p (r .kind) l)
+  pub high-kind : (r .kind ≡ 5 → ⊥) → 5 ≤ r .kind → Headed p Wrong (headEnd Value v p) (below Value v p)
+  high-kind n l = not-head (r .kind) refl (other-high v p (r .kind) n l)
 
 -- The whole value: it ends where its size says
 

@@ -46,19 +46,23 @@ module _ (headEnd : ℕ → Option ℕ) (size below : ℕ → ℕ) where
 unfoldable pub textHead : List ℕ → ℕ → Option ℕ
 textHead s p = thenRead (textEnd s (fieldB s p) p) (λ q. onlyIf (eqb (p + valueSize s p) q) q)
 
--- a path after a head that says nothing else
+-- a path after a head that names nothing; and one that counts nothing either
 unfoldable pub pathHead : List ℕ → ℕ → Option ℕ
-pathHead t p = thenRead (onlyIf (eqb (fieldB t p) 0 && eqb (fieldD t p) 0) (p + 1)) (pathEnd t)
+pathHead t p = thenRead (onlyIf (eqb (fieldB t p) 0) (p + 1)) (pathEnd t)
 
--- a node's own records, by its form: a literal has its text, a place, an if and a for a path, an expand all its paths
+unfoldable pub barePathHead : List ℕ → ℕ → Option ℕ
+barePathHead t p = thenRead (onlyIf (eqb (fieldB t p) 0 && eqb (fieldD t p) 0) (p + 1)) (pathEnd t)
+
+-- a node's own records, by its form: a literal has its text, a place, an if, a for and a match a path, an expand all its paths
 unfoldable pub formHead : List ℕ → Form → ℕ → Option ℕ
 formHead t form.Build p = some (p + 1)
 formHead t form.Literal p = thenRead (onlyIf (eqb (fieldD t p) 0) p) (textHead t)
-formHead t form.Place p = pathHead t p
+formHead t form.Place p = barePathHead t p
 formHead t form.Expand p = inRow (pathEnd t) (fieldD t p) (p + 1)
-formHead t form.If p = pathHead t p
-formHead t form.For p = pathHead t p
+formHead t form.If p = barePathHead t p
+formHead t form.For p = barePathHead t p
 formHead t form.Sequence p = onlyIf (eqb (fieldB t p) 0) (p + 1)
+formHead t form.Match p = pathHead t p
 formHead t form.Unknown p = none
 
 unfoldable pub formBelow : List ℕ → Form → ℕ → ℕ
@@ -69,6 +73,7 @@ formBelow t form.Expand p = 0
 formBelow t form.If p = 2
 formBelow t form.For p = 1
 formBelow t form.Sequence p = fieldD t p
+formBelow t form.Match p = fieldD t p
 formBelow t form.Unknown p = 0
 
 -- a value's own records, by its kind: a text has its text
@@ -79,13 +84,17 @@ kindHead v (suc (suc zero)) p =
     onlyIf (leb (fieldA v p) 1 && (eqb (fieldB v p) 0 && (eqb (fieldC v p) 0 && eqb (fieldD v p) 0))) (p + 1)
 kindHead v (suc (suc (suc zero))) p = onlyIf (eqb (fieldA v p) 0 && eqb (fieldB v p) 0) (p + 1)
 kindHead v (suc (suc (suc (suc zero)))) p = onlyIf (eqb (fieldA v p) 0 && eqb (fieldB v p) 0) (p + 1)
-kindHead v (suc (suc (suc (suc (suc kind))))) p = none
+kindHead v (suc (suc (suc (suc (suc zero))))) p = onlyIf (eqb (fieldB v p) 0 && eqb (fieldD v p) 0) (p + 1)
+kindHead v (suc (suc (suc (suc (suc (suc kind)))))) p = none
 
 unfoldable pub kindBelow : List ℕ → ℕ → ℕ → ℕ
 kindBelow v zero p = 0
 kindBelow v (suc zero) p = 0
 kindBelow v (suc (suc zero)) p = 0
-kindBelow v (suc (suc (suc kind))) p = fieldD v p
+kindBelow v (suc (suc (suc zero))) p = fieldD v p
+kindBelow v (suc (suc (suc (suc zero)))) p = fieldD v p
+kindBelow v (suc (suc (suc (suc (suc zero))))) p = 1
+kindBelow v (suc (suc (suc (suc (suc (suc kind)))))) p = 0
 
 -- of either
 unfoldable pub headEnd : Thing → List ℕ → ℕ → Option ℕ
@@ -117,9 +126,12 @@ pub record Headed (p : ℕ) (h : Head) (end : Option ℕ) (n : ℕ) : Type 0 whe
   pub end-is : endAt p h ≡ end
   pub below-is : belowIn h n ≡ n
 
--- the tests of a yes/no's fields
+-- the tests of a yes/no's fields, and of a case's
 unfoldable pub yesNo : Record → Bool
 yesNo r = leb (r .a) 1 && (eqb (r .b) 0 && (eqb (r .c) 0 && eqb (r .d) 0))
+
+unfoldable pub caseHead : Record → Bool
+caseHead r = eqb (r .b) 0 && eqb (r .d) 0
 
 -- n records can be counted on from a place of a whole stream
 pub record CountsOn (s : List ℕ) (at : Place) (n : ℕ) : Type 0 where

@@ -6,10 +6,10 @@ ghost use mathlib.Core.Option.{none};
 ghost use Rattle.rules.specs.Blocks.{streamLength};
 ghost use Rattle.rules.specs.Faults.{need, onlyIf};
 ghost use Rattle.rules.specs.Records.{fieldD};
-ghost use Rattle.rules.specs.Layout.{inRow, pathEnd, typeEnd, templateEnd, templatesLayout};
+ghost use Rattle.rules.specs.Layout.{inRow, pathEnd, fieldsEnd, typeEnd, templateEnd, templatesLayout};
 ghost use Rattle.stream.specs.Record.{Fetched, placeOf};
 ghost use Rattle.layout.specs.Grammar.{endOf};
-ghost use Rattle.layout.specs.Tree.{Node, pathHead, headEnd, below, fills, Headed, CountsOn, UpTo, HeadIn};
+ghost use Rattle.layout.specs.Tree.{Node, pathHead, barePathHead, headEnd, below, fills, Headed, CountsOn, UpTo, HeadIn};
 ghost use Rattle.layout.specs.Template.{naming, pathRecord, recordEnd, typesEnd, restRight, within, TemplateHead};
 use crate::common::record_count;
 use crate::common::tail_right;
@@ -86,7 +86,7 @@ fn in_row(t: &[u8], kind: u8, at: Place, n: u16) -> bool
     true
 }
 
-// The head of a place, an if or a for: a path follows it, and then n nodes.
+// A head that a path follows, and then n nodes; b is unused.
 fn path_head(t: &[u8], at: Place, r: Record, n: u32) -> Head
     requires { ⌜ CountsOn (now t) at 65536 ⌝ }
     ensures { λ h. ⌜ ((p : ℕ) → at ≡ placeOf p → Fetched (now (t .entry)) p r → Headed p h (pathHead (now (t .entry)) p) n) ⌝ }
@@ -94,11 +94,20 @@ fn path_head(t: &[u8], at: Place, r: Record, n: u32) -> Head
     if r.b != 0 {
         return Head::Wrong;
     }
-    if r.d != 0 {
-        return Head::Wrong;
-    }
     if is_path(fetch_at(t, forward(at, 1))) {
         Head::Right(2, n)
+    } else {
+        Head::Wrong
+    }
+}
+
+// The head of a place, an if or a for, whose form says how many nodes come: d is unused, too.
+fn bare_path_head(t: &[u8], at: Place, r: Record, n: u32) -> Head
+    requires { ⌜ CountsOn (now t) at 65536 ⌝ }
+    ensures { λ h. ⌜ ((p : ℕ) → at ≡ placeOf p → Fetched (now (t .entry)) p r → Headed p h (barePathHead (now (t .entry)) p) n) ⌝ }
+{
+    if r.d == 0 {
+        path_head(t, at, r, n)
     } else {
         Head::Wrong
     }
@@ -133,10 +142,10 @@ fn node_head(t: &[u8], at: Place, r: Record, size: usize) -> Head
                 Head::Wrong
             }
         }
-        Form::Place => path_head(t, at, r, 0),
+        Form::Place => bare_path_head(t, at, r, 0),
         Form::Expand => expand_head(t, at, r),
-        Form::If => path_head(t, at, r, 2),
-        Form::For => path_head(t, at, r, 1),
+        Form::If => bare_path_head(t, at, r, 2),
+        Form::For => bare_path_head(t, at, r, 1),
         Form::Sequence => {
             if r.b == 0 {
                 Head::Right(1, r.d as u32)
@@ -144,6 +153,7 @@ fn node_head(t: &[u8], at: Place, r: Record, size: usize) -> Head
                 Head::Wrong
             }
         }
+        Form::Match => path_head(t, at, r, r.d as u32),
         Form::Unknown => Head::Wrong,
     }
 }
@@ -178,7 +188,22 @@ fn one_node(t: &[u8], p: usize, e: usize) -> bool
     q == e
 }
 
-// The type at a place: its fields by its form. It has one record and one for each field, of which only a record type has any.
+// So many cases a variant may have: a case's number is a byte.
+const CASES: u16 = 256;
+
+// The d fields of a record or a variant; b is unused, as c is of every type.
+fn fields_right(t: &[u8], at: Place, r: Record) -> bool
+    requires { ⌜ CountsOn (now t) at 65536 ⌝ }
+    requires { ⌜ r .c ≡ 0 ⌝ }
+    ensures { λ z. ⌜ ((p : ℕ) → at ≡ placeOf p → Fetched (now (t .entry)) p r → onlyIf z (p + 1 + fieldD (now (t .entry)) p) ≡ fieldsEnd (now (t .entry)) p) ⌝ }
+{
+    if r.b != 0 {
+        return false;
+    }
+    in_row(t, 2, forward(at, 1), r.d)
+}
+
+// The type at a place: its fields by its form. It has one record and one for each field, of which only a record and a variant have any.
 fn type_right(t: &[u8], at: Place, r: Record) -> bool
     requires { ⌜ CountsOn (now t) at 65536 ⌝ }
     ensures { λ z. ⌜ ((p : ℕ) → at ≡ placeOf p → Fetched (now (t .entry)) p r → onlyIf z (p + 1 + fieldD (now (t .entry)) p) ≡ typeEnd (now (t .entry)) p) ⌝ }
@@ -195,11 +220,15 @@ fn type_right(t: &[u8], at: Place, r: Record) -> bool
             }
             r.d == 0
         }
-        3 => {
-            if r.b != 0 {
+        3 => fields_right(t, at, r),
+        4 => {
+            if r.d < 1 {
                 return false;
             }
-            in_row(t, 2, forward(at, 1), r.d)
+            if CASES < r.d {
+                return false;
+            }
+            fields_right(t, at, r)
         }
         _ => false,
     }

@@ -10,7 +10,7 @@ ghost use Rattle.rules.specs.Records.{recordCount};
 ghost use Rattle.rules.specs.Layout.{valueLayout};
 ghost use Rattle.stream.specs.Record.{Fetched, placeOf};
 ghost use Rattle.records.specs.Children.{Children};
-ghost use Rattle.layout.specs.Tree.{Value, yesNo, headEnd, below, Headed, HeadIn};
+ghost use Rattle.layout.specs.Tree.{Value, yesNo, caseHead, headEnd, below, Headed, HeadIn};
 use crate::children::one_value;
 use crate::common::record_count;
 use crate::common::tail_right;
@@ -37,6 +37,16 @@ fn yes_no(r: Record) -> bool
     r.d == 0
 }
 
+// A case: any number, its size, and one value below it.
+fn is_case(r: Record) -> bool
+    ensures { λ z. ⌜ z ≡ caseHead r ⌝ }
+{
+    if r.b != 0 {
+        return false;
+    }
+    r.d == 0
+}
+
 // A value's head, by its kind.
 pub(crate) fn value_head(v: &[u8], at: Place, r: Record, size: usize) -> Head
     requires { ⌜ HeadIn (now v) at r size ⌝ }
@@ -46,6 +56,12 @@ pub(crate) fn value_head(v: &[u8], at: Place, r: Record, size: usize) -> Head
     if kind == 2 {
         if yes_no(r) {
             return Head::Right(1, 0);
+        }
+        return Head::Wrong;
+    }
+    if kind == 5 {
+        if is_case(r) {
+            return Head::Right(1, 1);
         }
         return Head::Wrong;
     }

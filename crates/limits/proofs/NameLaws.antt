@@ -130,7 +130,8 @@ type-numbered g t zero p h k = absurd (h refl)
 type-numbered g t (suc zero) p h k = refl
 type-numbered g t (suc (suc zero)) p h k = absurd (k refl)
 type-numbered g t (suc (suc (suc zero))) p h k = refl
-type-numbered g t (suc (suc (suc (suc a)))) p h k = refl
+type-numbered g t (suc (suc (suc (suc zero)))) p h k = refl
+type-numbered g t (suc (suc (suc (suc (suc a))))) p h k = refl
 
 pub type-other : (g t : List ℕ) (p a : ℕ) → a ≡ fieldA t p → (a ≡ 0 → ⊥) → (a ≡ 2 → ⊥) → true ≡ typeNamed g t (typeAt t p)
 unfolding typeAt

@@ -6,27 +6,27 @@ use mathlib.Core.Bool.{Bool, true, false}
 use mathlib.Core.Option.{Option, none, some}
 use borrow.Author.Tests.{le-leb, lt-leb}
 use Rattle.rules.specs.Faults.{both, every, tree, at}
-use Rattle.rules.specs.Records.{kindOf, fieldB, fieldC, fieldD, heads}
-use Rattle.rules.specs.Value.{children, valuesBelow}
-use Rattle.rules.specs.Templates.{formOf, nodes, nodesOf, nodesBelow, first, second}
+use Rattle.rules.specs.Records.{fieldB, fieldC, fieldD, heads}
+use Rattle.rules.specs.Value.{valueSize, valuesBelow}
+use Rattle.rules.specs.Templates.{formOf, nodes, nodesOf, nodesBelow, first, second, arms}
 use Rattle.rules.specs.Limits.{Looped, looped, loopsBelow, loopedBelow, fewLoops}
 use Rattle.rules.specs.Names.{formNamed, nodeNamed}
 use Rattle.rules.specs.declared.Form.{Form}
-use Rattle.rules.specs.declared.Form.the-variants.{If, For}
+use Rattle.rules.specs.declared.Form.the-variants.{If, For, Match}
 use Rattle.laws.specs.Faults.{tree-right, tree-wrong, tree-deep, at-both}
 use Rattle.laws.specs.Rows.{every-none}
 use Rattle.limits.specs.Rows.{valuesWithin, nodeWithin, nodesWithin, nodesNamed}
 use Rattle.limits.proofs.FormLaws.{Among, several, bare, many-nodes, no-nodes}
 
--- a value: a text or a yes/no has nothing below it, a list or a record its children
-module _ (v : List ℕ) (left w : ℕ) (more : 0 < left) (kind : ℕ) (hk : kind ≡ kindOf v w) where
-  pub value-leaf : kind < 3 → tree (λ x. true) (valuesBelow v) left w ≡ none
-  unfolding valuesBelow every
-  value-leaf l = tree-right _ _ left w more refl ∙ rw (← hk, lt-leb 3 kind l)
+-- a value: all depends on the row of values below it, or none is below it
+module _ (v : List ℕ) (left w : ℕ) (more : 0 < left) (count : ℕ) (hr : heads (valueSize v) count (w + 1) ≡ valuesBelow v w) where
+  pub value-below : tree (λ x. true) (valuesBelow v) left w ≡ valuesWithin v (left - 1) count (w + 1)
+  unfolding valuesWithin
+  value-below = tree-right _ _ left w more refl ∙ rw hr
 
-  pub value-below : 3 ≤ kind → (d : ℕ) → d ≡ fieldD v w → tree (λ x. true) (valuesBelow v) left w ≡ valuesWithin v (left - 1) d (w + 1)
-  unfolding valuesBelow valuesWithin children
-  value-below l d hd = tree-right _ _ left w more refl ∙ rw (← hk, le-leb 3 kind l, hd)
+  pub value-leaf : count ≡ 0 → tree (λ x. true) (valuesBelow v) left w ≡ none
+  unfolding valuesWithin
+  value-leaf e = value-below ∙ sym (every-none _ _ count (w + 1) e)
 
 -- the nodes below a node are a row, by its form
 module _ (t : List ℕ) (p : ℕ) (form : Form) (hf : form ≡ formOf t p) where
@@ -41,6 +41,10 @@ module _ (t : List ℕ) (p : ℕ) (form : Form) (hf : form ≡ formOf t p) where
   pub below-for : form ≡ For → heads (fieldC t) 1 (p + 2) ≡ nodesBelow t p
   unfolding nodesBelow nodesOf first heads
   below-for e = rw (← hf, e)
+
+  pub below-match : form ≡ Match → (d : ℕ) → d ≡ fieldD t p → heads (fieldC t) d (p + 2) ≡ nodesBelow t p
+  unfolding nodesBelow nodesOf arms first
+  below-match e d hd = rw (← hf, e, hd)
 
   pub below-none : Among bare form → heads (fieldC t) 0 (p + 1) ≡ nodesBelow t p
   unfolding nodesBelow heads

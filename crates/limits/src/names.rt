@@ -98,7 +98,13 @@ fn is_named(node: Node, productions: usize, templates: usize) -> bool
     match form {
         Form::Build => node.names < productions,
         Form::Expand => node.names < templates,
-        Form::Literal | Form::Place | Form::If | Form::For | Form::Sequence | Form::Unknown => true,
+        Form::Literal
+        | Form::Place
+        | Form::If
+        | Form::For
+        | Form::Sequence
+        | Form::Match
+        | Form::Unknown => true,
     }
 }
 

@@ -19,7 +19,8 @@ pub(crate) struct Node {
     pub below: Nodes,
 }
 
-// The d nodes of a build or a sequence follow the head; behind a path come the two of an if and the one of a for. Other forms have none.
+// The d nodes of a build or a sequence follow the head; behind a path come the two of an if, the one of a for and the d arms of a match. Other
+// forms have none.
 fn nodes_below(t: &[u8], p: usize, head: Record, form: Form) -> Nodes
     requires { ⌜ HeadIs (now t) p head form ⌝ }
     ensures { λ r. ⌜ NodesBelow (now (t .entry)) p r ⌝ }
@@ -36,6 +37,10 @@ fn nodes_below(t: &[u8], p: usize, head: Record, form: Form) -> Nodes
         Form::For => Nodes {
             first: p + 2,
             count: 1,
+        },
+        Form::Match => Nodes {
+            first: p + 2,
+            count: head.d as usize,
         },
         Form::Literal | Form::Place | Form::Expand | Form::Unknown => Nodes {
             first: p + 1,

@@ -19,13 +19,13 @@ const PARAMETERS: u8 = 8;
 // So many loops may stand around a node.
 const LOOPS: usize = 16;
 
-// The loops around the nodes below a node.
+// The loops around the nodes below a node: an arm counts as one.
 fn loops_inside(form: Form, loops: usize) -> usize
     requires { ⌜ loops < 17 ⌝ }
     ensures { λ r. ⌜ r ≡ loopsBelow form loops ⌝ }
 {
     match form {
-        Form::For => loops + 1,
+        Form::For | Form::Match => loops + 1,
         Form::Build
         | Form::Literal
         | Form::Place

@@ -6,6 +6,7 @@ ghost use Rattle.rules.specs.Limits.{valueLimits};
 ghost use Rattle.stream.specs.Fault.{faultOf};
 ghost use Rattle.limits.specs.Rows.{ValueRow, valuesWithin};
 use crate::DEEPEST;
+use records::value::count_below;
 use records::value::size_of;
 use stream::Fault;
 use stream::record::Place;
@@ -33,9 +34,11 @@ fn values_within(v: &[u8], first: usize, from: Place, count: usize, left: usize)
         let after = at + size;
         let next = forward(place, size);
         let turn = i + 1;
-        if 3 <= head.kind {
+        let below = count_below(head);
+        // Most values have none below them, and cost no call.
+        if below != 0 {
             let inside = forward(place, 1);
-            let fault = values_within(v, at + 1, inside, head.d as usize, left - 1);
+            let fault = values_within(v, at + 1, inside, below, left - 1);
             if let Fault::At(p) = fault {
                 return Fault::At(p);
             }

@@ -23,6 +23,7 @@ pub fn form_of(head: Record) -> Form
         4 => Form::If,
         5 => Form::For,
         6 => Form::Sequence,
+        7 => Form::Match,
         _ => Form::Unknown,
     }
 }

@@ -10,7 +10,7 @@ use Rattle.rules.specs.Records.{recordCount, byteOf, kindOf, fieldA, fie
 use Rattle.rules.specs.Grammar.{isClass, productionNumber, textLength}
 use Rattle.rules.specs.Templates.{formOf}
 use Rattle.rules.specs.declared.Form.{Form}
-use Rattle.rules.specs.declared.Form.the-variants.{Build, Literal, Place, Expand, If, For, Sequence, Unknown}
+use Rattle.rules.specs.declared.Form.the-variants.{Build, Literal, Place, Expand, If, For, Sequence, Match, Unknown}
 
 -- one thing and then what follows it; n things in a row; things numbered from n on, as long as one of their sort comes, at most k
 unfoldable pub thenRead : Option ℕ → (ℕ → Option ℕ) → Option ℕ
@@ -66,13 +66,19 @@ unfoldable pub namingEnd : List ℕ → ℕ → ℕ → Option ℕ
 namingEnd t kind p =
     onlyIf (eqb (kindOf t p) kind && (eqb (fieldA t p) 0 && (eqb (fieldC t p) 0 && eqb (fieldD t p) 0))) (p + 1)
 
--- "1 type ..: a = 0 text of class b, 1 yes/no, 2 list of type b, 3 record of d fields"
+-- the head of a record or a variant, and d fields
+unfoldable pub fieldsEnd : List ℕ → ℕ → Option ℕ
+fieldsEnd t p = thenRead (onlyIf (eqb (fieldB t p) 0 && eqb (fieldC t p) 0) (p + 1)) (inRow (namingEnd t 2) (fieldD t p))
+
+-- "1 type ..: a = 0 text of class b, 1 yes/no, 2 list of type b, 3 record of d fields"; 02 g: "Type form 4 is a variant with d cases (1 to 256, else 3),
+-- one field record each"
 unfoldable pub typeFormEnd : List ℕ → ℕ → ℕ → Option ℕ
 typeFormEnd t zero p = onlyIf (eqb (fieldC t p) 0 && eqb (fieldD t p) 0) (p + 1)
 typeFormEnd t (suc zero) p = onlyIf (eqb (fieldB t p) 0 && (eqb (fieldC t p) 0 && eqb (fieldD t p) 0)) (p + 1)
 typeFormEnd t (suc (suc zero)) p = onlyIf (eqb (fieldC t p) 0 && eqb (fieldD t p) 0) (p + 1)
-typeFormEnd t (suc (suc (suc zero))) p = thenRead (onlyIf (eqb (fieldB t p) 0 && eqb (fieldC t p) 0) (p + 1)) (inRow (namingEnd t 2) (fieldD t p))
-typeFormEnd t (suc (suc (suc (suc a)))) p = none
+typeFormEnd t (suc (suc (suc zero))) p = fieldsEnd t p
+typeFormEnd t (suc (suc (suc (suc zero)))) p = thenRead (onlyIf (leb 1 (fieldD t p) && leb (fieldD t p) 256) p) (fieldsEnd t)
+typeFormEnd t (suc (suc (suc (suc (suc a))))) p = none
 
 unfoldable pub typeEnd : List ℕ → ℕ → Option ℕ
 typeEnd t p = typeFormEnd t (fieldA t p) p
@@ -83,7 +89,7 @@ pathEnd t p =
     onlyIf (eqb (kindOf t p) 6 && (leb (byteOf t p 2) 5 && zeros (drop (3 + byteOf t p 2) (recordsFrom t 1 p)))) (p + 1)
 
 -- "0 build (b production, d children ..); 1 literal (b text bytes); 2 place (a path); 3 expand (b template, d paths); 4 if (path, two nodes);
--- 5 for (path, one node); 6 sequence (d nodes)": what stands below a node's head; `node` reads a node
+-- 5 for (path, one node); 6 sequence (d nodes)"; 02 g: "7 is match: a path, then d nodes": what stands below a node's head; `node` reads a node
 unfoldable pub formEnd : List ℕ → Form → (ℕ → Option ℕ) → ℕ → Option ℕ
 formEnd t Build node p = inRow node (fieldD t p) (p + 1)
 formEnd t Literal node p = thenRead (onlyIf (eqb (fieldD t p) 0) p) (textEnd t (fieldB t p))
@@ -92,6 +98,7 @@ formEnd t Expand node p = inRow (pathEnd t) (fieldD t p) (p + 1)
 formEnd t If node p = thenRead (onlyIf (eqb (fieldB t p) 0 && eqb (fieldD t p) 0) (p + 1)) (λ q. thenRead (pathEnd t q) (inRow node 2))
 formEnd t For node p = thenRead (onlyIf (eqb (fieldB t p) 0 && eqb (fieldD t p) 0) (p + 1)) (λ q. thenRead (pathEnd t q) (inRow node 1))
 formEnd t Sequence node p = thenRead (onlyIf (eqb (fieldB t p) 0) (p + 1)) (inRow node (fieldD t p))
+formEnd t Match node p = thenRead (onlyIf (eqb (fieldB t p) 0) (p + 1)) (λ q. thenRead (pathEnd t q) (inRow node (fieldD t p)))
 formEnd t Unknown node p = none
 
 -- "c size": it is the number of records of the thing, head and all below it
@@ -116,9 +123,13 @@ templatesEnd t =
     (whileIs (ofKind t 3) (λ n. templateEnd t) (recordCount t) 0)
 
 -- Value. "1 text: b bytes, c size. 2 yes/no: a 0 or 1. 3 list and 4 record: c size, d children."
+-- 02 g: "Value record 5 is a case: a its number from 0, c size, one child"; b and d are unused.
 -- By its kind; `value` reads a value below.
 unfoldable pub childrenEnd : List ℕ → (ℕ → Option ℕ) → ℕ → Option ℕ
 childrenEnd v value p = thenRead (onlyIf (eqb (fieldA v p) 0 && eqb (fieldB v p) 0) p) (λ p. sized v p (inRow value (fieldD v p) (p + 1)))
+
+unfoldable pub caseEnd : List ℕ → (ℕ → Option ℕ) → ℕ → Option ℕ
+caseEnd v value p = thenRead (onlyIf (eqb (fieldB v p) 0 && eqb (fieldD v p) 0) p) (λ p. sized v p (inRow value 1 (p + 1)))
 
 unfoldable pub kindEnd : List ℕ → ℕ → (ℕ → Option ℕ) → ℕ → Option ℕ
 kindEnd v zero value p = none
@@ -127,7 +138,8 @@ kindEnd v (suc (suc zero)) value p =
     onlyIf (leb (fieldA v p) 1 && (eqb (fieldB v p) 0 && (eqb (fieldC v p) 0 && eqb (fieldD v p) 0))) (p + 1)
 kindEnd v (suc (suc (suc zero))) value p = childrenEnd v value p
 kindEnd v (suc (suc (suc (suc zero)))) value p = childrenEnd v value p
-kindEnd v (suc (suc (suc (suc (suc kind))))) value p = none
+kindEnd v (suc (suc (suc (suc (suc zero))))) value p = caseEnd v value p
+kindEnd v (suc (suc (suc (suc (suc (suc kind)))))) value p = none
 
 unfoldable pub valueEnd : List ℕ → ℕ → ℕ → Option ℕ
 valueEnd v zero p = none

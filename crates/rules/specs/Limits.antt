@@ -9,7 +9,7 @@ use Rattle.rules.specs.Records.{fieldA}
 use Rattle.rules.specs.Templates.{templates, body, formOf, nodesBelow}
 use Rattle.rules.specs.Value.{valuesBelow}
 use Rattle.rules.specs.declared.Form.{Form}
-use Rattle.rules.specs.declared.Form.the-variants.{Build, Literal, Place, Expand, If, For, Sequence, Unknown}
+use Rattle.rules.specs.declared.Form.the-variants.{Build, Literal, Place, Expand, If, For, Sequence, Match, Unknown}
 
 -- the machine nests 200 levels deep
 unfoldable pub deepest : ℕ
@@ -23,6 +23,7 @@ pub record Looped : Type 0 where
 unfoldable pub looped : ℕ → ℕ → Looped
 looped loops p = record { node = p; loops = loops }
 
+-- 02 g: "An arm counts as a loop toward the limit of 16."
 unfoldable pub loopsBelow : Form → ℕ → ℕ
 loopsBelow Build n = n
 loopsBelow Literal n = n
@@ -31,6 +32,7 @@ loopsBelow Expand n = n
 loopsBelow If n = n
 loopsBelow For n = suc n
 loopsBelow Sequence n = n
+loopsBelow Match n = suc n
 loopsBelow Unknown n = n
 
 unfoldable pub loopedBelow : List ℕ → Looped → List Looped

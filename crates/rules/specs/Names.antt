@@ -8,10 +8,10 @@ use lib.Dec.{ltb}
 use Rattle.rules.specs.Faults.{need, both, every, tree, exists}
 use Rattle.rules.specs.Records.{fieldB, ofKind, numbered}
 use Rattle.rules.specs.Grammar.{classes, class, plainClass, production, productions, Element, keyword, lexeme, nonterminal, repetition, unknown, elementAt, elementHeads, nonterminalExists}
-use Rattle.rules.specs.Templates.{TypeForm, text, yes-no, list, fields, no-type, type, types, typeAt, fieldHeads, template, templates, parameterHeads, body, formOf, nodesBelow}
+use Rattle.rules.specs.Templates.{TypeForm, text, yes-no, list, fields, cases, no-type, type, types, typeAt, fieldHeads, template, templates, parameterHeads, body, formOf, nodesBelow}
 use Rattle.rules.specs.Limits.{deepest}
 use Rattle.rules.specs.declared.Form.{Form}
-use Rattle.rules.specs.declared.Form.the-variants.{Build, Literal, Place, Expand, If, For, Sequence, Unknown}
+use Rattle.rules.specs.declared.Form.the-variants.{Build, Literal, Place, Expand, If, For, Sequence, Match, Unknown}
 
 -- an element names a class or a nonterminal
 unfoldable pub elementNamed : List ℕ → Element → Bool
@@ -31,12 +31,13 @@ grammarNames g =
     both (every (λ c. need (classNamed g c) (c .1)) (numbered 0 (classes g)))
     (every (λ p. every (λ e. need (elementNamed g (elementAt g e)) e) (elementHeads g p)) (productions g))
 
--- a text type names a plain class, a list type a type; type n, a record, names earlier types in its fields
+-- a text type names a plain class, a list type a type; type n, a record, names earlier types in its fields; 02 g, of a variant: "every case an earlier type"
 unfoldable pub typeNamed : List ℕ → List ℕ → TypeForm → Bool
 typeNamed g t (text c) = exists (plainClass g c)
 typeNamed g t yes-no = true
 typeNamed g t (list n) = exists (type t n)
 typeNamed g t (fields ns) = true
+typeNamed g t (cases ns) = true
 typeNamed g t no-type = true
 
 unfoldable pub typeNames : List ℕ → List ℕ → ℕ × ℕ → Option ℕ
@@ -52,6 +53,7 @@ formNamed g t Expand n = exists (template t n)
 formNamed g t If n = true
 formNamed g t For n = true
 formNamed g t Sequence n = true
+formNamed g t Match n = true
 formNamed g t Unknown n = true
 
 unfoldable pub nodeNamed : List ℕ → List ℕ → ℕ → Bool

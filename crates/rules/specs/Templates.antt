@@ -8,7 +8,7 @@ use lib.Dec.{eqb}
 use Rattle.rules.specs.Faults.{onFound}
 use Rattle.rules.specs.Records.{recordCount, recordsFrom, byteOf, kindOf, fieldA, fieldB, fieldC, fieldD, heads, row, things, those, ofKind, nth}
 use Rattle.rules.specs.declared.Form.{Form}
-use Rattle.rules.specs.declared.Form.the-variants.{Build, Literal, Place, Expand, If, For, Sequence, Unknown}
+use Rattle.rules.specs.declared.Form.the-variants.{Build, Literal, Place, Expand, If, For, Sequence, Match, Unknown}
 
 -- the records of a type (its fields follow it) and of a template ("c size")
 unfoldable pub templatesSize : List ℕ → ℕ → ℕ
@@ -30,12 +30,14 @@ type t n = nth (types t) n
 unfoldable pub template : List ℕ → ℕ → Option ℕ
 template t n = nth (templates t) n
 
--- "1 type (numbered by order from 0): a = 0 text of class b, 1 yes/no, 2 list of type b, 3 record of d fields. 2 field: type b .."
+-- "1 type (numbered by order from 0): a = 0 text of class b, 1 yes/no, 2 list of type b, 3 record of d fields. 2 field: type b .."; 02 g: "Type form 4
+-- is a variant with d cases .., one field record each"
 pub data TypeForm : Type 0 where
   text : ℕ → TypeForm
   yes-no : TypeForm
   list : ℕ → TypeForm
   fields : List ℕ → TypeForm
+  cases : List ℕ → TypeForm
   no-type : TypeForm
 
 unfoldable pub fieldHeads : List ℕ → ℕ → List ℕ
@@ -46,7 +48,8 @@ typeNumbered t zero p = text (fieldB t p)
 typeNumbered t (suc zero) p = yes-no
 typeNumbered t (suc (suc zero)) p = list (fieldB t p)
 typeNumbered t (suc (suc (suc zero))) p = fields (map (fieldB t) (fieldHeads t p))
-typeNumbered t (suc (suc (suc (suc a)))) p = no-type
+typeNumbered t (suc (suc (suc (suc zero)))) p = cases (map (fieldB t) (fieldHeads t p))
+typeNumbered t (suc (suc (suc (suc (suc a))))) p = no-type
 
 unfoldable pub typeAt : List ℕ → ℕ → TypeForm
 typeAt t p = typeNumbered t (fieldA t p) p
@@ -65,7 +68,7 @@ parameters t p = map (fieldB t) (parameterHeads t p)
 unfoldable pub body : List ℕ → ℕ → ℕ
 body t p = p + 1 + fieldA t p
 
--- "Node forms: 0 build ..; 1 literal ..; 2 place ..; 3 expand ..; 4 if ..; 5 for ..; 6 sequence .."
+-- "Node forms: 0 build ..; 1 literal ..; 2 place ..; 3 expand ..; 4 if ..; 5 for ..; 6 sequence .."; 02 g: "Node form 7 is match"
 unfoldable pub formNumbered : ℕ → Form
 formNumbered zero = Build
 formNumbered (suc zero) = Literal
@@ -74,7 +77,8 @@ formNumbered (suc (suc (suc zero))) = Expand
 formNumbered (suc (suc (suc (suc zero)))) = If
 formNumbered (suc (suc (suc (suc (suc zero))))) = For
 formNumbered (suc (suc (suc (suc (suc (suc zero)))))) = Sequence
-formNumbered (suc (suc (suc (suc (suc (suc (suc n))))))) = Unknown
+formNumbered (suc (suc (suc (suc (suc (suc (suc zero))))))) = Match
+formNumbered (suc (suc (suc (suc (suc (suc (suc (suc n)))))))) = Unknown
 
 unfoldable pub formOf : List ℕ → ℕ → Form
 formOf t p = formNumbered (fieldA t p)
@@ -87,6 +91,7 @@ isFor Expand = false
 isFor If = false
 isFor For = true
 isFor Sequence = false
+isFor Match = false
 isFor Unknown = false
 
 -- the d nodes of a build or a sequence; the d paths of an expand
@@ -96,7 +101,7 @@ nodes t p = heads (fieldC t) (fieldD t p) (p + 1)
 unfoldable pub paths : List ℕ → ℕ → List ℕ
 paths t p = row (fieldD t p) (p + 1)
 
--- a place, an if and a for have a path; then come the two nodes of an if, the one of a for
+-- a place, an if, a for and a match have a path; then come the two nodes of an if, the one of a for, the d arms of a match
 unfoldable pub path : ℕ → ℕ
 path p = p + 1
 
@@ -105,6 +110,10 @@ first p = p + 2
 
 unfoldable pub second : List ℕ → ℕ → ℕ
 second t p = first p + fieldC t (first p)
+
+-- 02 g: "a path, then d nodes, one for each case in order"
+unfoldable pub arms : List ℕ → ℕ → List ℕ
+arms t p = heads (fieldC t) (fieldD t p) (first p)
 
 -- the nodes directly below a node
 unfoldable pub nodesOf : List ℕ → Form → ℕ → List ℕ
@@ -115,6 +124,7 @@ nodesOf t Expand p = []
 nodesOf t If p = first p ∷ second t p ∷ []
 nodesOf t For p = first p ∷ []
 nodesOf t Sequence p = nodes t p
+nodesOf t Match p = arms t p
 nodesOf t Unknown p = []
 
 unfoldable pub nodesBelow : List ℕ → ℕ → List ℕ

@@ -1,5 +1,5 @@
 -- Typing, section "Typing", refusals 7 and 8. A node suits its position by a test of its own; what stands below it has a position and variables of its own.
-use Prim.Native.Nat.{ℕ, _+_}
+use Prim.Native.Nat.{ℕ}
 use mathlib.Core.List.{List, [], _∷_, _++_, map}
 use mathlib.Core.Bool.{Bool, true, false, _&&_}
 use mathlib.Core.Option.{Option, none, some}
@@ -9,11 +9,11 @@ use Rattle.rules.specs.Faults.{need, both, every, tree, onFound, exists,
 use Rattle.rules.specs.Records.{fieldB, fieldD, textOf, nth}
 use Rattle.rules.specs.Lexeme.{isPlainLexeme, isLexeme}
 use Rattle.rules.specs.Grammar.{plainOf, production, Element, keyword, lexeme, nonterminal, repetition, unknown, elements}
-use Rattle.rules.specs.Templates.{TypeForm, text, yes-no, list, fields, no-type, typeOf, template, templates, parameters, body, formOf, nodes, paths, path, first, second, variable, fieldNumbers}
-use Rattle.rules.specs.Value.{asText, asYesNo, asList, asRecord}
+use Rattle.rules.specs.Templates.{TypeForm, text, yes-no, list, fields, cases, no-type, typeOf, template, templates, parameters, body, formOf, nodes, paths, path, first, second, arms, variable, fieldNumbers}
+use Rattle.rules.specs.Value.{asText, asYesNo, asList, asRecord, asCase}
 use Rattle.rules.specs.Limits.{deepest}
 use Rattle.rules.specs.declared.Form.{Form}
-use Rattle.rules.specs.declared.Form.the-variants.{Build, Literal, Place, Expand, If, For, Sequence, Unknown}
+use Rattle.rules.specs.declared.Form.the-variants.{Build, Literal, Place, Expand, If, For, Sequence, Match, Unknown}
 use Rattle.rules.specs.declared.Position.{Position}
 use Rattle.rules.specs.declared.Position.the-variants.{Class, Nonterminal, Repetition, Item, Nothing}
 
@@ -55,12 +55,13 @@ positions (nonterminal n ∷ es) = Nonterminal n ∷ positions es
 positions (repetition n x ∷ es) = Repetition n ∷ positions es
 positions (unknown ∷ es) = Nothing ∷ positions es
 
--- a type's class if it is a text, its item type if a list, its fields' types if a record
+-- a type's class if it is a text, its item type if a list, its fields' types if a record, its cases' types if a variant
 unfoldable pub textClass : TypeForm → Option ℕ
 textClass (text c) = some c
 textClass yes-no = none
 textClass (list n) = none
 textClass (fields ns) = none
+textClass (cases ns) = none
 textClass no-type = none
 
 unfoldable pub isYesNo : TypeForm → Bool
@@ -68,6 +69,7 @@ isYesNo (text c) = false
 isYesNo yes-no = true
 isYesNo (list n) = false
 isYesNo (fields ns) = false
+isYesNo (cases ns) = false
 isYesNo no-type = false
 
 unfoldable pub itemType : TypeForm → Option ℕ
@@ -75,6 +77,7 @@ itemType (text c) = none
 itemType yes-no = none
 itemType (list n) = some n
 itemType (fields ns) = none
+itemType (cases ns) = none
 itemType no-type = none
 
 unfoldable pub fieldTypes : TypeForm → Option (List ℕ)
@@ -82,7 +85,16 @@ fieldTypes (text c) = none
 fieldTypes yes-no = none
 fieldTypes (list n) = none
 fieldTypes (fields ns) = some ns
+fieldTypes (cases ns) = none
 fieldTypes no-type = none
+
+unfoldable pub caseTypes : TypeForm → Option (List ℕ)
+caseTypes (text c) = none
+caseTypes yes-no = none
+caseTypes (list n) = none
+caseTypes (fields ns) = none
+caseTypes (cases ns) = some ns
+caseTypes no-type = none
 
 -- the type that a path finds: "the variable, then field by field"
 unfoldable pub typeAlong : List ℕ → List ℕ → ℕ → Option ℕ
@@ -114,6 +126,7 @@ site vars position p = record { node = p; position = position; vars = vars }
 -- of the plain class".
 -- Nonterminal: "an expand of a template with that nonterminal and argument types equal by number, or an if on yes/no ..".
 -- Repetition: "a sequence, whose items are nodes in the position of its nonterminal or a for over a list ..".
+-- 02 g: "A match stands where an if may stand", and has "d nodes, one for each case"; "A missing or extra arm fails typing."
 unfoldable pub suitsForm : List ℕ → List ℕ → Form → Site → Bool
 suitsForm g t Build x =
     onFound (asksNonterminal (x .position)) false λ n.
@@ -137,6 +150,11 @@ suitsForm g t For x =
     onFound (pathType t (x .vars) (path (x .node))) false λ ty.
     exists (itemType (typeOf t ty))
 suitsForm g t Sequence x = exists (asksRepetition (x .position))
+suitsForm g t Match x =
+    onFound (asksNonterminal (x .position)) false λ n.
+    onFound (pathType t (x .vars) (path (x .node))) false λ ty.
+    onFound (caseTypes (typeOf t ty)) false λ tys.
+    eqb (length tys) (fieldD t (x .node))
 suitsForm g t Unknown x = false
 
 unfoldable pub suits : List ℕ → List ℕ → Site → Bool
@@ -148,8 +166,14 @@ sites vars [] ps = []
 sites vars (a ∷ as′) [] = []
 sites vars (a ∷ as′) (p ∷ ps) = site vars a p ∷ sites vars as′ ps
 
+-- 02 g: "one for each case in order, each seeing one more variable, the case's content"
+unfoldable pub armSites : List ℕ → Position → List ℕ → List ℕ → List Site
+armSites vars position [] ps = []
+armSites vars position (ty ∷ tys) [] = []
+armSites vars position (ty ∷ tys) (p ∷ ps) = site (vars ++ ty ∷ []) position p ∷ armSites vars position tys ps
+
 -- What stands below a node, by its form: a child in the position of its element; an if's "both branches in the same position"; a for's body,
--- "one such node", with "the loops from outside in"; a sequence's items
+-- "one such node", with "the loops from outside in"; a sequence's items; a match's arms
 unfoldable pub sitesOf : List ℕ → List ℕ → Form → Site → List Site
 sitesOf g t Build x = onFound (production g (fieldB t (x .node))) [] λ q. sites (x .vars) (positions (elements g q)) (nodes t (x .node))
 sitesOf g t Literal x = []
@@ -164,6 +188,11 @@ sitesOf g t For x =
     onFound (itemType (typeOf t ty)) [] λ item.
     site (x .vars ++ item ∷ []) (Nonterminal n) (first (x .node)) ∷ []
 sitesOf g t Sequence x = onFound (asksRepetition (x .position)) [] λ n. map (site (x .vars) (Item n)) (nodes t (x .node))
+sitesOf g t Match x =
+    onFound (asksNonterminal (x .position)) [] λ n.
+    onFound (pathType t (x .vars) (path (x .node))) [] λ ty.
+    onFound (caseTypes (typeOf t ty)) [] λ tys.
+    armSites (x .vars) (Nonterminal n) tys (arms t (x .node))
 sitesOf g t Unknown x = []
 
 unfoldable pub sitesBelow : List ℕ → List ℕ → Site → List Site
@@ -201,17 +230,19 @@ unfoldable pub typed : ℕ → ℕ → Typed
 typed ty w = record { value = w; type = ty }
 
 -- "of type text if it is a 1 whose text is a lexeme of the class; of yes/no if a 2; of a list if a 3 ..; of a record if a 4 with one child for each field"
+-- 02 g: a case "is of the variant if there is such a case .."
 unfoldable pub hasForm : List ℕ → List ℕ → TypeForm → ℕ → Bool
 hasForm g v (text c) w = onFound (asText v w) false (isPlainLexeme g c)
 hasForm g v yes-no w = exists (asYesNo v w)
 hasForm g v (list ty) w = exists (asList v w)
 hasForm g v (fields tys) w = onFound (asRecord v w) false (λ ws. eqb (length ws) (length tys))
+hasForm g v (cases tys) w = onFound (asCase v w) false (λ c. exists (nth tys (c .number)))
 hasForm g v no-type w = false
 
 unfoldable pub hasType : List ℕ → List ℕ → List ℕ → Typed → Bool
 hasType g t v x = hasForm g v (typeOf t (x .type)) (x .value)
 
--- "whose children are all of its item type"; "in order, of that field's type"
+-- "whose children are all of its item type"; "in order, of that field's type"; 02 g: "and the child is of that case's type"
 unfoldable pub paired : List ℕ → List ℕ → List Typed
 paired [] ws = []
 paired (ty ∷ tys) [] = []
@@ -222,6 +253,7 @@ typedOf v (text c) w = []
 typedOf v yes-no w = []
 typedOf v (list ty) w = onFound (asList v w) [] (map (typed ty))
 typedOf v (fields tys) w = onFound (asRecord v w) [] (paired tys)
+typedOf v (cases tys) w = onFound (asCase v w) [] λ c. onFound (nth tys (c .number)) [] λ ty. typed ty (c .inside) ∷ []
 typedOf v no-type w = []
 
 unfoldable pub typedBelow : List ℕ → List ℕ → Typed → List Typed

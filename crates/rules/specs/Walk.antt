@@ -9,11 +9,11 @@ use Rattle.rules.specs.Faults.{onFound, exists}
 use Rattle.rules.specs.Records.{fieldB, textOf, nth}
 use Rattle.rules.specs.Grammar.{escapedClass, production, Element, keyword, lexeme, nonterminal, repetition, unknown, elements}
 use Rattle.rules.specs.Escape.{escape}
-use Rattle.rules.specs.Templates.{template, body, formOf, isFor, nodes, paths, path, first, second, variable, fieldNumbers}
-use Rattle.rules.specs.Value.{asText, asYesNo, asList, asRecord}
+use Rattle.rules.specs.Templates.{template, body, formOf, isFor, nodes, paths, path, first, second, arms, variable, fieldNumbers}
+use Rattle.rules.specs.Value.{asText, asYesNo, asList, asRecord, asCase}
 use Rattle.rules.specs.Limits.{deepest}
 use Rattle.rules.specs.declared.Form.{Form}
-use Rattle.rules.specs.declared.Form.the-variants.{Build, Literal, Place, Expand, If, For, Sequence, Unknown}
+use Rattle.rules.specs.declared.Form.the-variants.{Build, Literal, Place, Expand, If, For, Sequence, Match, Unknown}
 
 -- "The walk is fed the grammar, the templates, the value, the fuel and the output's length"
 pub record Input : Type 0 where
@@ -139,6 +139,8 @@ writtenFor g (items f n) x = x
 -- "An expand enters the body with a fresh set of variables, those that its paths find."; "A body's position is its template's nonterminal".
 -- "An if visits only the branch taken, the first on yes (1)", "both branches in the same position".
 -- "A for visits its body once for each item, in order, the item being one variable more." "A sequence visits its items in order."
+-- 02 g: a match visits that of its "d nodes, one for each case in order" which is its case's, with "one more variable, the case's content"; "its step
+-- count is one plus the arm taken".
 unfoldable pub visitForm : Input → Form → (Asked → ℕ → List ℕ → State → End) → Asked → ℕ → List ℕ → State → End
 visitForm i Build visit a p env s =
     onFound (production (i .grammar) (fieldB (i .templates) p)) stuck λ q.
@@ -163,6 +165,11 @@ visitForm i For visit (items f n) p env s =
 visitForm i Sequence visit a p env s =
     onFound (filledBy p a) stuck λ f.
     inOrder (itemsOf i env) (visitIn i visit f env) 0 (nodes (i .templates) p) s
+visitForm i Match visit a p env s =
+    onFound (pathValue (i .templates) (i .value) env (path p)) stuck λ w.
+    onFound (asCase (i .value) w) stuck λ c.
+    onFound (nth (arms (i .templates) p) (c .number)) stuck λ arm.
+    visit a arm (env ++ c .inside ∷ []) s
 visitForm i Unknown visit a p env s = stuck
 
 -- "A node reached is tried for 10", and then "it isn't counted as a step"; else "A visit counts one step."

@@ -20,7 +20,7 @@ pub enum Position {
     Nothing,
 }
 
-// The forms of a template node, in the order of their numbers from 0; a number above 6 is no form.
+// The forms of a template node, in the order of their numbers from 0; a number above 7 is no form.
 pub enum Form {
     Build,
     Literal,
@@ -29,5 +29,6 @@ pub enum Form {
     If,
     For,
     Sequence,
+    Match,
     Unknown,
 }

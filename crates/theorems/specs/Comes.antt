@@ -5,12 +5,12 @@ use Prim.Native.Nat.{ℕ, suc, _+_, _≤_, _<_}
 use mathlib.Core.List.{List, [], _∷_, _++_}
 use mathlib.Core.Option.{some}
 use lib.ListN.{length}
-use Rattle.rules.specs.Records.{kindOf, fieldA, fieldB, textOf}
+use Rattle.rules.specs.Records.{kindOf, fieldA, fieldB, textOf, nth}
 use Rattle.rules.specs.Grammar.{production, Element, keyword, nonterminal, repetition, elements}
-use Rattle.rules.specs.Templates.{template, body, formOf, nodes, paths, path, first, second}
-use Rattle.rules.specs.Value.{children}
+use Rattle.rules.specs.Templates.{template, body, formOf, nodes, paths, path, first, second, arms}
+use Rattle.rules.specs.Value.{children, content}
 use Rattle.rules.specs.Walk.{Input, State, Limit, fuel-spent, too-deep, output-full, Filled, Asked, piece, items}
-use Rattle.rules.specs.declared.Form.the-variants.{Build, Literal, Place, Expand, If, For, Sequence}
+use Rattle.rules.specs.declared.Form.the-variants.{Build, Literal, Place, Expand, If, For, Sequence, Match}
 use Rattle.rules.specs.declared.Position.{Position}
 use Rattle.theorems.specs.Children.{Asks}
 use Rattle.theorems.specs.Finds.{Finds, FindsAll}
@@ -64,6 +64,8 @@ pub data Before (g t v : List ℕ) (a : Asked) (p : ℕ) (env : List ℕ) : Aske
       → (formOf t c ≡ For → ⊥) → BeforeItem x l z → Before g t v a p env (piece (nonterminal n)) c env (y ++ z) m
   a-for : (n : ℕ) (x : List ℕ) {c l m : ℕ} {y : List ℕ} → formOf t p ≡ Sequence → a ≡ piece (repetition n x) → ItemsTo g t v env n x 0 (nodes t p) c l y m
       → formOf t c ≡ For → Before g t v a p env (items (filling p n x) l) c env y m
+  an-arm : (w : ℕ) {c : ℕ} → formOf t p ≡ Match → Finds t v env (path p) w → kindOf v w ≡ 5 → nth (arms t p) (fieldA v w) ≡ some c
+      → Before g t v a p env a c (env ++ content w ∷ []) [] 0
 
 -- `Comes g t v d a p env x n`: the walk comes to the node p, d deep, with the variables env; by then it has written x and counted n nodes, p not among them
 pub data Comes (g t v : List ℕ) : ℕ → Asked → ℕ → List ℕ → List ℕ → ℕ → Type 0 where

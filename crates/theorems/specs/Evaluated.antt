@@ -7,22 +7,22 @@ use mathlib.Core.Bool.{Bool, true, false, cond}
 use mathlib.Core.Option.{some}
 use native.Mathlib.Nat.{add-zero, zero-add, add-assoc}
 use lib.ListN.{length}
-use Rattle.rules.specs.Records.{kindOf}
+use Rattle.rules.specs.Records.{kindOf, nth}
 use Rattle.rules.specs.Grammar.{Element, keyword, lexeme, nonterminal, repetition, unknown}
-use Rattle.rules.specs.Templates.{template, formOf, nodes, path, first, second}
-use Rattle.rules.specs.Value.{children, asYesNo}
+use Rattle.rules.specs.Templates.{template, formOf, nodes, path, first, second, arms}
+use Rattle.rules.specs.Value.{children, asYesNo, Case}
 use Rattle.rules.specs.Limits.{deepest}
 use Rattle.rules.specs.Walk.{Input, State, start, End, done, andThen, write, withChild, pieces, Filled, Asked, piece, items, filledBy, separate, visitItem}
 use Rattle.rules.specs.Walk.{inOrder, itemsOf, visitIn, visitForm, counted, visit, walk}
 use Rattle.rules.specs.declared.Form.{Form}
-use Rattle.rules.specs.declared.Form.the-variants.{Build, Literal, Place, Expand, If, For, Sequence, Unknown}
+use Rattle.rules.specs.declared.Form.the-variants.{Build, Literal, Place, Expand, If, For, Sequence, Match, Unknown}
 use Rattle.rules.specs.declared.Position.{Position}
 use Rattle.theorems.specs.Children.{Asks, asks-class, asks-nonterminal, asks-repetition, asks-nothing}
-use Rattle.theorems.specs.Finds.{Finds, text-is, yes-is, no-is, finds-exactly, finds-all-exactly}
+use Rattle.theorems.specs.Finds.{Finds, text-is, yes-is, no-is, finds-exactly, finds-all-exactly, case-is}
 use Rattle.theorems.specs.Places.{place-text}
 use Rattle.theorems.specs.Handed.{IsFor, a-for, no-for, is-for, filled-by, listed-is, for-visited, item-visited, one-brought, turns-brought}
 use Rattle.theorems.specs.Ends.{then-done, found-done, reached-done, write-done}
-use Rattle.theorems.specs.Evaluation.{BeforeItem, the-first, another, Evaluates, build, literal, place, expand, then, else, sequence}
+use Rattle.theorems.specs.Evaluation.{BeforeItem, the-first, another, Evaluates, build, literal, place, expand, then, else, sequence, match}
 use Rattle.theorems.specs.Evaluation.{Builds, no-element, own-bytes, next-child, Items, no-item, one-item, for, Loops, no-turn, one-turn, EvaluatesSet}
 
 -- from the state s to the state s′ the text grew by x, and the steps by n, of P
@@ -189,6 +189,14 @@ module _ (i : Input) (go : Asked → ℕ → List ℕ → State → End) (below 
   form-evaluated Sequence el p env s s′ f e =
       let (h, a, d) = found-done _ _ s′ e in
       wrote-step _ _ s s′ (items-evaluated h 0 env _ (counted s) s′ d) λ y n is. filled-evaluated h f a is
+  form-evaluated Match el p env s s′ f e =
+      let (w, a, d) = found-done _ _ s′ e in
+      let (c, b, j) = found-done _ _ s′ d in
+      let (arm, y, h) = found-done _ _ s′ j in
+      let (k, is) = case-is v w c .0 b in
+      wrote-step _ _ s s′ (below .of-piece el arm _ (counted s) s′ h) λ x n r.
+      match f (finds-exactly t v env _ w .0 a) k (ap (λ (z : Case). nth (arms t p) (z .number)) is ∙ y)
+      (subst (λ (z : Case). Evaluates g t v (env ++ z .inside ∷ []) el arm x n) (sym is) r)
   form-evaluated Unknown el p env s s′ f e = absurd (let z : _≡_ {A = ℕ} 0 1 = cc in omega arith)
 
 pub visit-evaluated : (i : Input) (k : ℕ) → ByRules i (visit i k)

@@ -18,11 +18,11 @@ use Rattle.rules.specs.Walk.{Input, State, start, fuel-spent, too-deep, output-
 use Rattle.rules.specs.Walk.{Asked, piece, filledBy, separate, visitItem, inOrder, itemsOf, visitIn, visitForm, counted, reached, visit, walk}
 use Rattle.rules.specs.declared.Form.{Form}
 use Rattle.theorems.specs.Begins.{Begins, begins-then}
-use Rattle.theorems.specs.Finds.{text-is, yes-is, no-is, path-found, paths-found}
+use Rattle.theorems.specs.Finds.{text-is, yes-is, no-is, path-found, paths-found, case-is}
 use Rattle.theorems.specs.Levels.{filling}
 use Rattle.theorems.specs.Handed.{pieces-child, is-listed, for-visited, item-visited, one-brought, turns-brought}
 use Rattle.theorems.specs.Places.{place-exactly}
-use Rattle.theorems.specs.Evaluation.{BeforeItem, the-first, another, Evaluates, build, literal, place, expand, then, else, sequence}
+use Rattle.theorems.specs.Evaluation.{BeforeItem, the-first, another, Evaluates, build, literal, place, expand, then, else, sequence, match}
 use Rattle.theorems.specs.Evaluation.{no-element, own-bytes, next-child, no-item, one-item, for, no-turn, one-turn, EvaluatesSet}
 use Rattle.theorems.specs.Evaluated.{finished-evaluated}
 
@@ -128,6 +128,8 @@ module _ (i : Input) where
         | then f w x y (b → h) ↦ λ k s. visit-gives _ _ k _ _ _ s f λ k. found-gives _ (path-found w) (found-gives _ (yes-is v _ .1 (x, y)) (h k (counted s)))
         | else f w x y (b → h) ↦ λ k s. visit-gives _ _ k _ _ _ s f λ k. found-gives _ (path-found w) (found-gives _ (no-is v _ .1 (x, y)) (h k (counted s)))
         | sequence f (b → h) ↦ λ k s. visit-gives _ _ k _ _ _ s f λ k. h k _ (counted s)
+        | match f w x y (b → h) ↦ λ k s. visit-gives _ _ k _ _ _ s f λ k.
+            found-gives _ (path-found w) (found-gives _ (case-is v _ _ .1 (x, refl)) (found-gives _ y (h k (counted s))))
         | no-element ↦ λ k p s. nothing-gives s
         | own-bytes {n} (b → h) ↦ λ k p s. rw (← zero-add n) (then-gives _ s _ _ 0 n (write-gives p _ s) (h k p))
         | next-child {es} a (b → e) (c → h) ↦ λ k p s. rw (pieces-child (write (i .room) p) _ es _ s a) (then-gives _ s _ _ _ _ (e k s) (h k p))

@@ -6,18 +6,18 @@ use native.Mathlib.Nat.{zero-add}
 use lib.ListN.{length}
 use mathlib.Core.Bool.{true, false, cond}
 use mathlib.Core.Option.{Option, some, Option·some-injective}
-use Rattle.rules.specs.Records.{kindOf, fieldB, textOf}
+use Rattle.rules.specs.Records.{kindOf, fieldB, textOf, nth}
 use Rattle.rules.specs.Grammar.{production, elements, Element, keyword, nonterminal, repetition}
-use Rattle.rules.specs.Templates.{template, body, formOf, nodes, paths, path, first, second}
-use Rattle.rules.specs.Value.{children, asText, asYesNo}
+use Rattle.rules.specs.Templates.{template, body, formOf, nodes, paths, path, first, second, arms}
+use Rattle.rules.specs.Value.{children, asText, asYesNo, asCase}
 use Rattle.rules.specs.Walk.{pathValue, pathValues}
 use Rattle.rules.specs.declared.Form.{Form}
-use Rattle.rules.specs.declared.Form.the-variants.{Build, Literal, Place, Expand, If, For, Sequence, Unknown}
+use Rattle.rules.specs.declared.Form.the-variants.{Build, Literal, Place, Expand, If, For, Sequence, Match, Unknown}
 use Rattle.rules.specs.declared.Position.{Position}
 use Rattle.theorems.specs.Children.{Asks}
-use Rattle.theorems.specs.Finds.{Finds, text-is, yes-is, no-is, path-found, paths-found}
+use Rattle.theorems.specs.Finds.{Finds, text-is, yes-is, no-is, path-found, paths-found, case-is}
 use Rattle.theorems.specs.Places.{PlaceWrites, place-one}
-use Rattle.theorems.specs.Evaluation.{BeforeItem, the-first, another, Evaluates, build, literal, place, expand, then, else, sequence, Builds, no-element, own-bytes, next-child}
+use Rattle.theorems.specs.Evaluation.{BeforeItem, the-first, another, Evaluates, build, literal, place, expand, then, else, sequence, Builds, no-element, own-bytes, next-child, match}
 use Rattle.theorems.specs.Evaluation.{Items, no-item, one-item, for, Loops, no-turn, one-turn, EvaluatesSet}
 
 -- something is found, and P holds of it
@@ -64,6 +64,8 @@ module _ (g t v : List ℕ) where
   Rule If env e p x n = Found (pathValue t v env (path p)) λ w. Found (asYesNo v w) λ y. Evaluates g t v env e (cond y (first p) (second t p)) x n
   Rule For env e p x n = ⊥
   Rule Sequence env e p x n = (m : ℕ) × (between : List ℕ) × (e ≡ repetition m between) × Items g t v env m between 0 (nodes t p) x n
+  Rule Match env e p x n =
+      Found (pathValue t v env (path p)) λ w. Found (asCase v w) λ c. Found (nth (arms t p) (c .number)) λ arm. Evaluates g t v (env ++ c .inside ∷ []) e arm x n
   Rule Unknown env e p x n = ⊥
 
   ruled : {env : List ℕ} {e : Element} {p n : ℕ} {x : List ℕ} → Evaluates g t v env e p x n → Stepped (Rule (formOf t p) env e p) x n
@@ -74,6 +76,7 @@ module _ (g t v : List ℕ) where
   ruled (then f w k y b) = (_, refl, rw f (_, path-found w, (true, yes-is v _ .1 (k, y), b)))
   ruled (else f w k y b) = (_, refl, rw f (_, path-found w, (false, no-is v _ .1 (k, y), b)))
   ruled (sequence f b) = (_, refl, rw f (_, _, refl, b))
+  ruled (match f w k a b) = (_, refl, rw f (_, path-found w, (_, case-is v _ _ .1 (k, refl), (_, a, b))))
 
   -- so a node has no other text than the rule for its form gives
   by-form : {env : List ℕ} {e : Element} {p n : ℕ} {x : List ℕ} (f : Form) → formOf t p ≡ f → Only (Rule f env e p) x n → Only (Evaluates g t v env e p) x (suc n)
@@ -141,6 +144,8 @@ module _ (g t v : List ℕ) where
         | then f w k z (b → h) ↦ by-form If f λ y m r. h y m (found-one _ (yes-is v _ .1 (k, z)) (found-one _ (path-found w) r))
         | else f w k z (b → h) ↦ by-form If f λ y m r. h y m (found-one _ (no-is v _ .1 (k, z)) (found-one _ (path-found w) r))
         | sequence f (b → h) ↦ by-form Sequence f (sequence-only h)
+        | match f w k a (b → h) ↦ by-form Match f λ y m r.
+            h y m (found-one _ a (found-one _ (case-is v _ _ .1 (k, refl)) (found-one _ (path-found w) r)))
         | no-element ↦ no-element-only
         | own-bytes (b → h) ↦ keyword-only h
         | next-child a (b → k) (c → h) ↦ λ y m e. joined-only k h y m (child-joined a e)

@@ -8,11 +8,11 @@ use mathlib.Core.Path.{_≡_}
 use mathlib.Core.List.{List, [], _∷_, _++_}
 use mathlib.Core.Option.{some}
 use lib.ListN.{length}
-use Rattle.rules.specs.Records.{kindOf, fieldA, fieldB, textOf}
+use Rattle.rules.specs.Records.{kindOf, fieldA, fieldB, textOf, nth}
 use Rattle.rules.specs.Grammar.{production, elements, Element, keyword, nonterminal, repetition}
-use Rattle.rules.specs.Templates.{template, body, formOf, nodes, paths, path, first, second}
-use Rattle.rules.specs.Value.{children}
-use Rattle.rules.specs.declared.Form.the-variants.{Build, Literal, Place, Expand, If, For, Sequence}
+use Rattle.rules.specs.Templates.{template, body, formOf, nodes, paths, path, first, second, arms}
+use Rattle.rules.specs.Value.{children, content}
+use Rattle.rules.specs.declared.Form.the-variants.{Build, Literal, Place, Expand, If, For, Sequence, Match}
 use Rattle.rules.specs.declared.Position.{Position}
 use Rattle.theorems.specs.Children.{Asks}
 use Rattle.theorems.specs.Finds.{Finds, FindsAll}
@@ -48,6 +48,10 @@ mutual
     -- the list that stands for a Kleene closure, which is a repetition of nonterminal m
     sequence : {env between : List ℕ} {m p : ℕ} {x : List ℕ} {n : ℕ} → formOf t p ≡ Sequence → Items g t v env m between 0 (nodes t p) x n
         → Evaluates g t v env (repetition m between) p x (suc n)
+    -- 02 g, beside 001: "one for each case in order, each seeing one more variable, the case's content"; "its step count is one plus the arm taken"; it stands
+    -- where an if may, and so its arms in its position
+    match : {env : List ℕ} {e : Element} {p w arm : ℕ} {x : List ℕ} {n : ℕ} → formOf t p ≡ Match → Finds t v env (path p) w → kindOf v w ≡ 5
+        → nth (arms t p) (fieldA v w) ≡ some arm → Evaluates g t v (env ++ content w ∷ []) e arm x n → Evaluates g t v env e p x (suc n)
 
   -- the premises that 001 adds for each element of a grammar rule, with the children that are left; a keyword takes none
   pub data Builds (g t v : List ℕ) : List ℕ → List Element → List ℕ → List ℕ → ℕ → Type 0 where

@@ -1,14 +1,14 @@
 -- Why "24 for each depth" is enough: in templates that meet neither 4 nor 7 an expand has at most 8 paths, one for each parameter.
 use mathlib.Core.Path.{_≡_, refl, subst, ap, _∙_}
 use Prim.Native.Nat.{ℕ, suc, _+_, _≤_}
-use mathlib.Core.List.{List}
+use mathlib.Core.List.{List, [], _∷_}
 use mathlib.Core.Bool.{true}
-use mathlib.Core.Option.{none}
+use mathlib.Core.Option.{none, some}
 use native.Mathlib.Omega.{arith}
 use lib.ListN.{length}
-use Rattle.rules.specs.Records.{fieldA, fieldB, fieldD, row}
+use Rattle.rules.specs.Records.{fieldA, fieldB, fieldD, row, nth}
 use Rattle.rules.specs.Grammar.{Element}
-use Rattle.rules.specs.Templates.{template, templates, parameters, parameterHeads, body, formOf, nodesOf, nodesBelow, paths}
+use Rattle.rules.specs.Templates.{template, templates, parameters, parameterHeads, body, formOf, nodesOf, nodesBelow, paths, arms}
 use Rattle.rules.specs.Limits.{templatesLimits}
 use Rattle.rules.specs.Typing.{Site, site, suits, suitsForm, templatesTyping}
 use Rattle.rules.specs.declared.Form.{Form}
@@ -20,7 +20,7 @@ use Rattle.laws.specs.Rows.{length-heads}
 use Rattle.theorems.specs.LimitsExactly.{TemplateWithin, limits-exactly}
 use Rattle.theorems.specs.Children.{Asks, OneEach, nothing-left, no-child-for, one-child-for, ChildFor, this-child, past-keyword, past-child}
 use Rattle.theorems.specs.Judgement.{Arguments, no-argument, an-argument}
-use Rattle.theorems.specs.OwnRule.{Fits, a-build, a-literal, a-place, an-expand, an-if, a-for, a-sequence, ChildNode, build-child, first-branch, second-branch, loop-body, sequence-item, Stands, the-body, below}
+use Rattle.theorems.specs.OwnRule.{Fits, a-build, a-literal, a-place, an-expand, an-if, a-for, a-sequence, ChildNode, build-child, first-branch, second-branch, loop-body, sequence-item, Stands, the-body, below, a-match, match-arm}
 use Rattle.theorems.specs.HeadByHead.{in-cons}
 use Rattle.theorems.specs.OwnRuleExactly.{FitsAt, expand-right, fits-exactly}
 use Rattle.theorems.specs.TypingExactly.{typing-exactly, EachFits, judged-node-by-node}
@@ -36,6 +36,14 @@ each-child (no-child-for x es cs o) i = let (e, at, k, a) = each-child o i in (e
 each-child (one-child-for e at c es cs a o) (here ds) = (e, at, this-child e at c es cs a, a)
 each-child (one-child-for e at c es cs a o) (later d ds i) = let (e′, at′, k, b) = each-child o i in (e′, at′, past-child e′ e at _ c es cs a k, b)
 
+each-case : {c : ℕ} (tys ps : List ℕ) → length ps ≡ length tys → In c ps → (j to : ℕ) × (nth tys j ≡ some to) × (nth ps j ≡ some c)
+unfolding nth
+each-case [] [] l i = elim i [ ]
+each-case [] (p ∷ ps) l i = absurd (omega arith)
+each-case (ty ∷ tys) [] l i = elim i [ ]
+each-case (ty ∷ tys) (p ∷ ps) l (here qs) = (0, ty, refl, refl)
+each-case (ty ∷ tys) (p ∷ ps) l (later q qs i) = let (j, to, x, y) = each-case tys ps (omega arith) i in (suc j, to, x, y)
+
 fits-below : {g t vars : List ℕ} {p c : ℕ} {at : Position} → Fits g t vars p at → In c (nodesBelow t p) → ChildSomehow g t vars p at c
 unfolding nodesBelow nodesOf
 fits-below {vars = vars} (a-build at q f e a o) i = let (el, at′, k, b) = each-child o (rw f at i) in (vars, at′, build-child at at′ el q _ f e k b)
@@ -48,6 +56,8 @@ fits-below {g} {t} {vars} {p} (an-if at n ty f a h e) i =
 fits-below {g} {t} {vars} {p} {at = at} (a-for n ty item f h e) i =
     in-cons (ChildSomehow g t vars p at) (_, _, loop-body n ty item f h e) (λ c j. elim j [ ]) (rw f at i)
 fits-below {vars = vars} (a-sequence n f) i = (vars, _, sequence-item n _ f (rw f at i))
+fits-below {t = t} {p = p} {c = c} (a-match at n ty tys f a h e l) i =
+    let (j, to, x, y) = each-case tys (arms t p) l (rw f at i) in (_, _, match-arm at n ty j to c tys f a h e x y)
 
 -- so every node stands somewhere, and fits there
 node-fits : {g t : List ℕ} {p q c d : ℕ} {vars : List ℕ} {at : Position} → EachFits g t → In p (templates t) → Stands g t p vars q at

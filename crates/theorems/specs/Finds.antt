@@ -10,7 +10,7 @@ use borrow.Author.Tests.{eqb-false, ne-eqb}
 use Rattle.rules.specs.Faults.{onFound, onlyIf}
 use Rattle.rules.specs.Records.{kindOf, fieldA, fieldB, textOf, nth}
 use Rattle.rules.specs.Templates.{variable, fieldNumbers}
-use Rattle.rules.specs.Value.{children, asText, asYesNo, asList, asRecord}
+use Rattle.rules.specs.Value.{children, Case, content, asText, asYesNo, asList, asRecord, asCase}
 use Rattle.rules.specs.Walk.{valueAlong, pathValue, pathValues}
 use Rattle.laws.specs.Faults.{onFound-some, only-if-iff, eqb-iff}
 
@@ -30,7 +30,7 @@ pub data FindsAll (t v env : List ℕ) : List ℕ → List ℕ → Type 0 where
   no-path : FindsAll t v env [] []
   one-path : {p w : ℕ} {ps ws : List ℕ} → Finds t v env p w → FindsAll t v env ps ws → FindsAll t v env (p ∷ ps) (w ∷ ws)
 
--- a value of a kind is what it is: a text's bytes, whether a yes/no is yes, the items of a list, the fields of a record
+-- a value of a kind is what it is: a text's bytes, whether a yes/no is yes, the items of a list, the fields of a record, a case
 pub of-kind : {A : Type 0} (v : List ℕ) (w kind : ℕ) (a x : A) → onlyIf (eqb (kindOf v w) kind) a ≡ some x → (kindOf v w ≡ kind) × (a ≡ x)
 of-kind v w kind a x e = let r = only-if-iff _ a x .0 e in (eqb-iff _ _ .0 (r .0), r .1)
 
@@ -70,6 +70,11 @@ module _ (v : List ℕ) (w : ℕ) where
   record-is : (ws : List ℕ) → (asRecord v w ≡ some ws) ↔ ((kindOf v w ≡ 4) × (children v w ≡ ws))
   unfolding asRecord
   record-is ws = kind-exactly v w 4 (children v w) ws
+
+  -- a case is of its number, and its content is its one child
+  pub case-is : (c : Case) → (asCase v w ≡ some c) ↔ ((kindOf v w ≡ 5) × (record { number = fieldA v w; inside = content w } ≡ c))
+  unfolding asCase
+  case-is c = kind-exactly v w 5 _ c
 
 -- paths
 found-along : (v js : List ℕ) (w to : ℕ) → valueAlong v js w ≡ some to → FieldByField v js w to

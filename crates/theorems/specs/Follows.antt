@@ -9,8 +9,8 @@ use Rattle.rules.specs.Faults.{onFound}
 use Rattle.rules.specs.Records.{kindOf, fieldA, fieldB, fieldC, fieldD, heads, row, nth}
 use Rattle.rules.specs.Lexeme.{ranges}
 use Rattle.rules.specs.Grammar.{grammarSize, elementSize, classes, productions, class, production, Element, elementAt, elementHeads, elements}
-use Rattle.rules.specs.Templates.{templatesSize, types, templates, type, template, typeAt, typeOf, fieldHeads, parameterHeads, parameters, body, formOf, formNumbered, nodes, paths, path, first, second, nodesOf, nodesBelow}
-use Rattle.rules.specs.Value.{valueSize, children, valuesBelow}
+use Rattle.rules.specs.Templates.{templatesSize, types, templates, type, template, typeAt, typeOf, fieldHeads, parameterHeads, parameters, body, formOf, formNumbered, nodes, paths, path, first, second, nodesOf, nodesBelow, arms}
+use Rattle.rules.specs.Value.{valueSize, children, valuesBelow, content}
 use Rattle.theorems.specs.Streams.{WellSized}
 use Rattle.theorems.specs.Readings.{ElementIs, element-is}
 use Rattle.theorems.specs.LaidOut.{InRow, no-thing, one-thing, Numbered, no-more, one-more, RangeAt, ClassAt, ElementAt, ProductionAt, GrammarLaid, NamingAt, TypeAt, PathAt, NodeAt, NodesAt, no-node, one-node, TemplateAt, TemplatesLaid, ValueAt}
@@ -105,6 +105,8 @@ pub data NodeFollows (t : List ℕ) (p q : ℕ) : List ℕ → Type 0 where
   of-if : fieldA t p ≡ 4 → path p ≡ p + 1 → PathAt t (path p) (first p) → NodeAt t (first p) (second t p) → NodeAt t (second t p) q
       → NodeFollows t p q (first p ∷ second t p ∷ [])
   of-for : fieldA t p ≡ 5 → path p ≡ p + 1 → PathAt t (path p) (first p) → NodeAt t (first p) q → NodeFollows t p q (first p ∷ [])
+  -- 02 g: "7 is match: a path, then d nodes"
+  of-match : fieldA t p ≡ 7 → path p ≡ p + 1 → PathAt t (path p) (first p) → HeadsOf (NodeAt t) (arms t p) (first p) q → NodeFollows t p q (arms t p)
 
 pub record TemplatesFollow (t : List ℕ) (h : TemplatesLaid t) : Type 0 where
   -- "Templates, types first", each "numbered by order"
@@ -113,7 +115,7 @@ pub record TemplatesFollow (t : List ℕ) (h : TemplatesLaid t) : Type 0 where
   pub type-by-order : (n : ℕ) → type t n ≡ nth (types t) n
   pub template-by-order : (n : ℕ) → template t n ≡ nth (templates t) n
   pub type-is-there : (n p : ℕ) → type t n ≡ some p → typeOf t n ≡ typeAt t p
-  -- "3 record of d fields"
+  -- "3 record of d fields"; 02 g: "a variant with d cases .., one field record each"
   pub all-fields : (p q : ℕ) → TypeAt t p q → HeadsOf (NamingAt t 2) (fieldHeads t p) (p + 1) q
   -- "then 4 parameter: type b; then one body node"
   pub all-parameters : (p q : ℕ) → TemplateAt t p q → HeadsOf (NamingAt t 4) (parameterHeads t p) (p + 1) (body t p)
@@ -121,23 +123,26 @@ pub record TemplatesFollow (t : List ℕ) (h : TemplatesLaid t) : Type 0 where
   pub one-body : (p q : ℕ) → TemplateAt t p q → NodeAt t (body t p) q
   pub nodes-follow : (p q : ℕ) → NodeAt t p q → NodeFollows t p q (nodesBelow t p)
 
--- "3 list and 4 record: c size, d children.": what follows the head of a value from p up to q, and the values below it
+-- "3 list and 4 record: c size, d children."; 02 g: "5 is a case: .. one child": what follows the head of a value from p up to q, and the values below it
 pub data ValueFollows (v : List ℕ) (p q : ℕ) : List ℕ → Type 0 where
   of-leaf : kindOf v p ≤ 2 → ValueFollows v p q []
-  of-children : 3 ≤ kindOf v p → HeadsOf (ValueAt v) (children v p) (p + 1) q → ValueFollows v p q (children v p)
+  of-children : 3 ≤ kindOf v p → kindOf v p ≤ 4 → HeadsOf (ValueAt v) (children v p) (p + 1) q → ValueFollows v p q (children v p)
+  of-case : kindOf v p ≡ 5 → content p ≡ p + 1 → ValueAt v (content p) q → ValueFollows v p q (content p ∷ [])
 
 pub values-follow : (v : List ℕ) (p q : ℕ) → ValueAt v p q → ValueFollows v p q (valuesBelow v p)
-unfolding valuesBelow children
+unfolding valuesBelow children content
 values-follow v _ _ (ValueAt.a-text p q k a d s z e) = rw k (of-leaf (omega arith))
 values-follow v _ _ (ValueAt.a-yes-no p q k a b c d e) = rw k (of-leaf (omega arith))
-values-follow v _ _ (ValueAt.a-list p q k a b s vs) = rw k (of-children (omega arith) (heads-of (valueSize v) (λ p q. value-size) (values-row vs)))
-values-follow v _ _ (ValueAt.a-record p q k a b s vs) = rw k (of-children (omega arith) (heads-of (valueSize v) (λ p q. value-size) (values-row vs)))
+values-follow v _ _ (ValueAt.a-list p q k a b s vs) = rw k (of-children (omega arith) (omega arith) (heads-of (valueSize v) (λ p q. value-size) (values-row vs)))
+values-follow v _ _ (ValueAt.a-record p q k a b s vs) = rw k (of-children (omega arith) (omega arith) (heads-of (valueSize v) (λ p q. value-size) (values-row vs)))
+values-follow v _ _ (ValueAt.a-case p q k b d s x) = rw k (of-case k refl x)
 
 pub fields-row : {t : List ℕ} {p q : ℕ} → TypeAt t p q → InRow (NamingAt t 2) (fieldD t p) (p + 1) q
 fields-row (TypeAt.a-text p k a c d) = rw d (no-thing (p + 1))
 fields-row (TypeAt.a-yes-no p k a b c d) = rw d (no-thing (p + 1))
 fields-row (TypeAt.a-list p k a c d) = rw d (no-thing (p + 1))
 fields-row (TypeAt.a-record p q k a b c fs) = fs
+fields-row (TypeAt.a-variant p q k a b c l m fs) = fs
 
 named-all : (t ps : List ℕ) → Named t ps (map (fieldB t) ps)
 named-all t [] = no-name
@@ -151,7 +156,7 @@ one-only : {t : List ℕ} {p q : ℕ} → NodesAt t 1 p q → NodeAt t p q
 one-only (one-node _ p _ _ a (no-node _)) = a
 
 node-follows : {t : List ℕ} {p q : ℕ} → NodeAt t p q → NodeFollows t p q (nodesBelow t p)
-unfolding nodesBelow formOf formNumbered nodesOf nodes paths path first second
+unfolding nodesBelow formOf formNumbered nodesOf nodes paths path first second arms
 node-follows {t} (NodeAt.a-build p q h ns) = rw (h .form-is) (of-build (h .form-is) (heads-of (fieldC t) (λ p q. node-size) (nodes-row ns)))
 node-follows (NodeAt.a-literal p q h d z e) = rw (h .form-is) (of-literal (h .form-is))
 node-follows (NodeAt.a-place p q h b d s) = rw (h .form-is) (of-place (h .form-is) refl s)
@@ -164,6 +169,10 @@ node-follows {t} (NodeAt.a-for p q r h b d s ns) =
     let e : r ≡ p + 2 = s .end ∙ omega arith in
     rw (h .form-is) (of-for (h .form-is) refl (subst (PathAt t (p + 1)) e s) (one-only (subst (λ (m : ℕ). NodesAt t 1 m q) e ns)))
 node-follows {t} (NodeAt.a-sequence p q h b ns) = rw (h .form-is) (of-sequence (h .form-is) (heads-of (fieldC t) (λ p q. node-size) (nodes-row ns)))
+node-follows {t} (NodeAt.a-match p q r h b s ns) =
+    let e : r ≡ p + 2 = s .end ∙ omega arith in
+    rw (h .form-is) (of-match (h .form-is) refl (subst (PathAt t (p + 1)) e s)
+    (heads-of (fieldC t) (λ p q. node-size) (nodes-row (subst (λ (m : ℕ). NodesAt t (fieldD t p) m q) e ns))))
 
 pub templates-follow : (t : List ℕ) → WellSized t → (h : TemplatesLaid t) → TemplatesFollow t h
 unfolding type template typeOf onFound fieldHeads parameterHeads parameters body

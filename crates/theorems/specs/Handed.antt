@@ -14,7 +14,7 @@ use Rattle.rules.specs.Value.{children}
 use Rattle.rules.specs.Walk.{Input, State, End, withChild, pieces, Filled, Asked, piece, items, filledBy, listed, itemsOf, visitItem, visitIn}
 use Rattle.rules.specs.declared.Position.{Position}
 use Rattle.rules.specs.declared.Form.{Form}
-use Rattle.rules.specs.declared.Form.the-variants.{Build, Literal, Place, Expand, If, For, Sequence, Unknown}
+use Rattle.rules.specs.declared.Form.the-variants.{Build, Literal, Place, Expand, If, For, Sequence, Match, Unknown}
 use Rattle.laws.specs.Faults.{onFound-some}
 use Rattle.theorems.specs.Children.{Asks, asks-class, asks-nonterminal, asks-repetition, asks-nothing}
 use Rattle.theorems.specs.Finds.{Finds, list-is, finds-exactly, path-found}
@@ -43,6 +43,7 @@ is-for Place = no-for λ e. true≢false (sym (ap isFor e))
 is-for Expand = no-for λ e. true≢false (sym (ap isFor e))
 is-for If = no-for λ e. true≢false (sym (ap isFor e))
 is-for Sequence = no-for λ e. true≢false (sym (ap isFor e))
+is-for Match = no-for λ e. true≢false (sym (ap isFor e))
 is-for Unknown = no-for λ e. true≢false (sym (ap isFor e))
 
 pub not-for : {f : Form} → (f ≡ For → ⊥) → isFor f ≡ false

@@ -3,11 +3,11 @@ use mathlib.Core.Path.{_≡_}
 use Prim.Native.Nat.{ℕ}
 use mathlib.Core.List.{List, [], _∷_, _++_}
 use mathlib.Core.Option.{some}
-use Rattle.rules.specs.Records.{kindOf, fieldB, textOf, nth}
+use Rattle.rules.specs.Records.{kindOf, fieldA, fieldB, textOf, nth}
 use Rattle.rules.specs.Grammar.{production, Element, keyword, elements}
-use Rattle.rules.specs.Templates.{text, yes-no, list, fields, typeOf, template, parameters, formOf, nodes, paths, path, first, second, variable, fieldNumbers}
-use Rattle.rules.specs.Value.{children}
-use Rattle.rules.specs.declared.Form.the-variants.{Build, Literal, Place, Expand, If, For, Sequence}
+use Rattle.rules.specs.Templates.{text, yes-no, list, fields, cases, typeOf, template, parameters, formOf, nodes, paths, path, first, second, arms, variable, fieldNumbers}
+use Rattle.rules.specs.Value.{children, content}
+use Rattle.rules.specs.declared.Form.the-variants.{Build, Literal, Place, Expand, If, For, Sequence, Match}
 use Rattle.rules.specs.declared.Position.{Position}
 use Rattle.rules.specs.declared.Position.the-variants.{Class, Nonterminal, Repetition, Item}
 use Rattle.theorems.specs.Readings.{Takes}
@@ -52,6 +52,9 @@ mutual
     -- "a sequence, whose items are nodes in the position of its nonterminal or a for"
     by-sequence : (vars : List ℕ) (p n : ℕ) → formOf t p ≡ Sequence → Items g t vars n (nodes t p) → Suits g t vars p (Repetition n)
     as-item : (vars : List ℕ) (p n : ℕ) → Suits g t vars p (Nonterminal n) → Suits g t vars p (Item n)
+    -- 02 g: "A match stands where an if may stand"; "a path, then d nodes, one for each case in order"
+    by-match : (vars : List ℕ) (p n ty : ℕ) (tys : List ℕ) → formOf t p ≡ Match → PathTyped t vars (path p) ty → typeOf t ty ≡ cases tys
+        → Arms g t vars n tys (arms t p) → Suits g t vars p (Nonterminal n)
 
   -- one child for each element that is no keyword, each in the position of its element
   pub data Fills (g t : List ℕ) : List ℕ → List Element → List ℕ → Type 0 where
@@ -64,6 +67,12 @@ mutual
     no-item : (vars : List ℕ) (n : ℕ) → Items g t vars n []
     an-item : (vars : List ℕ) (n p : ℕ) (ps : List ℕ) → Suits g t vars p (Item n) → Items g t vars n ps → Items g t vars n (p ∷ ps)
 
+  -- "each seeing one more variable, the case's content. A missing or extra arm fails typing."
+  pub data Arms (g t : List ℕ) : List ℕ → ℕ → List ℕ → List ℕ → Type 0 where
+    no-arm : (vars : List ℕ) (n : ℕ) → Arms g t vars n [] []
+    an-arm : (vars : List ℕ) (n ty p : ℕ) (tys ps : List ℕ) → Suits g t (vars ++ ty ∷ []) p (Nonterminal n) → Arms g t vars n tys ps
+        → Arms g t vars n (ty ∷ tys) (p ∷ ps)
+
 -- "Template 0 exists with one parameter, the value's type. That is the declared type."
 pub record Declared (t : List ℕ) (ty : ℕ) : Type 0 where
   pub root : ℕ
@@ -72,12 +81,15 @@ pub record Declared (t : List ℕ) (ty : ℕ) : Type 0 where
 
 mutual
   -- "A value is of type text if it is a 1 whose text is a lexeme of the class; of yes/no if a 2; of a list if a 3 whose children are all of its item type;
-  -- of a record if a 4 with one child for each field, in order, of that field's type." A text type names a plain class.
+  -- of a record if a 4 with one child for each field, in order, of that field's type." A text type names a plain class. 02 g: a case "is of the variant if
+  -- there is such a case and the child is of that case's type".
   pub data OfType (g t v : List ℕ) : ℕ → ℕ → Type 0 where
     of-text : (ty w c : ℕ) → typeOf t ty ≡ text c → kindOf v w ≡ 1 → PlainLexeme g c (textOf v (fieldB v w) w) → OfType g t v ty w
     of-yes-no : (ty w : ℕ) → typeOf t ty ≡ yes-no → kindOf v w ≡ 2 → OfType g t v ty w
     of-list : (ty w item : ℕ) → typeOf t ty ≡ list item → kindOf v w ≡ 3 → AllOf g t v item (children v w) → OfType g t v ty w
     of-record : (ty w : ℕ) (tys : List ℕ) → typeOf t ty ≡ fields tys → kindOf v w ≡ 4 → EachOf g t v tys (children v w) → OfType g t v ty w
+    of-case : (ty w to : ℕ) (tys : List ℕ) → typeOf t ty ≡ cases tys → kindOf v w ≡ 5 → nth tys (fieldA v w) ≡ some to → OfType g t v to (content w)
+        → OfType g t v ty w
 
   pub data AllOf (g t v : List ℕ) : ℕ → List ℕ → Type 0 where
     none-left : (ty : ℕ) → AllOf g t v ty []

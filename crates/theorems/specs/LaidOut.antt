@@ -78,6 +78,9 @@ pub data TypeAt (t : List ℕ) : ℕ → ℕ → Type 0 where
   a-yes-no : (p : ℕ) → kindOf t p ≡ 1 → fieldA t p ≡ 1 → fieldB t p ≡ 0 → fieldC t p ≡ 0 → fieldD t p ≡ 0 → TypeAt t p (p + 1)
   a-list : (p : ℕ) → kindOf t p ≡ 1 → fieldA t p ≡ 2 → fieldC t p ≡ 0 → fieldD t p ≡ 0 → TypeAt t p (p + 1)
   a-record : (p q : ℕ) → kindOf t p ≡ 1 → fieldA t p ≡ 3 → fieldB t p ≡ 0 → fieldC t p ≡ 0 → InRow (NamingAt t 2) (fieldD t p) (p + 1) q → TypeAt t p q
+  -- 02 g: "a variant with d cases (1 to 256, else 3), one field record each"
+  a-variant : (p q : ℕ) → kindOf t p ≡ 1 → fieldA t p ≡ 4 → fieldB t p ≡ 0 → fieldC t p ≡ 0 → 1 ≤ fieldD t p → fieldD t p ≤ 256
+      → InRow (NamingAt t 2) (fieldD t p) (p + 1) q → TypeAt t p q
 
 pub record PathAt (t : List ℕ) (p q : ℕ) : Type 0 where
   pub kind : kindOf t p ≡ 6
@@ -100,6 +103,8 @@ mutual
     an-if : (p q r : ℕ) → NodeHead t 4 p q → fieldB t p ≡ 0 → fieldD t p ≡ 0 → PathAt t (p + 1) r → NodesAt t 2 r q → NodeAt t p q
     a-for : (p q r : ℕ) → NodeHead t 5 p q → fieldB t p ≡ 0 → fieldD t p ≡ 0 → PathAt t (p + 1) r → NodesAt t 1 r q → NodeAt t p q
     a-sequence : (p q : ℕ) → NodeHead t 6 p q → fieldB t p ≡ 0 → NodesAt t (fieldD t p) (p + 1) q → NodeAt t p q
+    -- 02 g: "a path, then d nodes"
+    a-match : (p q r : ℕ) → NodeHead t 7 p q → fieldB t p ≡ 0 → PathAt t (p + 1) r → NodesAt t (fieldD t p) r q → NodeAt t p q
 
   pub data NodesAt (t : List ℕ) : ℕ → ℕ → ℕ → Type 0 where
     no-node : (p : ℕ) → NodesAt t 0 p p
@@ -130,6 +135,8 @@ mutual
     a-yes-no : (p q : ℕ) → kindOf v p ≡ 2 → fieldA v p ≤ 1 → fieldB v p ≡ 0 → fieldC v p ≡ 0 → fieldD v p ≡ 0 → q ≡ p + 1 → ValueAt v p q
     a-list : (p q : ℕ) → kindOf v p ≡ 3 → fieldA v p ≡ 0 → fieldB v p ≡ 0 → p + fieldC v p ≡ q → ValuesAt v (fieldD v p) (p + 1) q → ValueAt v p q
     a-record : (p q : ℕ) → kindOf v p ≡ 4 → fieldA v p ≡ 0 → fieldB v p ≡ 0 → p + fieldC v p ≡ q → ValuesAt v (fieldD v p) (p + 1) q → ValueAt v p q
+    -- 02 g: "a case: a its number from 0, c size, one child"
+    a-case : (p q : ℕ) → kindOf v p ≡ 5 → fieldB v p ≡ 0 → fieldD v p ≡ 0 → p + fieldC v p ≡ q → ValueAt v (p + 1) q → ValueAt v p q
 
   pub data ValuesAt (v : List ℕ) : ℕ → ℕ → ℕ → Type 0 where
     no-value : (p : ℕ) → ValuesAt v 0 p p

@@ -16,7 +16,7 @@ use Rattle.rules.specs.Faults.{onFound, onlyIf}
 use Rattle.rules.specs.Records.{base, recordCount, byteOf, kindOf, fieldA, fieldB, fieldC, fieldD, recordsFrom, paddingOf, units, zeros, ofKind}
 use Rattle.rules.specs.Grammar.{isClass, productionNumber, textLength}
 use Rattle.rules.specs.Templates.{formNumbered, formOf}
-use Rattle.rules.specs.Layout.{thenRead, inRow, whileIs, textEnd, rangeEnd, plainEnd, escapedEnd, classEnd, elementEnd, productionEnd, grammarEnd, namingEnd, typeFormEnd, typeEnd, pathEnd, formEnd, sized, nodeEnd, templateEnd, templatesEnd, childrenEnd, kindEnd, valueEnd, tailRight, layoutFault, grammarLayout, templatesLayout, valueLayout}
+use Rattle.rules.specs.Layout.{thenRead, inRow, whileIs, textEnd, rangeEnd, plainEnd, escapedEnd, classEnd, elementEnd, productionEnd, grammarEnd, namingEnd, fieldsEnd, typeFormEnd, typeEnd, pathEnd, formEnd, sized, nodeEnd, templateEnd, templatesEnd, childrenEnd, caseEnd, kindEnd, valueEnd, tailRight, layoutFault, grammarLayout, templatesLayout, valueLayout}
 use Rattle.laws.specs.Faults.{need-iff, onFound-true, only-if-iff, and-iff, eqb-iff, leb-iff}
 use Rattle.laws.specs.Sorts.{class-kinds}
 use Rattle.theorems.specs.Streams.{WellSized}
@@ -60,6 +60,15 @@ row-to : {Thing : ℕ → ℕ → Type 0} (one : ℕ → Option ℕ) {n p q : �
     → InRow Thing n p q → inRow one n p ≡ some q
 row-to one f (no-thing p) = row-none one p
 row-to one f (one-thing n p q r x xs) = row-one one n p q r (f p q x) (row-to one f xs)
+
+-- a row of one
+row-of-one : (one : ℕ → Option ℕ) (p q : ℕ) → (inRow one 1 p ≡ some q) ↔ (one p ≡ some q)
+unfolding inRow thenRead onFound
+row-of-one one p q = go (one p)
+  where
+    go : (o : Option ℕ) → (onFound o none (λ r. some r) ≡ some q) ↔ (o ≡ some q)
+    go none = Iff·rfl
+    go (some r) = Iff·rfl
 
 row-exactly : {Thing : ℕ → ℕ → Type 0} (one : ℕ → Option ℕ) → ((p q : ℕ) → (one p ≡ some q) ↔ Thing p q)
     → (n p q : ℕ) → (inRow one n p ≡ some q) ↔ InRow Thing n p q
@@ -283,6 +292,11 @@ path-exactly t p q = (
 paths-exactly : (t : List ℕ) (n p q : ℕ) → (inRow (pathEnd t) n p ≡ some q) ↔ InRow (PathAt t) n p q
 paths-exactly t = row-exactly (pathEnd t) (path-exactly t)
 
+-- the fields of a record or a variant
+fields-exactly : (t : List ℕ) (p q : ℕ) → (fieldsEnd t p ≡ some q) ↔ (((fieldB t p ≡ 0) × (fieldC t p ≡ 0)) × InRow (NamingAt t 2) (fieldD t p) (p + 1) q)
+unfolding fieldsEnd
+fields-exactly t p q = simp (only-if-then, and-iff, eqb-iff, namings-exactly) Iff·rfl
+
 -- a type by its form; the kind is known where a type is read
 type-form : (t : List ℕ) (form p q : ℕ) → kindOf t p ≡ 1 → fieldA t p ≡ form → typeFormEnd t form p ≡ some q → TypeAt t p q
 unfolding typeFormEnd
@@ -296,9 +310,12 @@ type-form t (suc (suc zero)) p q k a e =
     let h = simp (only-if-iff, and-iff, eqb-iff) at e in
     subst (TypeAt t p) (h .1) (TypeAt.a-list p k a (h .0 .0) (h .0 .1))
 type-form t (suc (suc (suc zero))) p q k a e =
-    let h = simp (only-if-then, and-iff, eqb-iff, namings-exactly) at e in
+    let h = fields-exactly t p q .0 e in
     TypeAt.a-record p q k a (h .0 .0) (h .0 .1) (h .1)
-type-form t (suc (suc (suc (suc form)))) p q k a e = absurd (Option·none-ne-some q e)
+type-form t (suc (suc (suc (suc zero)))) p q k a e =
+    let h = simp (only-if-then, and-iff, leb-iff, fields-exactly) at e in
+    TypeAt.a-variant p q k a (h .1 .0 .0) (h .1 .0 .1) (h .0 .0) (h .0 .1) (h .1 .1)
+type-form t (suc (suc (suc (suc (suc form))))) p q k a e = absurd (Option·none-ne-some q e)
 
 type-from : (t : List ℕ) (p q : ℕ) → kindOf t p ≡ 1 → typeEnd t p ≡ some q → TypeAt t p q
 unfolding typeEnd
@@ -309,7 +326,8 @@ unfolding typeEnd typeFormEnd
 type-to (TypeAt.a-text p k a c d) = rw a (simp (only-if-iff, and-iff, eqb-iff) ((c, d), refl))
 type-to (TypeAt.a-yes-no p k a b c d) = rw a (simp (only-if-iff, and-iff, eqb-iff) ((b, (c, d)), refl))
 type-to (TypeAt.a-list p k a c d) = rw a (simp (only-if-iff, and-iff, eqb-iff) ((c, d), refl))
-type-to {t} (TypeAt.a-record p q k a b c fs) = rw a (simp (only-if-then, and-iff, eqb-iff, namings-exactly) ((b, c), fs))
+type-to {t} (TypeAt.a-record p q k a b c fs) = rw a (fields-exactly t p q .1 ((b, c), fs))
+type-to {t} (TypeAt.a-variant p q k a b c l m fs) = rw a (simp (only-if-then, and-iff, leb-iff, fields-exactly) ((l, m), ((b, c), fs)))
 
 -- "c size"
 sized-iff : (s : List ℕ) (p : ℕ) (o : Option ℕ) (q : ℕ) → (sized s p o ≡ some q) ↔ ((o ≡ some q) × (p + fieldC s p ≡ q))
@@ -351,7 +369,10 @@ module _ (t : List ℕ) (node : ℕ → Option ℕ) (right : (p q : ℕ) → nod
       NodeAt.a-for p q (r .1 .0) h (r .0 .0) (r .0 .1) (path-exactly t _ _ .0 (r .1 .1)) (nodes-from 1 _ q (r .1 .2))
   form-from (suc (suc (suc (suc (suc (suc zero)))))) p q h e =
       let r = simp (only-if-then, eqb-iff) at e in NodeAt.a-sequence p q h (r .0) (nodes-from _ _ q (r .1))
-  form-from (suc (suc (suc (suc (suc (suc (suc a))))))) p q h e = absurd (Option·none-ne-some q e)
+  form-from (suc (suc (suc (suc (suc (suc (suc zero))))))) p q h e =
+      let r = simp (only-if-then, eqb-iff, then-iff) at e in
+      NodeAt.a-match p q (r .1 .0) h (r .0) (path-exactly t _ _ .0 (r .1 .1)) (nodes-from _ _ q (r .1 .2))
+  form-from (suc (suc (suc (suc (suc (suc (suc (suc a)))))))) p q h e = absurd (Option·none-ne-some q e)
 
 node-from : (t : List ℕ) (k p q : ℕ) → nodeEnd t k p ≡ some q → NodeAt t p q
 node-from t zero p q e = absurd (Option·none-ne-some q (unfold nodeEnd in e))
@@ -377,6 +398,8 @@ mutual
   node-to {t} (NodeAt.a-for p q r h b d s ns) k l =
       head-to k h (simp (only-if-then, and-iff, eqb-iff, then-iff) ((b, d), (r, path-exactly t _ _ .1 s, nodes-to ns k (let e = s .end in omega arith))))
   node-to (NodeAt.a-sequence p q h b ns) k l = head-to k h (simp (only-if-then, eqb-iff) (b, nodes-to ns k (omega arith)))
+  node-to {t} (NodeAt.a-match p q r h b s ns) k l =
+      head-to k h (simp (only-if-then, eqb-iff, then-iff) (b, (r, path-exactly t _ _ .1 s, nodes-to ns k (let e = s .end in omega arith))))
 
   nodes-to : {t : List ℕ} {n p q : ℕ} → NodesAt t n p q → (k : ℕ) → q ≤ p + k → inRow (nodeEnd t k) n p ≡ some q
   nodes-to {t} (NodesAt.no-node p) k l = row-none (nodeEnd t k) p
@@ -422,6 +445,12 @@ children-iff : (v : List ℕ) (value : ℕ → Option ℕ) (p q : ℕ)
 unfolding childrenEnd
 children-iff v value p q = simp (only-if-then, and-iff, eqb-iff, sized-iff) Iff·rfl
 
+-- a case's head and its one child
+case-iff : (v : List ℕ) (value : ℕ → Option ℕ) (p q : ℕ)
+    → (caseEnd v value p ≡ some q) ↔ (((fieldB v p ≡ 0) × (fieldD v p ≡ 0)) × ((value (p + 1) ≡ some q) × (p + fieldC v p ≡ q)))
+unfolding caseEnd
+case-iff v value p q = simp (only-if-then, and-iff, eqb-iff, sized-iff, row-of-one) Iff·rfl
+
 -- from a reader of values that is right, to a value by its kind
 module _ (v : List ℕ) (value : ℕ → Option ℕ) (right : (p q : ℕ) → value p ≡ some q → ValueAt v p q) where
   values-from : (n p q : ℕ) → inRow value n p ≡ some q → ValuesAt v n p q
@@ -442,7 +471,10 @@ module _ (v : List ℕ) (value : ℕ → Option ℕ) (right : (p q : ℕ) → va
   kind-from (suc (suc (suc (suc zero)))) p q k e =
       let h = children-iff v value p q .0 e in
       ValueAt.a-record p q k (h .0 .0) (h .0 .1) (h .1 .1) (values-from _ _ q (h .1 .0))
-  kind-from (suc (suc (suc (suc (suc kind))))) p q k e = absurd (Option·none-ne-some q e)
+  kind-from (suc (suc (suc (suc (suc zero))))) p q k e =
+      let h = case-iff v value p q .0 e in
+      ValueAt.a-case p q k (h .0 .0) (h .0 .1) (h .1 .1) (right _ q (h .1 .0))
+  kind-from (suc (suc (suc (suc (suc (suc kind)))))) p q k e = absurd (Option·none-ne-some q e)
 
 value-from : (v : List ℕ) (k p q : ℕ) → valueEnd v k p ≡ some q → ValueAt v p q
 unfolding valueEnd
@@ -466,6 +498,9 @@ mutual
       kind-to v 3 k p q i (children-iff v (valueEnd v k) p q .1 ((a, b), (values-to vs k (omega arith), s)))
   value-to {v} (ValueAt.a-record p q i a b s vs) k l =
       kind-to v 4 k p q i (children-iff v (valueEnd v k) p q .1 ((a, b), (values-to vs k (omega arith), s)))
+  value-to (ValueAt.a-case p q i b d s x) zero l = absurd (let z = value-grows x in omega arith)
+  value-to {v} (ValueAt.a-case p q i b d s x) (suc k) l =
+      kind-to v 5 (suc k) p q i (case-iff v (valueEnd v (suc k)) p q .1 ((b, d), (value-to x k (omega arith), s)))
 
   values-to : {v : List ℕ} {n p q : ℕ} → ValuesAt v n p q → (k : ℕ) → q ≤ p + k → inRow (valueEnd v k) n p ≡ some q
   values-to {v} (ValuesAt.no-value p) k l = row-none (valueEnd v k) p

@@ -5,12 +5,12 @@ use mathlib.Core.Path.{_≡_}
 use mathlib.Core.List.{List, [], _∷_, _++_}
 use mathlib.Core.Option.{some}
 use lib.ListN.{length}
-use Rattle.rules.specs.Records.{kindOf, fieldA, fieldB, textOf}
+use Rattle.rules.specs.Records.{kindOf, fieldA, fieldB, textOf, nth}
 use Rattle.rules.specs.Grammar.{production, Element, keyword, nonterminal, repetition, elements}
-use Rattle.rules.specs.Templates.{template, body, formOf, nodes, paths, path, first, second}
-use Rattle.rules.specs.Value.{children}
+use Rattle.rules.specs.Templates.{template, body, formOf, nodes, paths, path, first, second, arms}
+use Rattle.rules.specs.Value.{children, content}
 use Rattle.rules.specs.Walk.{Filled, Asked, piece, items}
-use Rattle.rules.specs.declared.Form.the-variants.{Build, Literal, Place, Expand, If, For, Sequence}
+use Rattle.rules.specs.declared.Form.the-variants.{Build, Literal, Place, Expand, If, For, Sequence, Match}
 use Rattle.laws.specs.Faults.{In}
 use Rattle.theorems.specs.Children.{ChildFor}
 use Rattle.theorems.specs.Finds.{Finds, FindsAll}
@@ -56,6 +56,9 @@ pub data Under (g t v : List ℕ) (a : Asked) (p : ℕ) (env : List ℕ) : Asked
       → Under g t v a p env (piece (nonterminal n)) c env
   a-for : (n c m : ℕ) (x : List ℕ) → formOf t p ≡ Sequence → a ≡ piece (repetition n x) → NodeAfter t v env c (nodes t p) m → formOf t c ≡ For
       → Under g t v a p env (items (filling p n x) m) c env
+  -- 02 g: a match visits only the arm of its case, with "one more variable, the case's content"
+  an-arm : (w c : ℕ) → formOf t p ≡ Match → Finds t v env (path p) w → kindOf v w ≡ 5 → nth (arms t p) (fieldA v w) ≡ some c
+      → Under g t v a p env a c (env ++ content w ∷ [])
 
 -- `Levels g t v d a p env`: a chain of d levels that ends with the node p, what its position asks for and its variables env; that node stands d deep.
 -- "The walk starts with template 0's body and the value as its one variable. The root body is at depth 1, a child or an entered body one deeper."

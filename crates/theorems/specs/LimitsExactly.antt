@@ -10,12 +10,12 @@ use lib.Dec.{eqb, ltb}
 use Rattle.rules.specs.Faults.{need, every, exists}
 use Rattle.rules.specs.Records.{kindOf, fieldA, fieldB, nth, numbered}
 use Rattle.rules.specs.Grammar.{class, plainClass, classes, production, productions, Element, keyword, lexeme, nonterminal, repetition, unknown, elementAt, elementHeads, hasProduction, nonterminalExists}
-use Rattle.rules.specs.Templates.{TypeForm, text, yes-no, list, fields, no-type, type, types, typeAt, fieldHeads, template, templates, parameterHeads, body, formOf, nodesBelow}
+use Rattle.rules.specs.Templates.{TypeForm, text, yes-no, list, fields, cases, no-type, type, types, typeAt, fieldHeads, template, templates, parameterHeads, body, formOf, nodesBelow}
 use Rattle.rules.specs.Value.{valuesBelow}
 use Rattle.rules.specs.Limits.{deepest, Looped, looped, loopsBelow, loopedBelow, fewLoops, templateLimits, templatesLimits, valueLimits}
 use Rattle.rules.specs.Names.{elementNamed, classNamed, grammarNames, typeNamed, typeNames, formNamed, nodeNamed, templateNames, templatesNames}
 use Rattle.rules.specs.declared.Form.{Form}
-use Rattle.rules.specs.declared.Form.the-variants.{Build, Literal, Place, Expand, If, For, Sequence, Unknown}
+use Rattle.rules.specs.declared.Form.the-variants.{Build, Literal, Place, Expand, If, For, Sequence, Match, Unknown}
 use Rattle.theorems.specs.Readings.{Plain, plain-is}
 use Rattle.theorems.specs.Around.{Around, around-exactly}
 use Rattle.theorems.specs.Ranges.{below-leading, looped-leading}
@@ -127,6 +127,7 @@ TypeNames g t (text c) = PlainExists g c
 TypeNames g t yes-no = Unit {0}
 TypeNames g t (list n) = Exists (type t n)
 TypeNames g t (fields ns) = Unit {0}
+TypeNames g t (cases ns) = Unit {0}
 TypeNames g t no-type = Unit {0}
 
 abbrev pub NodeNames : List ℕ → List ℕ → Form → ℕ → Type 0
@@ -137,6 +138,7 @@ NodeNames g t Expand n = Exists (template t n)
 NodeNames g t If n = Unit {0}
 NodeNames g t For n = Unit {0}
 NodeNames g t Sequence n = Unit {0}
+NodeNames g t Match n = Unit {0}
 NodeNames g t Unknown n = Unit {0}
 
 pub record GrammarNamed (g : List ℕ) : Type 0 where
@@ -145,6 +147,7 @@ pub record GrammarNamed (g : List ℕ) : Type 0 where
 
 pub record TemplatesNamed (g t : List ℕ) : Type 0 where
   pub types-name : (n p : ℕ) → nth (types t) n ≡ some p → TypeNames g t (typeAt t p)
+  -- of a record; 02 g, of a variant: "every case an earlier type"
   pub fields-name-earlier : (n p f : ℕ) → nth (types t) n ≡ some p → In f (fieldHeads t p) → fieldB t f < n
   pub templates-name : (p : ℕ) → In p (templates t) → HasProduction g (fieldB t p)
   pub parameters-name : (p a : ℕ) → In p (templates t) → In a (parameterHeads t p) → Exists (type t (fieldB t a))
@@ -181,6 +184,7 @@ type-names g t (text c) = plain-exists g c
 type-names g t yes-no = (λ e. tt, λ h. refl)
 type-names g t (list n) = exists-iff (type t n)
 type-names g t (fields ns) = (λ e. tt, λ h. refl)
+type-names g t (cases ns) = (λ e. tt, λ h. refl)
 type-names g t no-type = (λ e. tt, λ h. refl)
 
 pub node-names : (g t : List ℕ) (f : Form) (n : ℕ) → (formNamed g t f n ≡ true) ↔ NodeNames g t f n
@@ -192,6 +196,7 @@ node-names g t Expand n = exists-iff (template t n)
 node-names g t If n = (λ e. tt, λ h. refl)
 node-names g t For n = (λ e. tt, λ h. refl)
 node-names g t Sequence n = (λ e. tt, λ h. refl)
+node-names g t Match n = (λ e. tt, λ h. refl)
 node-names g t Unknown n = (λ e. tt, λ h. refl)
 
 -- the entries of a numbered list

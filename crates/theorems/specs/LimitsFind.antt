@@ -10,24 +10,24 @@ use lib.ListN.{length}
 use lib.Dec.{leb}
 use borrow.Author.Tests.{leb-false}
 use Rattle.rules.specs.Faults.{onFound}
-use Rattle.rules.specs.Records.{kindOf}
+use Rattle.rules.specs.Records.{kindOf, nth}
 use Rattle.rules.specs.Grammar.{Element, keyword, lexeme, nonterminal, repetition, unknown}
-use Rattle.rules.specs.Templates.{formOf, nodes, path, first, second}
-use Rattle.rules.specs.Value.{children, asYesNo}
+use Rattle.rules.specs.Templates.{formOf, nodes, path, first, second, arms}
+use Rattle.rules.specs.Value.{children, asYesNo, Case, asCase}
 use Rattle.rules.specs.Limits.{deepest}
 use Rattle.rules.specs.Walk.{Input, State, start, Limit, fuel-spent, too-deep, output-full, End, done, ended, stuck, andThen, write, withChild, pieces}
 use Rattle.rules.specs.Walk.{Filled, Asked, piece, items, separate, visitItem, inOrder, itemsOf, visitIn, visitForm, counted, reached, visit, walk}
 use Rattle.rules.specs.declared.Form.{Form}
-use Rattle.rules.specs.declared.Form.the-variants.{Build, Literal, Place, Expand, If, For, Sequence, Unknown}
+use Rattle.rules.specs.declared.Form.the-variants.{Build, Literal, Place, Expand, If, For, Sequence, Match, Unknown}
 use Rattle.rules.specs.declared.Position.{Position}
 use Rattle.theorems.specs.Children.{Asks, asks-class, asks-nonterminal, asks-repetition, asks-nothing}
-use Rattle.theorems.specs.Finds.{Finds, text-is, yes-is, no-is, finds-exactly, finds-all-exactly}
+use Rattle.theorems.specs.Finds.{Finds, text-is, yes-is, no-is, finds-exactly, finds-all-exactly, case-is}
 use Rattle.theorems.specs.Ends.{write-done}
 use Rattle.theorems.specs.Levels.{filling}
 use Rattle.theorems.specs.Places.{place-text}
 use Rattle.theorems.specs.Visits.{place-no-for}
 use Rattle.theorems.specs.Handed.{IsFor, a-for as is-a-for, no-for, is-for, filled-by, listed-is, for-visited, item-visited}
-use Rattle.theorems.specs.Comes.{BuildsTo, this-child, past-keyword, past-child, BuildsUpTo, this-keyword}
+use Rattle.theorems.specs.Comes.{BuildsTo, this-child, past-keyword, past-child, BuildsUpTo, this-keyword, an-arm}
 use Rattle.theorems.specs.Comes.{ItemsTo, this-node, past-item, past-for, TurnsTo, this-turn, past-turn, Before, a-child, a-body, on-yes, on-no, a-turn, an-item, a-for}
 use Rattle.theorems.specs.Comes.{Comes, root-body, one-deeper, Next, a-keyword, its-text, text-found, before-item, before-turn, Found, not-counted, counted-too, not-written}
 use Rattle.theorems.specs.Evaluation.{BeforeItem, the-first, another}
@@ -83,6 +83,7 @@ for-form (in-sequence c f to h) = h
 for-came : {g t v env x : List ℕ} {f : Filled} {d k p n : ℕ} → Comes g t v d (items f k) p env x n → InItsSequence g t v f k p env d x n
 for-came (one-deeper c (on-yes w f e k y)) = absurd (let h = for-form (for-came c) in let z : _≡_ {A = ℕ} 0 1 = cc in omega arith)
 for-came (one-deeper c (on-no w f e k y)) = absurd (let h = for-form (for-came c) in let z : _≡_ {A = ℕ} 0 1 = cc in omega arith)
+for-came (one-deeper c (an-arm w f e k y)) = absurd (let h = for-form (for-came c) in let z : _≡_ {A = ℕ} 0 1 = cc in omega arith)
 for-came {g} {t} {v} (one-deeper {d} {p} {n = n} {env = env} {x = x} c (a-for m z f e to h)) =
     in-sequence (subst (λ (b : Asked). Comes g t v d b p env x n) e c) f to h
 
@@ -209,6 +210,12 @@ module _ (i : Input) where
       branch-fair w true f e b = let r = yes-is v w .0 b in under-it _ (on-yes w f e (r .0) (r .1)) (after-none (counted s))
       branch-fair w false f e b = let r = no-is v w .0 b in under-it _ (on-no w f e (r .0) (r .1)) (after-none (counted s))
 
+      arm-fair : (w : ℕ) (c : Case) → formOf t p ≡ Match → Finds t v env (path p) w → asCase v w ≡ some c
+          → Fair i (onFound (nth (arms t p) (c .number)) stuck λ arm. visit i k a arm (env ++ c .inside ∷ []) (counted s))
+      arm-fair w c f e b =
+          let (r, is) = case-is v w c .0 b in
+          rw (← is) (found-fair _ _ λ arm y. under-it _ (an-arm w f e r y) (after-none (counted s)))
+
       -- a node of the sequence at p
       node-fair : (n : ℕ) (x : List ℕ) {c l m : ℕ} {y : List ℕ} (s₁ : State) → formOf t p ≡ Sequence → a ≡ piece (repetition n x)
           → ItemsTo g t v env n x 0 (nodes t p) c l y m → After (counted s) y m s₁ → Fair i (visitIn i (visit i k) (filling p n x) env l c s₁)
@@ -256,6 +263,7 @@ module _ (i : Input) where
       form-fair Sequence f = found-fair _ _ λ h b.
           let (n, x, r, e) = filled-by p a h b in
           rw e (items-fair (filling p n x) env 0 (nodes t p) (counted s) λ c l m y s₁ to z. node-fair n x s₁ f r to z)
+      form-fair Match f = found-fair _ _ λ w e. found-fair _ _ λ c b. arm-fair w c f (finds-exactly t v env _ w .0 e) b
       form-fair Unknown f = is-stuck
 
   reached-fair : (b : Bool) (d : ℕ) (a : Asked) (p : ℕ) (env : List ℕ) (next : State → End) (s : State) → Comes g t v d a p env (s .text) (s .steps) → d ≤ 201

@@ -8,8 +8,8 @@ use mathlib.Core.Option.{Option, some, Option·none-ne-some, Option·some-inject
 use lib.Dec.{eqb}
 use Rattle.rules.specs.Faults.{onFound}
 use Rattle.rules.specs.Records.{nth}
-use Rattle.rules.specs.Templates.{TypeForm, text, yes-no, list, fields, no-type, typeOf, variable, fieldNumbers}
-use Rattle.rules.specs.Typing.{asksClass, asksNonterminal, asksRepetition, asksItem, textClass, isYesNo, itemType, fieldTypes, typeAlong, pathType, argumentsFit}
+use Rattle.rules.specs.Templates.{TypeForm, text, yes-no, list, fields, cases, no-type, typeOf, variable, fieldNumbers}
+use Rattle.rules.specs.Typing.{asksClass, asksNonterminal, asksRepetition, asksItem, textClass, isYesNo, itemType, fieldTypes, typeAlong, pathType, argumentsFit, caseTypes}
 use Rattle.rules.specs.declared.Position.{Position}
 use Rattle.rules.specs.declared.Position.the-variants.{Class, Nonterminal, Repetition, Item, Nothing}
 use Rattle.laws.specs.Faults.{onFound-true, onFound-some, and-iff, eqb-iff}
@@ -23,6 +23,7 @@ text-class (text d) c e = ap text (Option·some-injective d c e)
 text-class yes-no c e = absurd (Option·none-ne-some c e)
 text-class (list n) c e = absurd (Option·none-ne-some c e)
 text-class (fields ns) c e = absurd (Option·none-ne-some c e)
+text-class (cases ns) c e = absurd (Option·none-ne-some c e)
 text-class no-type c e = absurd (Option·none-ne-some c e)
 
 pub yes-no-is : (f : TypeForm) → isYesNo f ≡ true → f ≡ yes-no
@@ -31,6 +32,7 @@ yes-no-is (text d) e = absurd (false≢true e)
 yes-no-is yes-no e = refl
 yes-no-is (list n) e = absurd (false≢true e)
 yes-no-is (fields ns) e = absurd (false≢true e)
+yes-no-is (cases ns) e = absurd (false≢true e)
 yes-no-is no-type e = absurd (false≢true e)
 
 pub item-type : (f : TypeForm) (n : ℕ) → itemType f ≡ some n → f ≡ list n
@@ -39,6 +41,7 @@ item-type (text d) n e = absurd (Option·none-ne-some n e)
 item-type yes-no n e = absurd (Option·none-ne-some n e)
 item-type (list m) n e = ap list (Option·some-injective m n e)
 item-type (fields ns) n e = absurd (Option·none-ne-some n e)
+item-type (cases ns) n e = absurd (Option·none-ne-some n e)
 item-type no-type n e = absurd (Option·none-ne-some n e)
 
 field-types : (f : TypeForm) (ns : List ℕ) → fieldTypes f ≡ some ns → f ≡ fields ns
@@ -47,7 +50,17 @@ field-types (text d) ns e = absurd (Option·none-ne-some ns e)
 field-types yes-no ns e = absurd (Option·none-ne-some ns e)
 field-types (list n) ns e = absurd (Option·none-ne-some ns e)
 field-types (fields ms) ns e = ap fields (Option·some-injective ms ns e)
+field-types (cases ms) ns e = absurd (Option·none-ne-some ns e)
 field-types no-type ns e = absurd (Option·none-ne-some ns e)
+
+pub case-types : (f : TypeForm) (ns : List ℕ) → caseTypes f ≡ some ns → f ≡ cases ns
+unfolding caseTypes
+case-types (text d) ns e = absurd (Option·none-ne-some ns e)
+case-types yes-no ns e = absurd (Option·none-ne-some ns e)
+case-types (list n) ns e = absurd (Option·none-ne-some ns e)
+case-types (fields ms) ns e = absurd (Option·none-ne-some ns e)
+case-types (cases ms) ns e = ap cases (Option·some-injective ms ns e)
+case-types no-type ns e = absurd (Option·none-ne-some ns e)
 
 -- paths
 along-found : (t js : List ℕ) (ty to : ℕ) → typeAlong t js ty ≡ some to → Along t js ty to

@@ -4,11 +4,11 @@ use Prim.Native.Nat.{ℕ}
 use mathlib.Core.List.{List, [], _∷_, _++_}
 use mathlib.Core.Option.{some}
 use lib.ListN.{length}
-use Rattle.rules.specs.Records.{kindOf, fieldB, textOf, nth}
+use Rattle.rules.specs.Records.{kindOf, fieldA, fieldB, textOf, nth}
 use Rattle.rules.specs.Grammar.{production, Element, elements}
-use Rattle.rules.specs.Templates.{text, yes-no, list, fields, typeOf, template, parameters, body, formOf, nodes, paths, path, first, second}
-use Rattle.rules.specs.Value.{children}
-use Rattle.rules.specs.declared.Form.the-variants.{Build, Literal, Place, Expand, If, For, Sequence}
+use Rattle.rules.specs.Templates.{text, yes-no, list, fields, cases, typeOf, template, parameters, body, formOf, nodes, paths, path, first, second, arms}
+use Rattle.rules.specs.Value.{children, content}
+use Rattle.rules.specs.declared.Form.the-variants.{Build, Literal, Place, Expand, If, For, Sequence, Match}
 use Rattle.rules.specs.declared.Position.{Position}
 use Rattle.rules.specs.declared.Position.the-variants.{Class, Nonterminal, Repetition, Item}
 use Rattle.laws.specs.Faults.{In}
@@ -40,9 +40,13 @@ pub data Fits (g t vars : List ℕ) (p : ℕ) : Position → Type 0 where
   a-for : (n ty item : ℕ) → formOf t p ≡ For → PathTyped t vars (path p) ty → typeOf t ty ≡ list item → Fits g t vars p (Item n)
   -- "a sequence"
   a-sequence : (n : ℕ) → formOf t p ≡ Sequence → Fits g t vars p (Repetition n)
+  -- 02 g: "A match stands where an if may stand"; "A missing or extra arm fails typing."
+  a-match : (at : Position) (n ty : ℕ) (tys : List ℕ) → formOf t p ≡ Match → AsksText at n → PathTyped t vars (path p) ty → typeOf t ty ≡ cases tys
+      → length (arms t p) ≡ length tys → Fits g t vars p at
 
 -- What stands directly below a node in a position: the types of its variables, and its own position. It stands there whether or not the node above it fits.
--- Where nothing says a position or a variable's type (for a child too many, or below a for over no list), the node above does not fit, and comes first.
+-- Where nothing says a position or a variable's type (for a child or an arm too many, or below a for over no list or a match on no variant), the node above
+-- does not fit, and comes first.
 pub data ChildNode (g t vars : List ℕ) (p : ℕ) : Position → List ℕ → ℕ → Position → Type 0 where
   -- a build's child, in the position of its element
   build-child : (at at′ : Position) (e : Element) (q c : ℕ) → formOf t p ≡ Build → production g (fieldB t p) ≡ some q
@@ -55,6 +59,9 @@ pub data ChildNode (g t vars : List ℕ) (p : ℕ) : Position → List ℕ → �
       → ChildNode g t vars p (Item n) (vars ++ item ∷ []) (first p) (Nonterminal n)
   -- "a sequence, whose items .."
   sequence-item : (n c : ℕ) → formOf t p ≡ Sequence → In c (nodes t p) → ChildNode g t vars p (Repetition n) vars c (Item n)
+  -- 02 g: "one for each case in order, each seeing one more variable, the case's content"
+  match-arm : (at : Position) (n ty j to c : ℕ) (tys : List ℕ) → formOf t p ≡ Match → AsksText at n → PathTyped t vars (path p) ty → typeOf t ty ≡ cases tys
+      → nth tys j ≡ some to → nth (arms t p) j ≡ some c → ChildNode g t vars p at (vars ++ to ∷ []) c (Nonterminal n)
 
 -- Where the nodes of the template at p stand: "A body's position is its template's nonterminal." "Variables are the parameters, then the loops from outside in."
 pub data Stands (g t : List ℕ) (p : ℕ) : List ℕ → ℕ → Position → Type 0 where
@@ -68,6 +75,8 @@ pub data OfForm (g t v : List ℕ) (ty w : ℕ) : Type 0 where
   a-yes-no : typeOf t ty ≡ yes-no → kindOf v w ≡ 2 → OfForm g t v ty w
   a-list : (item : ℕ) → typeOf t ty ≡ list item → kindOf v w ≡ 3 → OfForm g t v ty w
   a-record : (tys : List ℕ) → typeOf t ty ≡ fields tys → kindOf v w ≡ 4 → length (children v w) ≡ length tys → OfForm g t v ty w
+  -- 02 g: "it is of the variant if there is such a case"
+  a-case : (to : ℕ) (tys : List ℕ) → typeOf t ty ≡ cases tys → kindOf v w ≡ 5 → nth tys (fieldA v w) ≡ some to → OfForm g t v ty w
 
 -- What stands directly below a value that should be of type ty, and the type that it should be of: "whose children are all of its item type"; "in order, of that
 -- field's type".
@@ -75,6 +84,8 @@ pub data ChildValue (t v : List ℕ) (ty w : ℕ) : ℕ → ℕ → Type 0 where
   list-item : (item u : ℕ) → typeOf t ty ≡ list item → kindOf v w ≡ 3 → In u (children v w) → ChildValue t v ty w item u
   record-field : (tys : List ℕ) (j to u : ℕ) → typeOf t ty ≡ fields tys → kindOf v w ≡ 4 → nth tys j ≡ some to → nth (children v w) j ≡ some u
       → ChildValue t v ty w to u
+  -- 02 g: "and the child is of that case's type"
+  case-content : (to : ℕ) (tys : List ℕ) → typeOf t ty ≡ cases tys → kindOf v w ≡ 5 → nth tys (fieldA v w) ≡ some to → ChildValue t v ty w to (content w)
 
 -- The type that each value in the whole value should be of: "the declared type", and from there on
 pub data ShouldBe (t v : List ℕ) : ℕ → ℕ → Type 0 where

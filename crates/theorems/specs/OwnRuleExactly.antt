@@ -1,19 +1,19 @@
 -- A node's own rule and its children, exactly: the test of `rules` passes where the node fits its position, and what it looks at below are the node's children.
 use mathlib.Core.Path.{_≡_, refl, sym, _∙_, ap, subst}
 use mathlib.Core.Logic.{_↔_}
-use Prim.Native.Nat.{ℕ, suc, _+_}
+use Prim.Native.Nat.{ℕ, zero, suc, _+_}
 use mathlib.Core.List.{List, [], _∷_, _++_}
 use mathlib.Core.Bool.{Bool, true, false, false≢true}
-use mathlib.Core.Option.{some}
+use mathlib.Core.Option.{some, Option·none-ne-some, Option·some-injective}
 use native.Mathlib.Omega.{arith}
 use lib.ListN.{length}
 use Rattle.rules.specs.Faults.{onFound, exists}
-use Rattle.rules.specs.Records.{fieldB, fieldC, fieldD}
+use Rattle.rules.specs.Records.{fieldB, fieldC, fieldD, nth}
 use Rattle.rules.specs.Grammar.{plainOf, production, Element, keyword, lexeme, nonterminal, repetition, unknown}
-use Rattle.rules.specs.Templates.{typeOf, template, parameters, formOf, nodes, paths, path, first}
-use Rattle.rules.specs.Typing.{asksClass, asksNonterminal, asksRepetition, asksItem, positions, textClass, isYesNo, itemType, pathType, Site, site, suitsForm, suits, sites, sitesOf, sitesBelow, bodySite}
+use Rattle.rules.specs.Templates.{typeOf, template, parameters, formOf, nodes, paths, path, first, arms}
+use Rattle.rules.specs.Typing.{asksClass, asksNonterminal, asksRepetition, asksItem, positions, textClass, isYesNo, itemType, pathType, Site, site, suitsForm, suits, sites, sitesOf, sitesBelow, bodySite, caseTypes, armSites}
 use Rattle.rules.specs.declared.Form.{Form}
-use Rattle.rules.specs.declared.Form.the-variants.{Build, Literal, Place, Expand, If, For, Sequence, Unknown}
+use Rattle.rules.specs.declared.Form.the-variants.{Build, Literal, Place, Expand, If, For, Sequence, Match, Unknown}
 use Rattle.rules.specs.declared.Position.{Position}
 use Rattle.rules.specs.declared.Position.the-variants.{Nonterminal, Item}
 use Rattle.laws.specs.Faults.{In, here, later, in-map, exists-iff, onFound-true, and-iff, eqb-iff, Below, itself, under}
@@ -22,9 +22,9 @@ use Rattle.theorems.specs.Readings.{takes-is}
 use Rattle.theorems.specs.Lexemes.{lexeme-exactly}
 use Rattle.theorems.specs.Children.{Asks, asks-class, asks-nonterminal, asks-repetition, asks-nothing, OneEach, nothing-left, no-child-for, one-child-for, ChildFor, this-child, past-keyword, past-child}
 use Rattle.theorems.specs.Judgement.{PathTyped, Arguments}
-use Rattle.theorems.specs.OwnRule.{AsksText, Fits, a-build, a-literal, a-place, an-expand, an-if, a-for, a-sequence, ChildNode, build-child, first-branch, second-branch, loop-body, sequence-item, Stands, the-body, below}
+use Rattle.theorems.specs.OwnRule.{AsksText, Fits, a-build, a-literal, a-place, an-expand, an-if, a-for, a-sequence, ChildNode, build-child, first-branch, second-branch, loop-body, sequence-item, Stands, the-body, below, a-match, match-arm}
 use Rattle.theorems.specs.HeadByHead.{in-cons, map-in, found-in, below-more}
-use Rattle.theorems.specs.Lookups.{text-class, yes-no-is, item-type, path-exactly, arguments-found, found-arguments, asked-text, asked-same, text-asked}
+use Rattle.theorems.specs.Lookups.{text-class, yes-no-is, item-type, path-exactly, arguments-found, found-arguments, asked-text, asked-same, text-asked, case-types}
 use Rattle.theorems.specs.Lookups.{asked-class, asked-repetition, asked-item}
 
 -- The positions of a production's elements, one for each element that is no keyword
@@ -65,6 +65,10 @@ one-each (one-child-for e at c es cs a h) = rw (position-of es a) (ap suc (one-e
 length-nodes : (t : List ℕ) (p : ℕ) → length (nodes t p) ≡ fieldD t p
 unfolding nodes
 length-nodes t p = length-heads (fieldC t) (fieldD t p) (p + 1)
+
+length-arms : (t : List ℕ) (p : ℕ) → length (arms t p) ≡ fieldD t p
+unfolding arms
+length-arms t p = length-heads (fieldC t) (fieldD t p) (first p)
 
 -- The own rule, by the node's form
 abbrev pub FitsAt : List ℕ → List ℕ → Site → Type 0
@@ -109,10 +113,15 @@ form-fits g t For x f e =
     let (item, is) = exists-iff (itemType (typeOf t ty)) .0 r in
     rw (asked-item (x .position) n asked) (a-for n ty item f k (item-type _ item is))
 form-fits g t Sequence x f e = let (n, asked) = exists-iff (asksRepetition (x .position)) .0 e in rw (asked-repetition (x .position) n asked) (a-sequence n f)
+form-fits g t Match x f e =
+    let (n, asked, h) = onFound-true (asksNonterminal (x .position)) _ .0 e in
+    let (ty, k, r) = path-right t (x .vars) (path (x .node)) _ h in
+    let (tys, is, l) = onFound-true (caseTypes (typeOf t ty)) _ .0 r in
+    a-match (x .position) n ty tys f (asked-text (x .position) n asked) k (case-types _ tys is) (length-arms t (x .node) ∙ sym (eqb-iff _ _ .0 l))
 form-fits g t Unknown x f e = absurd (false≢true e)
 
 fits-form : {g t vars : List ℕ} {p : ℕ} {at : Position} → Fits g t vars p at → suits g t (site vars at p) ≡ true
-unfolding suits suitsForm site asksClass asksItem asksRepetition textClass isYesNo itemType onFound exists
+unfolding suits suitsForm site asksClass asksItem asksRepetition textClass isYesNo itemType caseTypes onFound exists
 fits-form {t = t} {p = p} (a-build at q f e a o) = rw (f, text-asked a, e, eqb-iff _ _ .1 refl) (eqb-iff _ _ .1 (one-each o ∙ length-nodes t p))
 fits-form {g = g} (a-literal c f l) = rw f (lexeme-exactly g c _ .1 l)
 fits-form {g} {t} {vars} {p} (a-place c d ty f h e k) = rw (f, path-exactly t vars (path p) ty .1 h, e) (eqb-iff (plainOf g c) d .1 (takes-is g c d .1 k))
@@ -120,6 +129,8 @@ fits-form (an-expand at q f e a as′) = rw (f, text-asked a, e, eqb-iff _ _ .1 
 fits-form {t = t} {vars} {p} (an-if at n ty f a h e) = rw (f, text-asked a, path-exactly t vars (path p) ty .1 h, e)
 fits-form {t = t} {vars} {p} (a-for n ty item f h e) = rw (f, path-exactly t vars (path p) ty .1 h, e)
 fits-form (a-sequence n f) = rw f
+fits-form {t = t} {vars} {p} (a-match at n ty tys f a h e l) =
+    rw (f, text-asked a, path-exactly t vars (path p) ty .1 h, e) (eqb-iff _ _ .1 (sym l ∙ length-arms t p))
 
 pub fits-exactly : (g t : List ℕ) (x : Site) → (suits g t x ≡ true) ↔ FitsAt g t x
 unfolding suits site
@@ -144,6 +155,21 @@ unfolding sites positions
 sites-in vars (this-child e at c es cs b) a = rw (position-of es a) (here _)
 sites-in vars (past-keyword x e c es cs k) a = sites-in vars k a
 sites-in vars (past-child e e′ at c c′ es cs b k) a = rw (position-of es b) (later _ _ (sites-in vars k a))
+
+in-arms : (P : Site → Type 0) (vars : List ℕ) (at : Position) (tys ps : List ℕ) {y : Site}
+    → ((j to c : ℕ) → nth tys j ≡ some to → nth ps j ≡ some c → P (site (vars ++ to ∷ []) at c)) → In y (armSites vars at tys ps) → P y
+unfolding armSites nth
+in-arms P vars at [] ps h i = elim i [ ]
+in-arms P vars at (ty ∷ tys) [] h i = elim i [ ]
+in-arms P vars at (ty ∷ tys) (p ∷ ps) h i = in-cons P (h 0 ty p refl refl) (λ z k. in-arms P vars at tys ps (λ j. h (suc j)) k) i
+
+arms-in : (vars : List ℕ) (at : Position) (tys ps : List ℕ) (j to c : ℕ) → nth tys j ≡ some to → nth ps j ≡ some c
+    → In (site (vars ++ to ∷ []) at c) (armSites vars at tys ps)
+unfolding armSites nth
+arms-in vars at [] ps j to c e f = absurd (Option·none-ne-some to e)
+arms-in vars at (ty ∷ tys) [] j to c e f = absurd (Option·none-ne-some c f)
+arms-in vars at (ty ∷ tys) (p ∷ ps) zero to c e f = rw (Option·some-injective ty to e, Option·some-injective p c f) (here _)
+arms-in vars at (ty ∷ tys) (p ∷ ps) (suc j) to c e f = later _ _ (arms-in vars at tys ps j to c e f)
 
 form-child : (g t : List ℕ) (f : Form) (x : Site) {y : Site} → formOf t (x .node) ≡ f → In y (sitesOf g t f x) → ChildAt g t x y
 unfolding sitesOf site
@@ -171,16 +197,24 @@ form-child g t Sequence x f i =
     map-in (ChildAt g t x) (site (x .vars) (Item n)) (nodes t (x .node))
     (λ c k. subst (λ (at : Position). ChildNode g t (x .vars) (x .node) at (x .vars) c (Item n)) (sym (asked-repetition (x .position) n asked))
     (sequence-item n c f k)) j
+form-child g t Match x f i =
+    let (n, asked, j) = found-in (asksNonterminal (x .position)) _ i in
+    let (ty, h, k) = found-in (pathType t (x .vars) (path (x .node))) _ j in
+    let (tys, is, l) = found-in (caseTypes (typeOf t ty)) _ k in
+    in-arms (ChildAt g t x) (x .vars) (Nonterminal n) tys (arms t (x .node))
+    (λ m to c. match-arm (x .position) n ty m to c tys f (asked-text (x .position) n asked) (path-exactly t _ _ ty .0 h) (case-types _ tys is)) l
 form-child g t Unknown x f i = elim i [ ]
 
 child-form : {g t vars vars′ : List ℕ} {p c : ℕ} {at at′ : Position} → ChildNode g t vars p at vars′ c at′
     → In (site vars′ at′ c) (sitesBelow g t (site vars at p))
-unfolding sitesBelow sitesOf site asksItem asksRepetition itemType onFound
+unfolding sitesBelow sitesOf site asksItem asksRepetition itemType caseTypes onFound
 child-form {vars = vars} (build-child at at′ el q c f e k a) = rw (f, e) (sites-in vars k a)
 child-form (first-branch at n f a) = rw (f, text-asked a) (here _)
 child-form (second-branch at n f a) = rw (f, text-asked a) (later _ _ (here _))
 child-form {t = t} {vars} {p = p} (loop-body n ty item f h e) = rw (f, path-exactly t vars (path p) ty .1 h, e) (here _)
 child-form {vars = vars} (sequence-item n c f i) = rw f (in-map (site vars (Item n)) i)
+child-form {t = t} {vars} {p = p} (match-arm at n ty j to c tys f a h e k l) =
+    rw (f, text-asked a, path-exactly t vars (path p) ty .1 h, e) (arms-in vars (Nonterminal n) tys (arms t p) j to c k l)
 
 pub child-exactly : (g t : List ℕ) (x y : Site) → In y (sitesBelow g t x) ↔ ChildAt g t x y
 unfolding sitesBelow site

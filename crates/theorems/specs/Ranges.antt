@@ -6,21 +6,21 @@ use mathlib.Core.Bool.{Bool, true, false}
 use mathlib.Core.Option.{Option, none, some}
 use native.Mathlib.Omega.{arith}
 use lib.Dec.{eqb}
-use borrow.Author.Tests.{eqb-true, le-leb}
+use borrow.Author.Tests.{eqb-true, ne-eqb, le-leb}
 use Rattle.rules.specs.Faults.{onFound, onlyIf}
-use Rattle.rules.specs.Records.{kindOf, fieldC, heads}
-use Rattle.rules.specs.Templates.{templatesSize, types, templates, TypeForm, text, yes-no, list, fields, no-type, typeOf, formNumbered, formOf, nodes, first, second, nodesOf, nodesBelow}
-use Rattle.rules.specs.Value.{valueSize, children, valuesBelow, asList, asRecord}
+use Rattle.rules.specs.Records.{kindOf, fieldC, heads, nth}
+use Rattle.rules.specs.Templates.{templatesSize, types, templates, TypeForm, text, yes-no, list, fields, cases, no-type, typeOf, formNumbered, formOf, nodes, first, second, arms, nodesOf, nodesBelow}
+use Rattle.rules.specs.Value.{valueSize, children, content, valuesBelow, asList, asRecord, asCase}
 use Rattle.rules.specs.Limits.{Looped, looped, loopedBelow}
 use Rattle.rules.specs.Grammar.{grammarSize, classes, production, productions}
-use Rattle.rules.specs.Typing.{asksNonterminal, asksRepetition, asksItem, itemType, pathType, Site, site, sites, sitesOf, sitesBelow, Typed, typed, paired, typedOf, typedBelow}
+use Rattle.rules.specs.Typing.{asksNonterminal, asksRepetition, asksItem, itemType, caseTypes, pathType, Site, site, sites, armSites, sitesOf, sitesBelow, Typed, typed, paired, typedOf, typedBelow}
 use Rattle.rules.specs.declared.Form.{Form}
-use Rattle.rules.specs.declared.Form.the-variants.{Build, Literal, Place, Expand, If, For, Sequence, Unknown}
+use Rattle.rules.specs.declared.Form.the-variants.{Build, Literal, Place, Expand, If, For, Sequence, Match, Unknown}
 use Rattle.rules.specs.declared.Position.{Position}
 use Rattle.rules.specs.declared.Position.the-variants.{Nonterminal, Item}
 use Rattle.laws.specs.Faults.{In, here, later, Below, itself, under}
 use Rattle.theorems.specs.Streams.{WellSized}
-use Rattle.theorems.specs.LaidOut.{InRow, no-thing, one-thing, ClassAt, ProductionAt, GrammarLaid, TypeAt, TemplateAt, TemplatesLaid, PathAt, NodeAt, a-build, a-literal, a-place, an-expand, an-if, a-for, a-sequence, NodesAt, no-node, one-node, ValueAt, a-text, a-yes-no, a-list, a-record, ValuesAt, no-value, one-value}
+use Rattle.theorems.specs.LaidOut.{InRow, no-thing, one-thing, ClassAt, ProductionAt, GrammarLaid, TypeAt, TemplateAt, TemplatesLaid, PathAt, NodeAt, a-build, a-literal, a-place, an-expand, an-if, a-for, a-sequence, a-match, NodesAt, no-node, one-node, ValueAt, a-text, a-yes-no, a-list, a-record, a-case, ValuesAt, no-value, one-value}
 use Rattle.theorems.specs.Sizes.{row-grows, each-numbered, class-size, production-size, type-size, template-size, path-size, node-size, node-grows, value-size, value-grows}
 use Rattle.theorems.specs.Heads.{classes-are, productions-are, types-are, templates-are}
 use Rattle.theorems.specs.Least.{Rows, no-row, one-row, rows-ordered, rows-wide, From, rows-heads, Standing}
@@ -95,7 +95,7 @@ after-path {t} {n} {q} {r} p a ns =
 
 -- what stands directly below a node
 node-rest : {t : List ℕ} {p q : ℕ} → NodeAt t p q → Rows (From (NodeAt t)) (nodesBelow t p) (p + 1) q
-unfolding nodesBelow formOf formNumbered nodesOf nodes first second heads
+unfolding nodesBelow formOf formNumbered nodesOf nodes first second arms heads
 node-rest (a-build p q h ns) = rw (h .form-is) (nodes-rows ns)
 node-rest (a-literal p q h d z e) = rw (h .form-is) (no-row (p + 1) q (omega arith))
 node-rest (a-place p q h b d r) = rw (h .form-is) (no-row (p + 1) q (let e = r .end in omega arith))
@@ -103,6 +103,7 @@ node-rest (an-expand p q h rs) = rw (h .form-is) (no-row (p + 1) q (let l = row-
 node-rest (an-if p q r h b d a ns) = rw (h .form-is) (after-path p a ns)
 node-rest (a-for p q r h b d a ns) = rw (h .form-is) (after-path p a ns)
 node-rest (a-sequence p q h b ns) = rw (h .form-is) (nodes-rows ns)
+node-rest (a-match p q r h b a ns) = rw (h .form-is) (after-path p a ns)
 
 pub nodes-standing : (t : List ℕ) → Standing (nodesBelow t) (λ p. p) (From (NodeAt t))
 nodes-standing t = record {
@@ -121,11 +122,12 @@ values-rows {v} ws = rows-heads (valueSize v) (λ p q. value-size) (values-row w
 
 -- what stands directly below a value
 value-rest : {v : List ℕ} {p q : ℕ} → ValueAt v p q → Rows (From (ValueAt v)) (valuesBelow v p) (p + 1) q
-unfolding valuesBelow children
+unfolding valuesBelow children content heads
 value-rest (a-text p q k a d c z e) = rw k (no-row (p + 1) q (omega arith))
 value-rest (a-yes-no p q k a b c d e) = rw k (no-row (p + 1) q (omega arith))
 value-rest (a-list p q k a b c ws) = rw k (values-rows ws)
 value-rest (a-record p q k a b c ws) = rw k (values-rows ws)
+value-rest {v} (a-case p q k b d c x) = rw k (values-rows (one-value 0 (p + 1) q q x (no-value q)))
 
 pub values-standing : (v : List ℕ) → Standing (valuesBelow v) (λ p. p) (From (ValueAt v))
 values-standing v = record {
@@ -151,6 +153,12 @@ leading-sites vars [] ps = stops ps
 leading-sites vars (a ∷ as′) [] = stops []
 leading-sites vars (a ∷ as′) (p ∷ ps) = goes-on _ _ p ps refl (leading-sites vars as′ ps)
 
+leading-arms : (vars : List ℕ) (at : Position) (tys ps : List ℕ) → Leading (λ x. x .node) (armSites vars at tys ps) ps
+unfolding armSites site
+leading-arms vars at [] ps = stops ps
+leading-arms vars at (ty ∷ tys) [] = stops []
+leading-arms vars at (ty ∷ tys) (p ∷ ps) = goes-on _ _ p ps refl (leading-arms vars at tys ps)
+
 sites-of : (g t : List ℕ) (f : Form) (x : Site) → Leading (λ x. x .node) (sitesOf g t f x) (nodesOf t f (x .node))
 unfolding sitesOf nodesOf site
 sites-of g t Build x = leading-found (production g _) _ (λ q. leading-sites (x .vars) _ _)
@@ -162,6 +170,9 @@ sites-of g t For x =
     leading-found (asksItem _) _ λ n. leading-found (pathType t _ _) _ λ ty. leading-found (itemType _) _ λ item.
     goes-on _ [] _ [] refl (stops [])
 sites-of g t Sequence x = leading-found (asksRepetition _) _ (λ n. leading-map (λ x. x .node) (site (x .vars) (Item n)) (λ p. refl) _)
+sites-of g t Match x =
+    leading-found (asksNonterminal _) _ λ n. leading-found (pathType t _ _) _ λ ty. leading-found (caseTypes _) _ λ tys.
+    leading-arms (x .vars) (Nonterminal n) tys _
 sites-of g t Unknown x = stops []
 
 pub sites-leading : (g t : List ℕ) (x : Site) → Leading (λ x. x .node) (sitesBelow g t x) (nodesBelow t (x .node))
@@ -175,23 +186,30 @@ leading-paired [] ws = stops ws
 leading-paired (ty ∷ tys) [] = stops []
 leading-paired (ty ∷ tys) (w ∷ ws) = goes-on _ _ w ws refl (leading-paired tys ws)
 
-leading-if : {A : Type 0} {place : A → ℕ} (b : Bool) (ws : List ℕ) (f : List ℕ → List A) {ps : List ℕ} → (b ≡ true → Leading place (f ws) ps)
+leading-if : {A B : Type 0} {place : A → ℕ} (b : Bool) (ws : B) (f : B → List A) {ps : List ℕ} → (b ≡ true → Leading place (f ws) ps)
     → Leading place (onFound (onlyIf b ws) [] f) ps
 unfolding onFound onlyIf
 leading-if true ws f h = h refl
 leading-if false ws f h = stops _
 
-has-children : (v : List ℕ) (w kind : ℕ) → 3 ≤ kind → eqb (kindOf v w) kind ≡ true → valuesBelow v w ≡ children v w
+has-children : (v : List ℕ) (w kind : ℕ) → 3 ≤ kind → kind ≤ 4 → eqb (kindOf v w) kind ≡ true → valuesBelow v w ≡ children v w
 unfolding valuesBelow
-has-children v w kind l e = let k = eqb-true (kindOf v w) kind e in rw (le-leb 3 (kindOf v w) (omega arith))
+has-children v w kind l m e =
+    let k = eqb-true (kindOf v w) kind e in rw (ne-eqb (kindOf v w) 5 (λ z. omega arith), le-leb 3 (kindOf v w) (omega arith))
+
+has-content : (v : List ℕ) (w : ℕ) → eqb (kindOf v w) 5 ≡ true → valuesBelow v w ≡ content w ∷ []
+unfolding valuesBelow
+has-content v w e = rw e
 
 typed-of : (v : List ℕ) (f : TypeForm) (w : ℕ) → Leading (λ x. x .value) (typedOf v f w) (valuesBelow v w)
-unfolding typedOf typed asList asRecord
+unfolding typedOf typed asList asRecord asCase
 typed-of v (text c) w = stops _
 typed-of v yes-no w = stops _
 typed-of v (list ty) w =
-    leading-if (eqb (kindOf v w) 3) _ _ λ e. rw (has-children v w 3 (omega arith) e) (leading-map (λ x. x .value) (typed ty) (λ p. refl) _)
-typed-of v (fields tys) w = leading-if (eqb (kindOf v w) 4) _ _ λ e. rw (has-children v w 4 (omega arith) e) (leading-paired tys _)
+    leading-if (eqb (kindOf v w) 3) _ _ λ e. rw (has-children v w 3 (omega arith) (omega arith) e) (leading-map (λ x. x .value) (typed ty) (λ p. refl) _)
+typed-of v (fields tys) w = leading-if (eqb (kindOf v w) 4) _ _ λ e. rw (has-children v w 4 (omega arith) (omega arith) e) (leading-paired tys _)
+typed-of v (cases tys) w =
+    leading-if (eqb (kindOf v w) 5) _ _ λ e. rw (has-content v w e) (leading-found (nth tys _) _ λ ty. goes-on _ [] _ [] refl (stops []))
 typed-of v no-type w = stops _
 
 pub typed-leading : (t v : List ℕ) (x : Typed) → Leading (λ x. x .value) (typedBelow t v x) (valuesBelow v (x .value))

@@ -10,7 +10,7 @@ use lib.Dec.{eqb, ltb}
 use Rattle.rules.specs.Faults.{need, both, every, tree, onFound, onlyIf, exists, at}
 use Rattle.rules.specs.Records.{kindOf, fieldB, fieldD, textOf, numbered}
 use Rattle.rules.specs.Grammar.{class, plainClass, escapedClass, plainOf, production, elements, Element, keyword, lexeme, nonterminal, repetition, unknown, nonterminalExists}
-use Rattle.rules.specs.Templates.{TypeForm, text, yes-no, list, fields, no-type, type, typeAt, typeOf, types, fieldHeads, template, templates, parameterHeads, body, formOf, nodes, nodesBelow, path}
+use Rattle.rules.specs.Templates.{TypeForm, text, yes-no, list, fields, cases, no-type, type, typeAt, typeOf, types, fieldHeads, template, templates, parameterHeads, body, formOf, nodes, nodesBelow, path}
 use Rattle.rules.specs.Value.{asText}
 use Rattle.rules.specs.Answers.{input}
 use Rattle.rules.specs.Escape.{escape, unescaped}
@@ -23,10 +23,10 @@ use Rattle.rules.specs.Walk.{State, start, End, stuck, pathValue, pieces, write
 use Rattle.rules.specs.Derivation.{Derives, produced, Pieces, no-element, one-piece, Piece, own-bytes, a-lexeme, an-escaped-lexeme, derived, repeated}
 use Rattle.rules.specs.Derivation.{Row, no-text, some-texts, Texts, last-text, next-text}
 use Rattle.rules.specs.declared.Form.{Form}
-use Rattle.rules.specs.declared.Form.the-variants.{Build, Literal, Place, Expand, If, For, Sequence, Unknown}
+use Rattle.rules.specs.declared.Form.the-variants.{Build, Literal, Place, Expand, If, For, Sequence, Match, Unknown}
 use Rattle.laws.specs.Sorts.{escaped-class-iff}
 use Rattle.theorems.specs.Places.{PlaceWrites, place-exactly}
-use Rattle.theorems.specs.Evaluation.{Evaluates, build, literal, place, expand, then, else, sequence, Builds, own-bytes as own-bytes-built, no-element as nothing-built, next-child}
+use Rattle.theorems.specs.Evaluation.{Evaluates, build, literal, place, expand, then, else, sequence, Builds, own-bytes as own-bytes-built, no-element as nothing-built, next-child, match}
 use Rattle.theorems.specs.Evaluation.{Items, no-item, one-item, for, Loops, no-turn, one-turn, EvaluatesSet}
 
 pub record ReadAlike (g g′ : List ℕ) : Type 0 where
@@ -117,6 +117,7 @@ module _ (g g′ : List ℕ) (r : ReadAlike g g′) where
           | then f w k y (b → h) ↦ then f w k y h
           | else f w k y (b → h) ↦ else f w k y h
           | sequence f (b → h) ↦ sequence f h
+          | match f w k a (b → e) ↦ match f w k a e
           | nothing-built ↦ nothing-built
           | own-bytes-built (b → h) ↦ own-bytes-built h
           | next-child a (b → e) (c → h) ↦ next-child a e h
@@ -138,6 +139,7 @@ module _ (g g′ : List ℕ) (r : ReadAlike g g′) where
     type-named-alike yes-no = refl
     type-named-alike (list n) = refl
     type-named-alike (fields ns) = refl
+    type-named-alike (cases ns) = refl
     type-named-alike no-type = refl
 
     form-named-alike : (f : Form) (n : ℕ) → formNamed g t f n ≡ formNamed g′ t f n
@@ -149,6 +151,7 @@ module _ (g g′ : List ℕ) (r : ReadAlike g g′) where
     form-named-alike If n = refl
     form-named-alike For n = refl
     form-named-alike Sequence n = refl
+    form-named-alike Match n = refl
     form-named-alike Unknown n = refl
 
     template-names-alike : (p : ℕ) → templateNames g t p ≡ templateNames g′ t p
@@ -178,6 +181,7 @@ module _ (g g′ : List ℕ) (r : ReadAlike g g′) where
     suits-alike If x = refl
     suits-alike For x = refl
     suits-alike Sequence x = refl
+    suits-alike Match x = refl
     suits-alike Unknown x = refl
 
     sites-alike : (f : Form) (x : Site) → sitesOf g t f x ≡ sitesOf g′ t f x
@@ -191,6 +195,7 @@ module _ (g g′ : List ℕ) (r : ReadAlike g g′) where
     sites-alike If x = refl
     sites-alike For x = refl
     sites-alike Sequence x = refl
+    sites-alike Match x = refl
     sites-alike Unknown x = refl
 
     pub typing-alike : templatesTyping g t ≡ templatesTyping g′ t
@@ -205,6 +210,7 @@ module _ (g g′ : List ℕ) (r : ReadAlike g g′) where
     form-alike v yes-no w = refl
     form-alike v (list ty) w = refl
     form-alike v (fields tys) w = refl
+    form-alike v (cases tys) w = refl
     form-alike v no-type w = refl
 
     pub value-alike : (v : List ℕ) → valueTyping g t v ≡ valueTyping g′ t v
@@ -228,6 +234,7 @@ module _ (g g′ : List ℕ) (r : ReadAlike g g′) where
     form-walked For go (piece e) p env s = refl
     form-walked For go (items f n) p env s = refl
     form-walked Sequence go a p env s = refl
+    form-walked Match go a p env s = refl
     form-walked Unknown go a p env s = refl
 
     visit-alike : (k : ℕ) (a : Asked) (p : ℕ) (env : List ℕ) (s : State) → visit (input g t v fuel out) k a p env s ≡ visit (input g′ t v fuel out) k a p env s

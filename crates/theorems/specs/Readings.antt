@@ -8,7 +8,7 @@ use native.Mathlib.Omega.{arith}
 use Rattle.rules.specs.Faults.{onFound}
 use Rattle.rules.specs.Records.{kindOf, fieldA, fieldB, fieldC, textOf}
 use Rattle.rules.specs.Grammar.{class, plainClass, escapedClass, plainOf, Element, keyword, lexeme, nonterminal, repetition, unknown, elementNumbered, elementAt}
-use Rattle.rules.specs.Templates.{TypeForm, text, yes-no, list, fields, fieldHeads, typeNumbered, typeAt}
+use Rattle.rules.specs.Templates.{TypeForm, text, yes-no, list, fields, cases, fieldHeads, typeNumbered, typeAt}
 use Rattle.laws.specs.Sorts.{plain-class-iff, escaped-class-iff}
 
 -- "1 class: a number ..", which is a plain one; 02 c: "Grammar record 5 declares an escaped class: a its number in the common row of classes,
@@ -84,21 +84,24 @@ pub element-is : (g : List ℕ) (e : ℕ) → ElementIs g e (elementAt g e)
 unfolding elementAt
 element-is g e = numbered-is g e (fieldA g e) refl
 
--- "1 type ..: a = 0 text of class b, 1 yes/no, 2 list of type b, 3 record of d fields. 2 field: type b".
+-- "1 type ..: a = 0 text of class b, 1 yes/no, 2 list of type b, 3 record of d fields. 2 field: type b"; 02 g: "Type form 4 is a variant with d cases ..,
+-- one field record each".
 pub data TypeIs (t : List ℕ) (p : ℕ) : TypeForm → Type 0 where
   a-text : fieldA t p ≡ 0 → TypeIs t p (text (fieldB t p))
   a-yes-no : fieldA t p ≡ 1 → TypeIs t p yes-no
   a-list : fieldA t p ≡ 2 → TypeIs t p (list (fieldB t p))
   a-record : fieldA t p ≡ 3 → TypeIs t p (fields (map (fieldB t) (fieldHeads t p)))
+  a-variant : fieldA t p ≡ 4 → TypeIs t p (cases (map (fieldB t) (fieldHeads t p)))
 
-form-is : (t : List ℕ) (p a : ℕ) → fieldA t p ≡ a → a ≤ 3 → TypeIs t p (typeNumbered t a p)
+form-is : (t : List ℕ) (p a : ℕ) → fieldA t p ≡ a → a ≤ 4 → TypeIs t p (typeNumbered t a p)
 unfolding typeNumbered
 form-is t p zero h l = a-text h
 form-is t p (suc zero) h l = a-yes-no h
 form-is t p (suc (suc zero)) h l = a-list h
 form-is t p (suc (suc (suc zero))) h l = a-record h
-form-is t p (suc (suc (suc (suc a)))) h l = absurd (omega arith)
+form-is t p (suc (suc (suc (suc zero)))) h l = a-variant h
+form-is t p (suc (suc (suc (suc (suc a))))) h l = absurd (omega arith)
 
-pub type-is : (t : List ℕ) (p : ℕ) → fieldA t p ≤ 3 → TypeIs t p (typeAt t p)
+pub type-is : (t : List ℕ) (p : ℕ) → fieldA t p ≤ 4 → TypeIs t p (typeAt t p)
 unfolding typeAt
 type-is t p l = form-is t p (fieldA t p) refl l

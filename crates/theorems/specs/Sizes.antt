@@ -123,12 +123,14 @@ type-kind (TypeAt.a-text p k a c d) = k
 type-kind (TypeAt.a-yes-no p k a b c d) = k
 type-kind (TypeAt.a-list p k a c d) = k
 type-kind (TypeAt.a-record p q k a b c fs) = k
+type-kind (TypeAt.a-variant p q k a b c l m fs) = k
 
 pub type-fields : {t : List ℕ} {p q : ℕ} → TypeAt t p q → q ≡ p + (1 + fieldD t p)
 type-fields (TypeAt.a-text p k a c d) = omega arith
 type-fields (TypeAt.a-yes-no p k a b c d) = omega arith
 type-fields (TypeAt.a-list p k a c d) = omega arith
 type-fields (TypeAt.a-record p q k a b c fs) = let e = row-of-ones (λ p q. naming-size) fs in omega arith
+type-fields (TypeAt.a-variant p q k a b c l m fs) = let e = row-of-ones (λ p q. naming-size) fs in omega arith
 
 pub type-size : {t : List ℕ} {p q : ℕ} → TypeAt t p q → q ≡ p + templatesSize t p
 unfolding templatesSize
@@ -149,6 +151,7 @@ node-size (NodeAt.an-expand p q h ps) = sym (h .size)
 node-size (NodeAt.an-if p q r h b d s ns) = sym (h .size)
 node-size (NodeAt.a-for p q r h b d s ns) = sym (h .size)
 node-size (NodeAt.a-sequence p q h b ns) = sym (h .size)
+node-size (NodeAt.a-match p q r h b s ns) = sym (h .size)
 
 -- a node takes a record at least, and so does a value
 mutual
@@ -160,6 +163,7 @@ mutual
   node-grows (NodeAt.an-if p q r h b d s ns) = let l = nodes-grow ns in let e = s .end in omega arith
   node-grows (NodeAt.a-for p q r h b d s ns) = let l = nodes-grow ns in let e = s .end in omega arith
   node-grows (NodeAt.a-sequence p q h b ns) = let l = nodes-grow ns in omega arith
+  node-grows (NodeAt.a-match p q r h b s ns) = let l = nodes-grow ns in let e = s .end in omega arith
 
   pub nodes-grow : {t : List ℕ} {n p q : ℕ} → NodesAt t n p q → p + n ≤ q
   nodes-grow (NodesAt.no-node p) = omega arith
@@ -171,6 +175,7 @@ value-size {v} (ValueAt.a-text p q k a d s z e) = rw (ne-eqb (kindOf v p) 2 (λ 
 value-size {v} (ValueAt.a-yes-no p q k a b c d e) = rw (eq-eqb (kindOf v p) 2 k) e
 value-size {v} (ValueAt.a-list p q k a b s vs) = rw (ne-eqb (kindOf v p) 2 (λ i. omega arith)) (sym s)
 value-size {v} (ValueAt.a-record p q k a b s vs) = rw (ne-eqb (kindOf v p) 2 (λ i. omega arith)) (sym s)
+value-size {v} (ValueAt.a-case p q k b d s x) = rw (ne-eqb (kindOf v p) 2 (λ i. omega arith)) (sym s)
 
 mutual
   pub value-grows : {v : List ℕ} {p q : ℕ} → ValueAt v p q → p < q
@@ -178,6 +183,7 @@ mutual
   value-grows (ValueAt.a-yes-no p q k a b c d e) = omega arith
   value-grows (ValueAt.a-list p q k a b s vs) = let l = values-grow vs in omega arith
   value-grows (ValueAt.a-record p q k a b s vs) = let l = values-grow vs in omega arith
+  value-grows (ValueAt.a-case p q k b d s x) = let l = value-grows x in omega arith
 
   pub values-grow : {v : List ℕ} {n p q : ℕ} → ValuesAt v n p q → p + n ≤ q
   values-grow (ValuesAt.no-value p) = omega arith

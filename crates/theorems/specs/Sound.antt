@@ -10,8 +10,8 @@ use lib.ListN.{length}
 use Rattle.rules.specs.Faults.{onFound}
 use Rattle.rules.specs.Records.{fieldB, nth}
 use Rattle.rules.specs.Grammar.{Element, lexeme, nonterminal}
-use Rattle.rules.specs.Templates.{TypeForm, text, yes-no, list, fields, no-type, typeOf, template, parameters, body, formOf, isFor}
-use Rattle.rules.specs.Value.{asText, asYesNo, asList, asRecord}
+use Rattle.rules.specs.Templates.{TypeForm, text, yes-no, list, fields, cases, no-type, typeOf, template, parameters, body, formOf, isFor}
+use Rattle.rules.specs.Value.{asText, asYesNo, asList, asRecord, asCase, Case}
 use Rattle.rules.specs.Limits.{deepest}
 use Rattle.rules.specs.Typing.{site, bodySite, templatesTyping, typed, valueTyping}
 use Rattle.rules.specs.Walk.{Input, State, start, too-deep, End, done, stuck, andThen, valueAlong, pathValue, pathValues, write, withChild, pieces}
@@ -30,9 +30,9 @@ use Rattle.theorems.specs.Evaluation.{BeforeItem, the-first, another}
 use Rattle.theorems.specs.Neighbours.{Further, no-more, further-one, further-append, further-row}
 use Rattle.theorems.specs.Judgement.{Along, arrived, a-field, PathTyped, Arguments, no-argument, an-argument}
 use Rattle.theorems.specs.Places.{place-text, place-lexeme}
-use Rattle.theorems.specs.Judgement.{Suits, by-build, by-literal, by-place, by-expand, by-if, by-for, by-sequence, as-item}
-use Rattle.theorems.specs.Judgement.{Fills, all-filled, no-child, a-child, Items, no-item, an-item}
-use Rattle.theorems.specs.Judgement.{OfType, of-text, of-yes-no, of-list, of-record, AllOf, none-left, one-of, EachOf, no-field}
+use Rattle.theorems.specs.Judgement.{Suits, by-build, by-literal, by-place, by-expand, by-if, by-for, by-sequence, as-item, by-match}
+use Rattle.theorems.specs.Judgement.{Fills, all-filled, no-child, a-child, Items, no-item, an-item, Arms, no-arm, an-arm}
+use Rattle.theorems.specs.Judgement.{OfType, of-text, of-yes-no, of-list, of-record, of-case, AllOf, none-left, one-of, EachOf, no-field}
 use Rattle.theorems.specs.TypingExactly.{misfit-suits, declared-exactly}
 use Rattle.theorems.specs.ValueExactly.{mistyped-of}
 use Rattle.theorems.specs.Finds.{kind-of}
@@ -43,26 +43,28 @@ Shaped g t v w (text c) = (x : List ℕ) × (asText v w ≡ some x) × PlainLexe
 Shaped g t v w yes-no = (yes? : Bool) × (asYesNo v w ≡ some yes?)
 Shaped g t v w (list ty) = (ws : List ℕ) × (asList v w ≡ some ws) × AllOf g t v ty ws
 Shaped g t v w (fields tys) = (ws : List ℕ) × (asRecord v w ≡ some ws) × EachOf g t v tys ws
+Shaped g t v w (cases tys) = (c : Case) × (asCase v w ≡ some c) × (to : ℕ) × (nth tys (c .number) ≡ some to) × OfType g t v to (c .inside)
 Shaped g t v w no-type = ⊥
 
 of-form : {g t v : List ℕ} {ty w : ℕ} → OfType g t v ty w → Shaped g t v w (typeOf t ty)
-unfolding asText asYesNo asList asRecord
+unfolding asText asYesNo asList asRecord asCase
 of-form {v} (of-text ty w c f k e) = rw f (_, kind-of v w 1 _ k, e)
 of-form {v} (of-yes-no ty w f k) = rw f (_, kind-of v w 2 _ k)
 of-form {v} (of-list ty w item f k e) = rw f (_, kind-of v w 3 _ k, e)
 of-form {v} (of-record ty w tys f k e) = rw f (_, kind-of v w 4 _ k, e)
+of-form {v} (of-case ty w to tys f k e o) = rw f (_, kind-of v w 5 _ k, to, e, o)
 
-shaped : {g t v : List ℕ} {ty w : ℕ} (f : TypeForm) → OfType g t v ty w → typeOf t ty ≡ f → Shaped g t v w f
+pub shaped : {g t v : List ℕ} {ty w : ℕ} (f : TypeForm) → OfType g t v ty w → typeOf t ty ≡ f → Shaped g t v w f
 shaped {g} {t} {v} {w = w} f o e = subst (Shaped g t v w) e (of-form o)
 
--- the variables' values are of the variables' types, one by one; a loop's item is one more
+-- the variables' values are of the variables' types, one by one; a loop's item or a case's content is one more
 each-nth : {g t v tys ws : List ℕ} (j ty : ℕ) → EachOf g t v tys ws → nth tys j ≡ some ty → (w : ℕ) × (nth ws j ≡ some w) × OfType g t v ty w
 unfolding nth
 each-nth j ty no-field e = absurd (Option·none-ne-some ty e)
 each-nth {g} {t} {v} zero ty (a-field ty′ w tys ws o h) e = (w, refl, subst (λ x. OfType g t v x w) (Option·some-injective ty′ ty e) o)
 each-nth (suc j) ty (a-field ty′ w tys ws o h) e = each-nth j ty h e
 
-each-more : {g t v tys ws : List ℕ} {ty w : ℕ} → EachOf g t v tys ws → OfType g t v ty w → EachOf g t v (tys ++ ty ∷ []) (ws ++ w ∷ [])
+pub each-more : {g t v tys ws : List ℕ} {ty w : ℕ} → EachOf g t v tys ws → OfType g t v ty w → EachOf g t v (tys ++ ty ∷ []) (ws ++ w ∷ [])
 each-more {ty} {w} no-field o = a-field ty w [] [] o no-field
 each-more (a-field ty w tys ws o h) o′ = a-field ty w _ _ o (each-more h o′)
 
@@ -76,14 +78,14 @@ along-of (a-field j ty next to js tys f e h) o =
     let u = along-of h (c .2) in
     (u .0, rw (r .1, c .1) (u .1), u .2)
 
-path-of : {g t v vars env : List ℕ} {p ty : ℕ} → PathTyped t vars p ty → EachOf g t v vars env → (w : ℕ) × (pathValue t v env p ≡ some w) × OfType g t v ty w
+pub path-of : {g t v vars env : List ℕ} {p ty : ℕ} → PathTyped t vars p ty → EachOf g t v vars env → (w : ℕ) × (pathValue t v env p ≡ some w) × OfType g t v ty w
 unfolding pathValue onFound
 path-of e h =
     let c = each-nth _ _ h (e .variable-there) in
     let u = along-of (e .along) (c .2) in
     (u .0, rw (c .1) (u .1), u .2)
 
-arguments-of : {g t v vars env ps tys : List ℕ} → Arguments t vars ps tys → EachOf g t v vars env
+pub arguments-of : {g t v vars env ps tys : List ℕ} → Arguments t vars ps tys → EachOf g t v vars env
     → (ws : List ℕ) × (pathValues t v env ps ≡ some ws) × EachOf g t v tys ws
 unfolding pathValues onFound
 arguments-of no-argument h = ([], refl, no-field)
@@ -119,6 +121,15 @@ either-suits : {g t vars : List ℕ} {p q : ℕ} {at : Position} (b : Bool) → 
 either-suits true h k = h
 either-suits false h k = k
 
+-- there is an arm for each case, and it suits its position with that case's content as one variable more
+pub arm-there : {g t vars tys ps : List ℕ} {n : ℕ} (j to : ℕ) → Arms g t vars n tys ps → nth tys j ≡ some to
+    → (arm : ℕ) × (nth ps j ≡ some arm) × Suits g t (vars ++ to ∷ []) arm (Nonterminal n)
+unfolding nth
+arm-there j to (no-arm vars n) e = absurd (Option·none-ne-some to e)
+arm-there {g} {t} zero to (an-arm vars n ty p tys ps su as′) e =
+    (p, refl, subst (λ (x : ℕ). Suits g t (vars ++ x ∷ []) p (Nonterminal n)) (Option·some-injective ty to e) su)
+arm-there (suc j) to (an-arm vars n ty p tys ps su as′) e = arm-there j to as′ e
+
 -- A visit of a node that suits its position, with values of its variables' types, writes what the position asks for, unless a limit ends it. That is a piece
 -- of its element; of a for it is further items of the repetition f.
 record Sound (i : Input) (visited : Asked → ℕ → List ℕ → State → End) : Type 0 where
@@ -140,6 +151,7 @@ no-for-there : {g t vars : List ℕ} {p n : ℕ} → Suits g t vars p (Nontermin
 no-for-there (by-build vars p n q f e b fs) h = let z : _≡_ {A = ℕ} 0 1 = cc in omega arith
 no-for-there (by-expand vars p n q f e b as′) h = let z : _≡_ {A = ℕ} 0 1 = cc in omega arith
 no-for-there (by-if vars p n ty f e b su su′) h = let z : _≡_ {A = ℕ} 0 1 = cc in omega arith
+no-for-there (by-match vars p n ty tys f e b as′) h = let z : _≡_ {A = ℕ} 0 1 = cc in omega arith
 
 no-for-suits : {g t vars : List ℕ} {p n : ℕ} → Suits g t vars p (Item n) → (formOf t p ≡ For → ⊥) → Suits g t vars p (Nonterminal n)
 no-for-suits (by-for vars p n ty item f e b su) h = absurd (h f)
@@ -211,6 +223,11 @@ module _ (i : Input) (below : Asked → ℕ → List ℕ → State → End) (sou
       let w = path-of e h in
       let y = shaped yes-no (w .2) b in
       rw f (found-ends _ (w .1) (found-ends _ (y .1) (sound .writes (either-suits (y .0) su su′) a h s)))
+  form-sound bodies (by-match vars p n ty tys f e b as′) a h s =
+      let w = path-of e h in
+      let (c, is, to, there, o) = shaped (cases tys) (w .2) b in
+      let (arm, y, su) = arm-there (c .number) to as′ there in
+      rw f (found-ends _ (w .1) (found-ends _ is (found-ends _ y (sound .writes su a (each-more h o) s))))
   form-sound bodies (by-sequence vars p n f is) (asks-repetition n′ x) h s =
       rw f (writes-map (λ y r. repeated n x y (further-row (r .1) refl)) (items-sound p 0 is h s))
 

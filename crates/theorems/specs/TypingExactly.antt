@@ -2,24 +2,25 @@
 -- by its own rule.
 use mathlib.Core.Path.{_≡_, refl, ap}
 use mathlib.Core.Logic.{_↔_}
-use Prim.Native.Nat.{ℕ, _<_}
-use mathlib.Core.List.{List, [], _∷_, map}
+use Prim.Native.Nat.{ℕ, suc, _<_}
+use mathlib.Core.List.{List, [], _∷_, _++_, map}
 use mathlib.Core.Bool.{true}
 use mathlib.Core.Option.{Option, none, some, Option·none-ne-some, Option·some-injective}
 use native.Mathlib.Omega.{arith}
+use lib.ListN.{length}
 use Rattle.rules.specs.Faults.{onFound}
-use Rattle.rules.specs.Records.{fieldB}
+use Rattle.rules.specs.Records.{fieldB, nth}
 use Rattle.rules.specs.Grammar.{Element}
 use Rattle.rules.specs.Templates.{template, templates, parameters, body, nodesBelow, path}
 use Rattle.rules.specs.Limits.{deepest}
-use Rattle.rules.specs.Typing.{asksNonterminal, asksItem, asksRepetition, positions, itemType, Site, site, suits, sites, sitesOf, sitesBelow, misfit, bodySite, only, declaredType, templatesTyping}
+use Rattle.rules.specs.Typing.{asksNonterminal, asksItem, asksRepetition, positions, itemType, Site, site, suits, sites, sitesOf, sitesBelow, misfit, bodySite, only, declaredType, templatesTyping, armSites, caseTypes}
 use Rattle.rules.specs.declared.Position.{Position}
 use Rattle.rules.specs.declared.Position.the-variants.{Nonterminal, Item}
 use Rattle.laws.specs.Faults.{need-none, need-iff, both-none, both-iff, In, here, later, every-in, in-every, exists-iff, onFound-some, at-none, Below}
 use Rattle.theorems.specs.LimitsExactly.{TemplateWithin, not-deep}
 use Rattle.theorems.specs.Children.{Asks, OneEach, nothing-left, no-child-for, one-child-for, ChildFor, this-child, past-keyword, past-child}
-use Rattle.theorems.specs.Judgement.{Suits, by-build, by-literal, by-place, by-expand, by-if, by-for, by-sequence, as-item, Fills, all-filled, no-child, a-child, Items, no-item, an-item, Declared}
-use Rattle.theorems.specs.OwnRule.{AsksText, in-its-position, in-a-sequence, Fits, a-build, a-literal, a-place, an-expand, an-if, a-for, a-sequence, ChildNode, build-child, first-branch, second-branch, loop-body, sequence-item, Stands}
+use Rattle.theorems.specs.Judgement.{Suits, by-build, by-literal, by-place, by-expand, by-if, by-for, by-sequence, as-item, Fills, all-filled, no-child, a-child, Items, no-item, an-item, Declared, by-match, Arms, no-arm, an-arm}
+use Rattle.theorems.specs.OwnRule.{AsksText, in-its-position, in-a-sequence, Fits, a-build, a-literal, a-place, an-expand, an-if, a-for, a-sequence, ChildNode, build-child, first-branch, second-branch, loop-body, sequence-item, Stands, a-match, match-arm}
 use Rattle.theorems.specs.HeadByHead.{in-cons, tree-judged, judged-exactly, each-exactly}
 use Rattle.theorems.specs.Lookups.{path-exactly}
 use Rattle.theorems.specs.OwnRuleExactly.{position-of, fits-exactly, child-exactly, stands-exactly}
@@ -35,11 +36,16 @@ item-fits : {g t vars : List ℕ} {p n : ℕ} → Fits g t vars p (Nonterminal n
 item-fits (a-build at q f e (in-its-position n) o) = a-build (Item n) q f e (in-a-sequence n) o
 item-fits (an-expand at q f e (in-its-position n) as′) = an-expand (Item n) q f e (in-a-sequence n) as′
 item-fits (an-if at n ty f (in-its-position m) h e) = an-if (Item n) n ty f (in-a-sequence n) h e
+item-fits (a-match at n ty tys f (in-its-position m) h e l) = a-match (Item n) n ty tys f (in-a-sequence n) h e l
 
 fills-one-each : {g t vars : List ℕ} {es : List Element} {cs : List ℕ} → Fills g t vars es cs → OneEach es cs
 fills-one-each (all-filled vars) = nothing-left
 fills-one-each (no-child vars x es cs fs) = no-child-for x es cs (fills-one-each fs)
 fills-one-each (a-child vars e at c es cs a s fs) = one-child-for e at c es cs a (fills-one-each fs)
+
+arms-length : {g t vars tys ps : List ℕ} {n : ℕ} → Arms g t vars n tys ps → length ps ≡ length tys
+arms-length (no-arm vars n) = refl
+arms-length (an-arm vars n ty p tys ps s as′) = ap suc (arms-length as′)
 
 suits-fits : {g t vars : List ℕ} {p : ℕ} {at : Position} → Suits g t vars p at → Fits g t vars p at
 suits-fits (by-build vars p n q f e b fs) = a-build (Nonterminal n) q f e (rw b (in-its-position n)) (fills-one-each fs)
@@ -50,6 +56,7 @@ suits-fits (by-if vars p n ty f h e s₁ s₂) = an-if (Nonterminal n) n ty f (i
 suits-fits (by-for vars p n ty item f h e s) = a-for n ty item f h e
 suits-fits (by-sequence vars p n f is) = a-sequence n f
 suits-fits (as-item vars p n s) = item-fits (suits-fits s)
+suits-fits (by-match vars p n ty tys f h e as′) = a-match (Nonterminal n) n ty tys f (in-its-position n) h e (arms-length as′)
 
 -- and all directly below it suits
 fills-in : {g t vars : List ℕ} {es : List Element} {cs : List ℕ} → Fills g t vars es cs → (y : Site) → In y (sites vars (positions es) cs) → SuitsAt g t y
@@ -63,14 +70,20 @@ unfolding site
 items-in (no-item vars n) y i = elim i [ ]
 items-in {g} {t} (an-item vars n c cs s is) y i = in-cons (SuitsAt g t) s (items-in is) i
 
+arms-suit : {g t vars tys ps : List ℕ} {n : ℕ} → Arms g t vars n tys ps → (y : Site) → In y (armSites vars (Nonterminal n) tys ps) → SuitsAt g t y
+unfolding armSites site
+arms-suit (no-arm vars n) y i = elim i [ ]
+arms-suit {g} {t} (an-arm vars n ty p tys ps s as′) y i = in-cons (SuitsAt g t) s (arms-suit as′) i
+
 item-same : {g t vars : List ℕ} {p n : ℕ} → Suits g t vars p (Nonterminal n) → sitesBelow g t (site vars (Item n) p) ≡ sitesBelow g t (site vars (Nonterminal n) p)
 unfolding sitesBelow sitesOf site asksNonterminal
 item-same (by-build vars p n q f e b fs) = rw f
 item-same (by-expand vars p n q f e b as′) = rw f
 item-same (by-if vars p n ty f h e s₁ s₂) = rw f
+item-same (by-match vars p n ty tys f h e as′) = rw f
 
 suits-below : {g t vars : List ℕ} {p : ℕ} {at : Position} → Suits g t vars p at → (y : Site) → In y (sitesBelow g t (site vars at p)) → SuitsAt g t y
-unfolding sitesBelow sitesOf site asksNonterminal asksItem asksRepetition itemType onFound
+unfolding sitesBelow sitesOf site asksNonterminal asksItem asksRepetition itemType caseTypes onFound
 suits-below (by-build vars p n q f e b fs) y i = fills-in fs y (rw (f, e) at i)
 suits-below (by-literal vars p c f l) y i = absurd (in-none (rw f at i))
 suits-below (by-place vars p c d ty f h e k) y i = absurd (in-none (rw f at i))
@@ -79,6 +92,7 @@ suits-below {g} {t} (by-if vars p n ty f h e s₁ s₂) y i = in-cons (SuitsAt g
 suits-below {g} {t} (by-for vars p n ty item f h e s) y i = in-cons (SuitsAt g t) s (λ z j. elim j [ ]) (rw (f, path-exactly t vars (path p) ty .1 h, e) at i)
 suits-below (by-sequence vars p n f is) y i = items-in is y (rw f at i)
 suits-below (as-item vars p n s) y i = suits-below s y (rw (item-same s) at i)
+suits-below {t = t} (by-match vars p n ty tys f h e as′) y i = arms-suit as′ y (rw (f, path-exactly t vars (path p) ty .1 h, e) at i)
 
 -- and these two are enough
 text-suits : {g t vars : List ℕ} {p n : ℕ} {at : Position} → AsksText at n → Suits g t vars p (Nonterminal n) → Suits g t vars p at
@@ -96,6 +110,14 @@ each-item : {g t : List ℕ} (vars : List ℕ) (n : ℕ) (cs : List ℕ) → ((c
 each-item vars n [] h = no-item vars n
 each-item vars n (c ∷ cs) h = an-item vars n c cs (h c (here cs)) (each-item vars n cs (λ d i. h d (later c cs i)))
 
+each-arm : {g t : List ℕ} (vars : List ℕ) (n : ℕ) (tys ps : List ℕ) → length ps ≡ length tys
+    → ((j to c : ℕ) → nth tys j ≡ some to → nth ps j ≡ some c → Suits g t (vars ++ to ∷ []) c (Nonterminal n)) → Arms g t vars n tys ps
+unfolding nth
+each-arm vars n [] [] l h = no-arm vars n
+each-arm vars n [] (p ∷ ps) l h = absurd (omega arith)
+each-arm vars n (ty ∷ tys) [] l h = absurd (omega arith)
+each-arm vars n (ty ∷ tys) (p ∷ ps) l h = an-arm vars n ty p tys ps (h 0 ty p refl refl) (each-arm vars n tys ps (omega arith) (λ j. h (suc j)))
+
 fits-suits : {g t vars : List ℕ} {p : ℕ} {at : Position} → Fits g t vars p at
     → ((vars′ : List ℕ) (c : ℕ) (at′ : Position) → ChildNode g t vars p at vars′ c at′ → Suits g t vars′ c at′) → Suits g t vars p at
 fits-suits {vars = vars} {p} (a-build at q f e a o) h =
@@ -106,6 +128,8 @@ fits-suits {vars = vars} {p} (an-expand at q f e a as′) h = text-suits a (by-e
 fits-suits {vars = vars} {p} (an-if at n ty f a k e) h = text-suits a (by-if vars p n ty f k e (h _ _ _ (first-branch at n f a)) (h _ _ _ (second-branch at n f a)))
 fits-suits {vars = vars} {p} (a-for n ty item f k e) h = by-for vars p n ty item f k e (h _ _ _ (loop-body n ty item f k e))
 fits-suits {vars = vars} {p} (a-sequence n f) h = by-sequence vars p n f (each-item vars n _ (λ c i. h _ _ _ (sequence-item n c f i)))
+fits-suits {vars = vars} {p} (a-match at n ty tys f a k e l) h =
+    text-suits a (by-match vars p n ty tys f k e (each-arm vars n tys _ l (λ j to c x y. h _ _ _ (match-arm at n ty j to c tys f a k e x y))))
 
 suits-by-parts : (g t : List ℕ) (x : Site) → SuitsAt g t x ↔ ((suits g t x ≡ true) × ((y : Site) → In y (sitesBelow g t x) → SuitsAt g t y))
 unfolding site

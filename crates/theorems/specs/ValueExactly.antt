@@ -10,16 +10,16 @@ use native.Mathlib.Omega.{arith}
 use lib.ListN.{length}
 use lib.Dec.{eqb}
 use Rattle.rules.specs.Faults.{onFound, onlyIf, exists}
-use Rattle.rules.specs.Records.{kindOf, fieldB, textOf, nth}
-use Rattle.rules.specs.Templates.{TypeForm, text, yes-no, list, fields, no-type, typeOf}
-use Rattle.rules.specs.Value.{children, asText, asYesNo, asList, asRecord, valuesBelow}
+use Rattle.rules.specs.Records.{kindOf, fieldB, textOf, nth, fieldA}
+use Rattle.rules.specs.Templates.{TypeForm, text, yes-no, list, fields, cases, no-type, typeOf}
+use Rattle.rules.specs.Value.{children, asText, asYesNo, asList, asRecord, valuesBelow, Case, content, asCase}
 use Rattle.rules.specs.Limits.{deepest, valueLimits}
 use Rattle.rules.specs.Typing.{Typed, typed, hasForm, hasType, paired, typedOf, typedBelow, mistyped, declaredType, valueTyping}
 use Rattle.laws.specs.Faults.{In, here, later, in-map, exists-iff, onFound-true, onFound-none, eqb-iff, at-none, Below, itself, under, tree-in}
 use Rattle.theorems.specs.Lexemes.{plain-lexeme-exactly}
 use Rattle.theorems.specs.Finds.{of-kind, kind-of}
-use Rattle.theorems.specs.Judgement.{OfType, of-text, of-yes-no, of-list, of-record, AllOf, none-left, one-of, EachOf, no-field, a-field, Declared}
-use Rattle.theorems.specs.OwnRule.{OfForm, a-text, a-yes-no, a-list, a-record, ChildValue, list-item, record-field, ShouldBe, the-whole, inside}
+use Rattle.theorems.specs.Judgement.{OfType, of-text, of-yes-no, of-list, of-record, AllOf, none-left, one-of, EachOf, no-field, a-field, Declared, of-case}
+use Rattle.theorems.specs.OwnRule.{OfForm, a-text, a-yes-no, a-list, a-record, ChildValue, list-item, record-field, ShouldBe, the-whole, inside, a-case, case-content}
 use Rattle.theorems.specs.HeadByHead.{in-cons, map-in, found-in, below-more, tree-judged, judged-exactly, each-exactly}
 use Rattle.theorems.specs.TypingExactly.{declared-exactly}
 use Rattle.theorems.specs.Least.{in-none}
@@ -29,9 +29,13 @@ kind-in : {A B : Type 0} (v : List ℕ) (w kind : ℕ) (a : A) (f : A → List B
     → (kindOf v w ≡ kind) × In y (f a)
 kind-in v w kind a f i = let (x, e, j) = found-in _ f i in let (k, l) = of-kind v w kind a x e in (k, rw l j)
 
+-- what a case is, by its record
+abbrev caseAt : List ℕ → ℕ → Case
+caseAt v w = record { number = fieldA v w; inside = content w }
+
 -- The own rule, by the type's form
 form-right : (g t v : List ℕ) (f : TypeForm) (ty w : ℕ) → typeOf t ty ≡ f → hasForm g v f w ≡ true → OfForm g t v ty w
-unfolding hasForm asText asYesNo asList asRecord
+unfolding hasForm asText asYesNo asList asRecord asCase
 form-right g t v (text c) ty w f e =
     let a = onFound-true (asText v w) _ .0 e in
     let k = of-kind v w 1 (textOf v (fieldB v w) w) (a .0) (a .1) in
@@ -42,14 +46,20 @@ form-right g t v (fields tys) ty w f e =
     let a = onFound-true (asRecord v w) _ .0 e in
     let k = of-kind v w 4 (children v w) (a .0) (a .1) in
     a-record tys f (k .0) (rw (k .1) (eqb-iff _ _ .0 (a .2)))
+form-right g t v (cases tys) ty w f e =
+    let (c, a, h) = onFound-true (asCase v w) _ .0 e in
+    let (k, is) = of-kind v w 5 (caseAt v w) c a in
+    let (to, there) = exists-iff (nth tys (c .number)) .0 h in
+    a-case to tys f k (ap (λ (x : Case). nth tys (x .number)) is ∙ there)
 form-right g t v no-type ty w f e = absurd (false≢true e)
 
 right-form : {g t v : List ℕ} {ty w : ℕ} → OfForm g t v ty w → hasType g t v (typed ty w) ≡ true
-unfolding hasType hasForm typed asText asYesNo asList asRecord onFound exists
+unfolding hasType hasForm typed asText asYesNo asList asRecord asCase onFound exists
 right-form {g} {v = v} {w = w} (a-text c f k l) = rw (f, kind-of v w 1 (textOf v (fieldB v w) w) k) (plain-lexeme-exactly g c _ .1 l)
 right-form {v = v} {w = w} (a-yes-no f k) = rw (f, kind-of v w 2 _ k)
 right-form {v = v} {w = w} (a-list item f k) = rw (f, kind-of v w 3 (children v w) k)
 right-form {v = v} {w = w} (a-record tys f k l) = rw (f, kind-of v w 4 (children v w) k) (eqb-iff _ _ .1 l)
+right-form {v = v} {w = w} (a-case to tys f k e) = rw (f, kind-of v w 5 (caseAt v w) k, e)
 
 pub form-exactly : (g t v : List ℕ) (x : Typed) → (hasType g t v x ≡ true) ↔ OfForm g t v (x .type) (x .value)
 unfolding hasType typed
@@ -76,7 +86,7 @@ abbrev ChildOf : List ℕ → List ℕ → ℕ → ℕ → Typed → Type 0
 ChildOf t v ty w y = ChildValue t v ty w (y .type) (y .value)
 
 form-child : (t v : List ℕ) (f : TypeForm) (ty w : ℕ) {y : Typed} → typeOf t ty ≡ f → In y (typedOf v f w) → ChildOf t v ty w y
-unfolding typedOf typed asList asRecord
+unfolding typedOf typed asList asRecord asCase
 form-child t v (text c) ty w f i = elim i [ ]
 form-child t v yes-no ty w f i = elim i [ ]
 form-child t v (list item) ty w f i =
@@ -86,12 +96,17 @@ form-child t v (fields tys) ty w {y} f i =
     let (k, j) = kind-in v w 4 (children v w) _ i in
     let (n, a, b) = in-paired tys (children v w) j in
     record-field tys n (y .type) (y .value) f k a b
+form-child t v (cases tys) ty w f i =
+    let (k, j) = kind-in v w 5 (caseAt v w) _ i in
+    let (to, e, l) = found-in (nth tys (fieldA v w)) _ j in
+    in-cons (ChildOf t v ty w) (case-content to tys f k e) (λ z m. elim m [ ]) l
 form-child t v no-type ty w f i = elim i [ ]
 
 child-form : {t v : List ℕ} {ty w to u : ℕ} → ChildValue t v ty w to u → In (typed to u) (typedBelow t v (typed ty w))
-unfolding typedBelow typedOf typed asList asRecord onFound
+unfolding typedBelow typedOf typed asList asRecord asCase onFound
 child-form {v = v} {w = w} (list-item item u f k i) = rw (f, kind-of v w 3 (children v w) k) (in-map (typed item) i)
 child-form {v = v} {w = w} (record-field tys j to u f k a b) = rw (f, kind-of v w 4 (children v w) k) (paired-in tys (children v w) j to u a b)
+child-form {v = v} {w = w} (case-content to tys f k e) = rw (f, kind-of v w 5 (caseAt v w) k, e) (here _)
 
 pub child-value-exactly : (t v : List ℕ) (x y : Typed) → In y (typedBelow t v x) ↔ ChildOf t v (x .type) (x .value) y
 unfolding typedBelow typed
@@ -127,6 +142,7 @@ type-form (of-text ty w c f k l) = a-text c f k l
 type-form (of-yes-no ty w f k) = a-yes-no f k
 type-form (of-list ty w item f k os) = a-list item f k
 type-form (of-record ty w tys f k os) = a-record tys f k (length-each os)
+type-form (of-case ty w to tys f k e o) = a-case to tys f k e
 
 all-in : {g t v : List ℕ} {ty : ℕ} {ws : List ℕ} → AllOf g t v ty ws → (y : Typed) → In y (map (typed ty) ws) → OfTypeAt g t v y
 unfolding typed
@@ -139,11 +155,12 @@ each-in no-field y i = elim i [ ]
 each-in {g} {t} {v} (a-field ty w tys ws o os) y i = in-cons (OfTypeAt g t v) o (each-in os) i
 
 type-below : {g t v : List ℕ} {ty w : ℕ} → OfType g t v ty w → (y : Typed) → In y (typedBelow t v (typed ty w)) → OfTypeAt g t v y
-unfolding typedBelow typedOf typed asList asRecord onFound
+unfolding typedBelow typedOf typed asList asRecord asCase onFound
 type-below (of-text ty w c f k l) y i = absurd (in-none (rw f at i))
 type-below (of-yes-no ty w f k) y i = absurd (in-none (rw f at i))
 type-below {v = v} (of-list ty w item f k os) y i = all-in os y (rw (f, kind-of v w 3 (children v w) k) at i)
 type-below {v = v} (of-record ty w tys f k os) y i = each-in os y (rw (f, kind-of v w 4 (children v w) k) at i)
+type-below {g} {t} {v} (of-case ty w to tys f k e o) y i = in-cons (OfTypeAt g t v) o (λ z j. elim j [ ]) (rw (f, kind-of v w 5 (caseAt v w) k, e) at i)
 
 in-all : {g t v : List ℕ} (ty : ℕ) (ws : List ℕ) → ((w : ℕ) → In w ws → OfType g t v ty w) → AllOf g t v ty ws
 in-all ty [] h = none-left ty
@@ -162,6 +179,7 @@ form-type {ty = ty} {w} (a-text c f k l) h = of-text ty w c f k l
 form-type {ty = ty} {w} (a-yes-no f k) h = of-yes-no ty w f k
 form-type {ty = ty} {w} (a-list item f k) h = of-list ty w item f k (in-all item _ (λ u i. h item u (list-item item u f k i)))
 form-type {ty = ty} {w} (a-record tys f k l) h = of-record ty w tys f k (in-each tys _ l (λ j to u a b. h to u (record-field tys j to u f k a b)))
+form-type {ty = ty} {w} (a-case to tys f k e) h = of-case ty w to tys f k e (h to _ (case-content to tys f k e))
 
 type-by-parts : (g t v : List ℕ) (x : Typed) → OfTypeAt g t v x ↔ ((hasType g t v x ≡ true) × ((y : Typed) → In y (typedBelow t v x) → OfTypeAt g t v y))
 unfolding typed

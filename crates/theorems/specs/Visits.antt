@@ -11,23 +11,24 @@ use native.Mathlib.Nat.{add-zero, zero-add, add-assoc}
 use lib.ListN.{length}
 use lib.Dec.{ltb}
 use Rattle.rules.specs.Faults.{onFound}
+use Rattle.rules.specs.Records.{fieldA, kindOf, nth}
 use Rattle.rules.specs.Grammar.{Element, keyword, lexeme, nonterminal, repetition, unknown}
-use Rattle.rules.specs.Templates.{formOf, nodes, path, first, second}
-use Rattle.rules.specs.Value.{asYesNo}
+use Rattle.rules.specs.Templates.{formOf, nodes, path, first, second, arms}
+use Rattle.rules.specs.Value.{asYesNo, Case, asCase, content}
 use Rattle.rules.specs.Limits.{deepest}
 use Rattle.rules.specs.Walk.{Input, State, start, too-deep, End, done, ended, stuck, andThen, pathValue, write, withChild, pieces, Filled, Asked, piece, items}
 use Rattle.rules.specs.Walk.{separate, visitItem, inOrder, listed, itemsOf, visitIn, visitForm, reached, visit, walk}
 use Rattle.rules.specs.declared.Form.{Form}
-use Rattle.rules.specs.declared.Form.the-variants.{Build, Literal, Place, Expand, If, For, Sequence, Unknown}
+use Rattle.rules.specs.declared.Form.the-variants.{Build, Literal, Place, Expand, If, For, Sequence, Match, Unknown}
 use Rattle.rules.specs.declared.Position.{Position}
 use Rattle.laws.specs.Faults.{In, here, later}
 use Rattle.theorems.specs.Children.{Asks, asks-class, asks-nonterminal, asks-repetition, asks-nothing, ChildFor, this-child, past-keyword, past-child}
 use Rattle.theorems.specs.Ends.{reached-done}
-use Rattle.theorems.specs.Finds.{Finds, text-is, yes-is, no-is, finds-exactly, finds-all-exactly}
+use Rattle.theorems.specs.Finds.{Finds, text-is, yes-is, no-is, finds-exactly, finds-all-exactly, case-is}
 use Rattle.theorems.specs.Places.{place-text}
 use Rattle.theorems.specs.Handed.{IsFor, a-for as is-a-for, no-for, is-for, filled-by, listed-is, for-visited, brings-items}
 use Rattle.theorems.specs.Levels.{NodeAfter, first-node, later-node, ItemAfter, by-node, by-turn, filling}
-use Rattle.theorems.specs.Levels.{Under, a-child, a-body, on-yes, on-no, a-turn, an-item, a-for, Levels, root-body, one-deeper}
+use Rattle.theorems.specs.Levels.{Under, a-child, a-body, on-yes, on-no, a-turn, an-item, a-for, an-arm, Levels, root-body, one-deeper}
 use Rattle.theorems.specs.Levels.{Writes, a-keyword, its-text, text-found, a-separator}
 
 -- the same set and value, with other fuel and room
@@ -82,6 +83,9 @@ node-in (later-node b m n cs h j) = later b cs (node-in j)
 if-no-for : {f : Form} → f ≡ If → f ≡ For → ⊥
 if-no-for e h = let z : _≡_ {A = ℕ} 0 1 = cc in omega arith
 
+match-no-for : {f : Form} → f ≡ Match → f ≡ For → ⊥
+match-no-for e h = let z : _≡_ {A = ℕ} 0 1 = cc in omega arith
+
 pub place-no-for : {f : Form} → f ≡ Place → f ≡ For → ⊥
 place-no-for e h = let z : _≡_ {A = ℕ} 0 1 = cc in omega arith
 
@@ -100,6 +104,7 @@ module _ (i : Input) where
       → Sequenced f env × NodeAfter t v env p (nodes t (f .sequence)) n × (formOf t p ≡ For)
   for-level (one-deeper d p q a a′ env env′ l (on-yes w f e k y)) s = absurd (if-no-for f (for-level l (omega arith) .2))
   for-level (one-deeper d p q a a′ env env′ l (on-no w f e k y)) s = absurd (if-no-for f (for-level l (omega arith) .2))
+  for-level (one-deeper d p q a a′ env env′ l (an-arm w c f e k y)) s = absurd (match-no-for f (for-level l (omega arith) .2))
   for-level (one-deeper d p q a a′ env env′ l (a-for n c m x f e b h)) s =
       (record { depth = d; level = subst (λ (z : Asked). LevelsOf i d z p env) e l; shallow = omega arith; is-sequence = f }, b, h)
 
@@ -156,6 +161,13 @@ module _ (i : Input) (fuel room : ℕ) (R : State → End → End → Type 0) (k
         → Both (below a (cond yes? (first p) (second t p)) env) (below′ a (cond yes? (first p) (second t p)) env)
     branch-both w true f e b = let k = yes-is v w .0 b in deeper _ _ env (on-yes w f e (k .0) (k .1))
     branch-both w false f e b = let k = no-is v w .0 b in deeper _ _ env (on-no w f e (k .0) (k .1))
+
+    arm-both : (w : ℕ) (c : Case) → formOf t p ≡ Match → Finds t v env (path p) w → asCase v w ≡ some c
+        → Both (λ s. onFound (nth (arms t p) (c .number)) stuck λ arm. below a arm (env ++ c .inside ∷ []) s)
+        (λ s. onFound (nth (arms t p) (c .number)) stuck λ arm. below′ a arm (env ++ c .inside ∷ []) s)
+    arm-both w c f e b s =
+        let (k, is) = case-is v w c .0 b in
+        rw (← is) (found-both _ _ _ s λ arm y. deeper a arm _ (an-arm w arm f e k y) s)
 
     path-both : {next next′ : ℕ → End} (s : State) → ((w : ℕ) → Finds t v env (path p) w → R s (next w) (next′ w))
         → R s (onFound (pathValue t v env (path p)) stuck next) (onFound (pathValue t v env (path p)) stuck next′)
@@ -239,6 +251,7 @@ module _ (i : Input) (fuel room : ℕ) (R : State → End → End → Type 0) (k
         let q : Sequenced i (filling p m x) env =
         record { depth = d; level = subst (λ (z : Asked). LevelsOf i d z p env) r at; shallow = shallow; is-sequence = f } in
         rw e (items-both 0 (nodes t p) f r q (λ c k j. subst (NodeAfter t v env c (nodes t p)) (sym (zero-add k)) j) s)
+    form-both Match f s = path-both s λ w e. found-both _ _ _ s λ c b. arm-both w c f e b s
     form-both Unknown f s = kept .no-way s
 
   -- a visit with k levels left, the node's own among them, is of a node that stands 201 - k deep

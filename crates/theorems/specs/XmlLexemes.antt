@@ -25,7 +25,7 @@ use Rattle.theorems.specs.EscapedCharacters.{escape-by-characters, escap
 use Rattle.theorems.specs.Readings.{Plain, plain-is, escaped-is, Takes, of-itself, of-its-plain, not-both}
 use Rattle.theorems.specs.Lexemes.{InRange, PlainLexeme, Lexeme, a-plain, an-escaped, lexeme-exactly}
 use Rattle.theorems.specs.LimitsExactly.{value-limits-exactly}
-use Rattle.theorems.specs.OwnRule.{Fits, Stands, OfForm, a-text, a-yes-no, a-list, a-record, ShouldBe}
+use Rattle.theorems.specs.OwnRule.{Fits, Stands, OfForm, a-text, a-yes-no, a-list, a-record, ShouldBe, a-case}
 use Rattle.theorems.specs.OwnRuleExactly.{fits-exactly}
 use Rattle.theorems.specs.TypingExactly.{judged-node-by-node}
 use Rattle.theorems.specs.ValueExactly.{judged-value-by-value}
@@ -133,6 +133,7 @@ title-fits (a-text c f k l) e = plain-xml l
 title-fits (a-yes-no f k) e = let z : _≡_ {A = ℕ} 1 2 = sym e ∙ k in absurd (omega arith)
 title-fits (a-list item f k) e = let z : _≡_ {A = ℕ} 1 3 = sym e ∙ k in absurd (omega arith)
 title-fits (a-record tys f k l) e = let z : _≡_ {A = ℕ} 1 4 = sym e ∙ k in absurd (omega arith)
+title-fits (a-case to tys f k h) e = let z : _≡_ {A = ℕ} 1 5 = sym e ∙ k in absurd (omega arith)
 
 -- "titles and literals with other characters meet 8 and 7": a literal, in whatever position of a template, offends against typing, and a title, wherever the
 -- value's type asks for one, against its type. (Where a literal has no position, a node above it offends.) Of all offences a call names the first: `InOrder`.

@@ -21,13 +21,14 @@ use Rattle.typing.specs.declared.Kind.the-variants.{Fields}
 
 -- types
 
-pub no-form : (t : List ℕ) (a p : ℕ) → (a ≡ 0 → ⊥) → (a ≡ 1 → ⊥) → (a ≡ 2 → ⊥) → (a ≡ 3 → ⊥) → no-type ≡ typeNumbered t a p
+pub no-form : (t : List ℕ) (a p : ℕ) → (a ≡ 0 → ⊥) → (a ≡ 1 → ⊥) → (a ≡ 2 → ⊥) → (a ≡ 3 → ⊥) → (a ≡ 4 → ⊥) → no-type ≡ typeNumbered t a p
 unfolding typeNumbered
-no-form t zero p h0 h1 h2 h3 = absurd (h0 refl)
-no-form t (suc zero) p h0 h1 h2 h3 = absurd (h1 refl)
-no-form t (suc (suc zero)) p h0 h1 h2 h3 = absurd (h2 refl)
-no-form t (suc (suc (suc zero))) p h0 h1 h2 h3 = absurd (h3 refl)
-no-form t (suc (suc (suc (suc a)))) p h0 h1 h2 h3 = refl
+no-form t zero p h0 h1 h2 h3 h4 = absurd (h0 refl)
+no-form t (suc zero) p h0 h1 h2 h3 h4 = absurd (h1 refl)
+no-form t (suc (suc zero)) p h0 h1 h2 h3 h4 = absurd (h2 refl)
+no-form t (suc (suc (suc zero))) p h0 h1 h2 h3 h4 = absurd (h3 refl)
+no-form t (suc (suc (suc (suc zero)))) p h0 h1 h2 h3 h4 = absurd (h4 refl)
+no-form t (suc (suc (suc (suc (suc a))))) p h0 h1 h2 h3 h4 = refl
 
 module _ (t tys : List ℕ) (n : ℕ) (he : tys ≡ types t) where
   pub type-missing : nth tys n ≡ none → no-type ≡ typeOf t n

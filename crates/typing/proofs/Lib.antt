@@ -4,6 +4,7 @@ pub mod ExpandLaws
 pub mod FillLaws
 pub mod KindLaws
 pub mod LimitLaws
+pub mod MatchLaws
 pub mod NodeLaws
 pub mod RowLaws
 pub mod SuitsLaws

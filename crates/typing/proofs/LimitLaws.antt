@@ -1,20 +1,18 @@
 -- Laws of refusal 4 below a node: that no frame has more than 24 variables. Assumes nothing.
-use Prim.Native.Nat.{ℕ, zero, suc, _+_, _-_, _≤_, _<_}
+use Prim.Native.Nat.{ℕ, _+_, _-_, _≤_, _<_}
 use mathlib.Core.Path.{_≡_, refl, sym, _∙_}
 use mathlib.Core.List.{List, map}
 use mathlib.Core.Option.{none}
 use native.Mathlib.Omega.{arith}
 use native.Mathlib.Nat.{sub-zero}
-use lib.ListN.{length}
 use borrow.Author.Tests.{leb-true}
 use Rattle.rules.specs.Faults.{every, tree}
 use Rattle.rules.specs.Records.{fieldC, heads}
 use Rattle.rules.specs.Templates.{formOf, nodesBelow}
 use Rattle.rules.specs.Limits.{looped, loopedBelow, fewLoops}
-use Rattle.rules.specs.declared.Position.{Position}
 use Rattle.laws.specs.Faults.{both-none, itself, tree-in, tree-right}
 use Rattle.laws.specs.Rows.{heads-more}
-use Rattle.typing.specs.Answers.{siteOf, bindings, Suited}
+use Rattle.typing.specs.Answers.{siteOf, bringsOf, brought, Suited}
 use Rattle.typing.specs.Asks.{RoomBelow, FrameReady, RowLimits, RowReady}
 use Rattle.typing.specs.declared.Below.{Below}
 use Rattle.typing.specs.declared.Frame.{Frame}
@@ -38,15 +36,15 @@ module _ {t : List ℕ} {left count d i at : ℕ} (more : i < d) (R : RowLimits 
   unfolding every
   row-limits = both-none _ _ (rw (heads-more (fieldC t) d i at more (fieldC t at) refl) at (R .limits))
 
-  pub row-ready : {position : Position} → RoomBelow left at → FrameReady left t (record { node = at; position = position; count = count })
-  row-ready h = record { near = h; loops = R .loops; few = R .few; limits = row-limits .0 }
+  pub row-ready : {f : Frame} → f .node ≡ at → f .count ≡ count → RoomBelow left at → FrameReady left t f
+  row-ready n e h = record { near = rw n h; loops = R .loops; few = omega (arith, R .few, e); limits = rw n (row-limits .0) }
 
   pub row-next : (c : ℕ) → c ≡ fieldC t at → RowLimits left t count (d - (i + 1)) (at + c)
   row-next c e = record { loops = R .loops; few = R .few; limits = rw e (row-limits .1) }
 
-  -- a row with a node in it: the loops around that node
-  row-loops : R .loops ≤ 16
-  row-loops = limits-here t left (R .loops) at (row-limits .0) .0
+  -- a row with a node in it: there is room for its variables
+  pub row-room : count ≤ 24
+  row-room = omega (arith, R .few, limits-here t left (R .loops) at (row-limits .0) .0)
 
 module _ {t : List ℕ} {left : ℕ} {f : Frame} (deep : left ≡ 0 → ⊥) (R : FrameReady left t f) where
   own-limits : (R .loops ≤ 16) × (every (tree fewLoops (loopedBelow t) (left - 1)) (loopedBelow t (looped (R .loops) (f .node))) ≡ none)
@@ -56,29 +54,18 @@ module _ {t : List ℕ} {left : ℕ} {f : Frame} (deep : left ≡ 0 → ⊥) (R 
   ready-few = omega (arith, own-limits .0, R .few)
 
   module _ (g asked scope : List ℕ) {b : Below} (s : Suited g t asked (siteOf scope f) (formOf t (f .node)) b) where
-    below-limits : {count : ℕ} → count ≡ f .count + length (bindings (b .item)) → RowLimits (left - 1) t count (b .count) (b .first)
+    below-limits : RowLimits (left - 1) t (f .count + brought (bringsOf (b .positions))) (b .count) (b .first)
     unfolding loopedBelow nodesBelow looped
-    below-limits e = record {
-      loops = R .loops + length (bindings (b .item));
-      few = omega (arith, e, R .few);
+    below-limits = record {
+      loops = R .loops + brought (bringsOf (b .positions));
+      few = omega (arith, R .few);
       limits = rw (← s .nodes-are, ← s .loops-are (R .loops)) (own-limits .1);
     }
 
-    pub below-ready : {count : ℕ} → count ≡ f .count + length (bindings (b .item)) → RowReady (left - 1) t b count
-    below-ready e = record {
+    pub below-ready : RowReady (left - 1) t b (f .count)
+    below-ready = record {
       near = omega (arith, deep, R .near, s .near, s .few);
       many = s .few;
       inside = s .inside;
-      limits = below-limits e;
+      limits = below-limits;
     }
-
-    room-in : (n : ℕ) → b .count ≡ n → f .count + length (bindings (b .item)) ≤ 24
-    room-in zero e = omega (arith, e, s .bound, ready-few)
-    room-in (suc n) e =
-        let l : 0 < b .count = omega (arith, e) in
-        let w = limits-start (below-limits refl) in
-        omega (arith, row-loops l w, w .few)
-
-    -- there is room for what is bound below
-    pub row-room : f .count + length (bindings (b .item)) ≤ 24
-    row-room = room-in (b .count) refl

@@ -1,5 +1,5 @@
 -- Laws of a node's own test, form by form and in step with the code. Assumes nothing.
-use Prim.Native.Nat.{ℕ, suc, _+_, _-_, _<_}
+use Prim.Native.Nat.{ℕ, suc, _+_, _<_}
 use mathlib.Core.Path.{_≡_, refl, sym, ap, subst, _∙_}
 use mathlib.Core.List.{List, [], _∷_, _++_, map, append-nil}
 use mathlib.Core.Bool.{Bool, true, false, _&&_}
@@ -22,10 +22,11 @@ use Rattle.rules.specs.declared.Form.the-variants.{Build, Literal, Place, Expan
 use Rattle.rules.specs.declared.Position.{Position}
 use Rattle.rules.specs.declared.Position.the-variants.{Nonterminal, Item}
 use Rattle.laws.specs.Faults.{on-some, on-none}
-use Rattle.typing.specs.Answers.{rowOf, positionIn, entryOf, bindings, siteIn, Suited, Tests, leafOf}
+use Rattle.typing.specs.Answers.{rowOf, positionIn, entryOf, bringsOf, brought, bindings, siteIn, Suited, Tests, leafOf}
 use Rattle.typing.specs.Asked.{askedOf, positionAt, AskedRow}
 use Rattle.typing.specs.declared.Below.{Below}
-use Rattle.typing.specs.declared.Sought.the-variants.{Number, Nothing}
+use Rattle.typing.specs.declared.Brings.the-variants as brings
+use Rattle.typing.specs.declared.Brings.the-variants.{Nothing}
 use Rattle.typing.specs.declared.Positions.the-variants.{Alike, Asked}
 use Rattle.typing.specs.declared.Tested.{Tested}
 use Rattle.typing.specs.declared.Tested.the-variants.{Unsuited, Above}
@@ -56,20 +57,19 @@ by-form {g} {t} {asked} {x} {r} e h k = subst (λ (F : Form). Tests g t asked x 
 
 leaf-of : (g t asked : List ℕ) (x : Site) (F : Form) → sitesOf g t F x ≡ [] → nodesOf t F (x .node) ≡ [] → ((n : ℕ) → loopsBelow F n ≡ n)
     → (b : Bool) → b ≡ suitsForm g t F x → Tests g t asked x F (leafOf b)
-unfolding leafOf bindings rowOf heads
+unfolding leafOf bringsOf brought rowOf heads
 leaf-of g t asked x F s n l true e = suited (record {
   own = sym e;
   sites-are = s;
   nodes-are = n;
   loops-are = λ k. l k ∙ sym (add-zero k);
-  bound = omega arith;
   near = omega arith;
   few = omega arith;
   inside = λ i h. absurd (not-suc-le-zero h);
 })
 leaf-of g t asked x F s n l false e = unsuited (sym e)
 
-pub leaf-yes : (b : Bool) → b ≡ true → Above (record { first = 0; count = 0; positions = Asked 0; item = Nothing }) ≡ leafOf b
+pub leaf-yes : (b : Bool) → b ≡ true → Above (record { first = 0; count = 0; positions = Asked 0 }) ≡ leafOf b
 unfolding leafOf
 leaf-yes b e = sym (rw e)
 
@@ -90,12 +90,17 @@ module _ {g t asked : List ℕ} {x : Site} {b : Bool} {r : Tested} (is : r ≡ l
   unfolding sitesOf nodesOf loopsBelow
   expand-leaf e = subst (Tests g t asked x Expand) (sym is) (leaf-of g t asked x Expand refl refl (λ n. refl) b e)
 
--- nodes in a row that are all in one position
+-- nodes in a row that are all in one position; with an item each
 
 alike : (g t asked vars : List ℕ) (position : Position) (n i p : ℕ)
-    → map (site vars position) (heads (fieldC t) n p) ≡ rowOf (siteIn g asked vars (Alike position)) (fieldC t) n i p
-unfolding siteIn positionIn
-alike g t asked vars position n i p = map-row _ _ _ (λ j q. refl) n i p
+    → map (site vars position) (heads (fieldC t) n p) ≡ rowOf (siteIn g t asked vars (Alike position Nothing)) (fieldC t) n i p
+unfolding siteIn positionIn bringsOf bindings
+alike g t asked vars position n i p = map-row _ _ _ (λ j q. rw (append-nil vars)) n i p
+
+alike-items : (g t asked vars : List ℕ) (position : Position) (ty n i p : ℕ)
+    → map (site (vars ++ ty ∷ []) position) (heads (fieldC t) n p) ≡ rowOf (siteIn g t asked vars (Alike position (brings.Item ty))) (fieldC t) n i p
+unfolding siteIn positionIn bringsOf bindings
+alike-items g t asked vars position ty n i p = map-row _ _ _ (λ j q. refl) n i p
 
 -- a build
 
@@ -109,10 +114,10 @@ children-row g t vars make (e ∷ es) i p h =
     let k = children-row g t vars make es (i + 1) (p + fieldC t p) (λ j l q. let z : i + 1 + j ≡ i + suc j = omega arith in rw z (h (suc j) (omega arith) q)) in
     rw (k, ← h 0 (omega arith) p, add-zero i)
 
-child-in : (g asked vars : List ℕ) (q : ℕ) → AskedRow g asked q → (j : ℕ) → j < length (askedOf g q) → (p : ℕ)
-    → siteIn g asked vars (Asked q) (0 + j) p ≡ site vars (positionAt g (getD (askedOf g q) j 0)) p
-unfolding siteIn positionIn
-child-in g asked vars q row j h p = let z : 0 + j ≡ j = omega arith in rw (z, row .heads j h)
+child-in : (g t asked vars : List ℕ) (q : ℕ) → AskedRow g asked q → (j : ℕ) → j < length (askedOf g q) → (p : ℕ)
+    → siteIn g t asked vars (Asked q) (0 + j) p ≡ site vars (positionAt g (getD (askedOf g q) j 0)) p
+unfolding siteIn positionIn bringsOf bindings
+child-in g t asked vars q row j h p = let z : 0 + j ≡ j = omega arith in rw (z, row .heads j h, append-nil vars)
 
 module _ (g t : List ℕ) (x : Site) where
   pub build-nothing : asksNonterminal (x .position) ≡ none → suitsForm g t Build x ≡ false
@@ -136,18 +141,17 @@ module _ (g t : List ℕ) (x : Site) where
         pub build-counts : (getD asked q 0 ≡ d → ⊥) → suitsForm g t Build x ≡ false
         build-counts h = build-found ∙ rw (eq-eqb _ _ same, ← hd, ← row .count, ne-eqb _ _ h)
 
-        pub build-is : getD asked q 0 ≡ d → d < 65536 → Suited g t asked x Build (record { first = x .node + 1; count = d; positions = Asked q; item = Nothing })
-        unfolding sitesOf production nodes nodesOf loopsBelow bindings entryOf
+        pub build-is : getD asked q 0 ≡ d → d < 65536 → Suited g t asked x Build (record { first = x .node + 1; count = d; positions = Asked q })
+        unfolding sitesOf production nodes nodesOf loopsBelow bringsOf brought entryOf
         build-is h l =
             let e : length (askedOf g q) ≡ d = sym (row .count) ∙ h in
             record {
               own = build-found ∙ rw (eq-eqb _ _ same, ← hd, eq-eqb _ _ e);
               sites-are =
                   on-some {a = q} [] _ (rw (← hk, ← he) hq)
-                  ∙ rw (append-nil (x .vars), positions-are g q, ← hd, ← e) (children-row g t (x .vars) _ (askedOf g q) 0 (x .node + 1) (child-in g asked (x .vars) q row));
+                  ∙ rw (positions-are g q, ← hd, ← e) (children-row g t (x .vars) _ (askedOf g q) 0 (x .node + 1) (child-in g t asked (x .vars) q row));
               nodes-are = rw hd;
               loops-are = λ m. sym (add-zero m);
-              bound = omega arith;
               near = omega arith;
               few = l;
               inside = λ i k. omega (arith, row .inside, k, e);
@@ -164,7 +168,7 @@ module _ (g t : List ℕ) (x : Site) where
   unfolding suitsForm
   literal-is c h = sym (on-some false _ h)
 
--- what has a path: a place, an if, a for. F is the form of the type that the path finds
+-- what has a path: a place, an if, a for, a match. F is the form of the type that the path finds
 
 pub through : {B : Type 0} (h : TypeForm → B) {b : B} → h no-type ≡ b → (o : Option ℕ) (T : ℕ → TypeForm) → h (onFound o no-type T) ≡ onFound o b (λ ty. h (T ty))
 unfolding onFound
@@ -185,7 +189,7 @@ module _ (g t : List ℕ) (x : Site) where
   for-nothing h = on-none false _ h
 
   module _ (F : TypeForm) (finds : F ≡ onFound (pathType t (x .vars) (x .node + 1)) no-type (typeOf t)) where
-    finds-in : (h : TypeForm → Bool) → h no-type ≡ false → h F ≡ onFound (pathType t (x .vars) (path (x .node))) false (λ ty. h (typeOf t ty))
+    pub finds-in : (h : TypeForm → Bool) → h no-type ≡ false → h F ≡ onFound (pathType t (x .vars) (path (x .node))) false (λ ty. h (typeOf t ty))
     unfolding path
     finds-in h e = ap h finds ∙ through h e (pathType t (x .vars) (x .node + 1)) (typeOf t)
 
@@ -201,14 +205,13 @@ module _ (g t : List ℕ) (x : Site) where
       pub if-other : isYesNo F ≡ false → suitsForm g t If x ≡ false
       if-other h = if-form ∙ h
 
-      pub if-is : (asked : List ℕ) → isYesNo F ≡ true → Suited g t asked x If (record { first = x .node + 2; count = 2; positions = Alike (Nonterminal n); item = Nothing })
-      unfolding sitesOf nodesOf loopsBelow bindings entryOf first second heads
+      pub if-is : (asked : List ℕ) → isYesNo F ≡ true → Suited g t asked x If (record { first = x .node + 2; count = 2; positions = Alike (Nonterminal n) Nothing })
+      unfolding sitesOf nodesOf loopsBelow bringsOf brought entryOf first second heads
       if-is asked h = record {
         own = if-form ∙ h;
-        sites-are = on-some [] _ asks ∙ rw (append-nil (x .vars)) (alike g t asked (x .vars) (Nonterminal n) 2 0 (x .node + 2));
+        sites-are = on-some [] _ asks ∙ alike g t asked (x .vars) (Nonterminal n) 2 0 (x .node + 2);
         nodes-are = refl;
         loops-are = λ m. sym (add-zero m);
-        bound = omega arith;
         near = omega arith;
         few = omega arith;
         inside = λ i k. omega arith;
@@ -230,14 +233,13 @@ module _ (g t : List ℕ) (x : Site) where
       unfolding exists
       for-other h = for-form ∙ rw h
 
-      pub for-is : (asked : List ℕ) (ty : ℕ) → itemType F ≡ some ty → Suited g t asked x For (record { first = x .node + 2; count = 1; positions = Alike (Nonterminal n); item = Number ty })
-      unfolding exists nodesOf loopsBelow bindings entryOf first heads
+      pub for-is : (asked : List ℕ) (ty : ℕ) → itemType F ≡ some ty → Suited g t asked x For (record { first = x .node + 2; count = 1; positions = Alike (Nonterminal n) (brings.Item ty) })
+      unfolding exists nodesOf loopsBelow bringsOf brought entryOf first heads
       for-is asked ty h = record {
         own = for-form ∙ rw h;
-        sites-are = for-sites ∙ on-some [] _ h ∙ alike g t asked (x .vars ++ ty ∷ []) (Nonterminal n) 1 0 (x .node + 2);
+        sites-are = for-sites ∙ on-some [] _ h ∙ alike-items g t asked (x .vars) (Nonterminal n) ty 1 0 (x .node + 2);
         nodes-are = refl;
         loops-are = λ m. sym (add-one m);
-        bound = omega arith;
         near = omega arith;
         few = omega arith;
         inside = λ i k. omega arith;
@@ -251,14 +253,13 @@ module _ (g t : List ℕ) (x : Site) where
   sequence-nothing h = rw h
 
   pub sequence-is : (asked : List ℕ) (n : ℕ) → asksRepetition (x .position) ≡ some n → (d : ℕ) → d ≡ fieldD t (x .node) → d < 65536
-      → Suited g t asked x Sequence (record { first = x .node + 1; count = d; positions = Alike (Item n); item = Nothing })
-  unfolding suitsForm exists sitesOf nodes nodesOf loopsBelow bindings entryOf
+      → Suited g t asked x Sequence (record { first = x .node + 1; count = d; positions = Alike (Item n) Nothing })
+  unfolding suitsForm exists sitesOf nodes nodesOf loopsBelow bringsOf brought entryOf
   sequence-is asked n h d hd l = record {
     own = rw h;
-    sites-are = on-some [] _ h ∙ rw (append-nil (x .vars), ← hd) (alike g t asked (x .vars) (Item n) d 0 (x .node + 1));
+    sites-are = on-some [] _ h ∙ rw (← hd) (alike g t asked (x .vars) (Item n) d 0 (x .node + 1));
     nodes-are = rw hd;
     loops-are = λ m. sym (add-zero m);
-    bound = omega arith;
     near = omega arith;
     few = l;
     inside = λ i k. omega arith;

@@ -1,24 +1,24 @@
 -- Laws of a value and of what stands below it, in step with the code. Assumes nothing.
 use Prim.Native.Nat.{ℕ, zero, suc, _+_, _-_, _*_, _≤_, _<_}
 use mathlib.Core.Path.{_≡_, refl, sym, ap, _∙_}
-use mathlib.Core.List.{List, _∷_, map}
-use mathlib.Core.Bool.{Bool, true, false}
+use mathlib.Core.List.{List, [], _∷_, map}
+use mathlib.Core.Bool.{Bool, true, false, false≢true}
 use mathlib.Core.Option.{Option, none, some}
 use native.Mathlib.Omega.{arith}
 use native.Mathlib.Nat.{add-zero}
 use lib.ListN.{length}
-use lib.Dec.{eqb}
-use borrow.Author.Tests.{eq-eqb, ne-eqb, eqb-true}
-use Rattle.rules.specs.Faults.{every, onFound, onlyIf, at}
-use Rattle.rules.specs.Records.{kindOf, fieldB, fieldD, textOf, heads, row}
+use lib.Dec.{eqb, ltb}
+use borrow.Author.Tests.{eq-eqb, ne-eqb, eqb-true, eqb-false, ltb-true, ltb-false}
+use Rattle.rules.specs.Faults.{every, onFound, onlyIf, exists, at}
+use Rattle.rules.specs.Records.{kindOf, fieldA, fieldB, fieldD, textOf, heads, row, nth}
 use Rattle.rules.specs.Lexeme.{isPlainLexeme}
-use Rattle.rules.specs.Templates.{list, fields, typeOf}
-use Rattle.rules.specs.Value.{valueSize, children, asText, asYesNo, asList, asRecord}
+use Rattle.rules.specs.Templates.{list, fields, cases, typeOf}
+use Rattle.rules.specs.Value.{valueSize, children, content, asText, asYesNo, asList, asRecord, asCase}
 use Rattle.rules.specs.Limits.{deepest}
 use Rattle.rules.specs.Typing.{Typed, typed, hasForm, hasType, paired, typedOf, typedBelow, mistyped, declaredType, valueTyping}
 use Rattle.laws.specs.Faults.{every-one, every-next, every-stop, every-end, if-exists, on-some, on-none, at-none, at-some, tree-deep, tree-wrong, tree-right}
 use Rattle.laws.specs.Lists.{length-map}
-use Rattle.laws.specs.Rows.{length-heads}
+use Rattle.laws.specs.Rows.{length-heads, row-some, row-none}
 use Rattle.stream.specs.Fault.{faultOf}
 use Rattle.stream.specs.Record.{Fetched}
 use Rattle.stream.specs.declared.Fault.{Fault}
@@ -30,9 +30,9 @@ use Rattle.stream.specs.declared.text.Text.{Text as StreamText}
 use Rattle.records.specs.Sizes.{ValueSize}
 use Rattle.lexeme.specs.Sources.{admitted}
 use Rattle.lexeme.proofs.SourceLaws.{admitted-plain}
-use Rattle.typing.specs.Answers.{kindForm, childCount, childType, rowOf, typedIn}
+use Rattle.typing.specs.Answers.{kindForm, childCount, kindBelow, childType, rowOf, typedIn}
 use Rattle.typing.specs.declared.Kind.{Kind}
-use Rattle.typing.specs.declared.Kind.the-variants.{Text, YesNo, Items, Fields, Missing}
+use Rattle.typing.specs.declared.Kind.the-variants.{Text, YesNo, Items, Fields, Cases, Missing}
 use Rattle.typing.proofs.RowLaws.{map-row, turns-start, turns-done, turns-more}
 
 -- the value's own test, by the kind of its type
@@ -74,6 +74,22 @@ module _ (g v t : List ℕ) (w : ℕ) (r : Record) (f : Fetched v w r) where
   unfolding hasForm asRecord onFound onlyIf
   fields-other h n e = sym (rw (ne-eqb _ _ (λ k. e (f .kind ∙ k))))
 
+  cases-there : (h n a : ℕ) → exists (nth (map (fieldB t) (row n (h + 1))) a) ≡ ltb a n
+  unfolding exists
+  cases-there h n a = go (ltb a n) refl
+    where
+      go : (b : Bool) → ltb a n ≡ b → exists (nth (map (fieldB t) (row n (h + 1))) a) ≡ b
+      go true e = rw (row-some (fieldB t) n (h + 1) a (ltb-true a n e))
+      go false e = rw (row-none (fieldB t) n (h + 1) a (ltb-false a n e))
+
+  pub cases-is : (h n : ℕ) → r .kind ≡ 5 → ltb (r .a) n ≡ hasForm g v (kindForm t (Cases h n)) w
+  unfolding hasForm asCase onFound onlyIf
+  cases-is h n e = sym (rw (eq-eqb _ _ (sym (f .kind) ∙ e), ← f .a) (cases-there h n (r .a)))
+
+  pub cases-other : (h n : ℕ) → (r .kind ≡ 5 → ⊥) → false ≡ hasForm g v (kindForm t (Cases h n)) w
+  unfolding hasForm asCase onFound onlyIf
+  cases-other h n e = sym (rw (ne-eqb _ _ (λ k. e (f .kind ∙ k))))
+
 -- what stands below a value
 
 items-from : (t v : List ℕ) (ty n i p : ℕ) → map (typed ty) (heads (valueSize v) n p) ≡ rowOf (typedIn t (Items ty)) (valueSize v) n i p
@@ -103,9 +119,15 @@ unfolding hasForm typedOf asRecord onFound onlyIf
 record-below g v w tys true k e = (eqb-true _ _ (rw k at e), sym (rw k))
 record-below g v w tys false k e = let z : false ≡ true = rw k at e in (cc, cc)
 
+-- the one child of a case, which is as an item of its case's type
+case-below : (t v : List ℕ) (h n w a : ℕ) → kindOf v w ≡ 5 → a ≡ fieldA v w → a < n
+    → typed (fieldB t (h + 1 + a)) (w + 1) ∷ [] ≡ typedOf v (cases (map (fieldB t) (row n (h + 1)))) w
+unfolding typedOf asCase content onFound onlyIf
+case-below t v h n w a k e l = sym (rw (k, ← e, row-some (fieldB t) n (h + 1) a l))
+
 pub below-are : (g t v : List ℕ) (w : ℕ) (r : Record) → Fetched v w r → (K : Kind) → hasForm g v (kindForm t K) w ≡ true
-    → rowOf (typedIn t K) (valueSize v) (childCount K (r .d)) 0 (w + 1) ≡ typedOf v (kindForm t K) w
-unfolding childCount rowOf typedOf children
+    → rowOf (typedIn t (kindBelow t K (r .a))) (valueSize v) (childCount K (r .d)) 0 (w + 1) ≡ typedOf v (kindForm t K) w
+unfolding childCount kindBelow rowOf typedIn childType typedOf children
 below-are g t v w r f (Text c) e = refl
 below-are g t v w r f YesNo e = refl
 below-are g t v w r f (Items ty) e = sym (items-from t v ty (r .d) 0 (w + 1)) ∙ rw (f .d) (list-below g v w ty e)
@@ -116,6 +138,13 @@ below-are g t v w r f (Fields h n) e =
     ∙ ap (λ (m : ℕ). paired (map (fieldB t) (row m (h + 1 + 0))) (heads (valueSize v) (r .d) (w + 1))) d
     ∙ ap (λ (m : ℕ). paired (map (fieldB t) (row n (h + 1 + 0))) (heads (valueSize v) m (w + 1))) (f .d)
     ∙ rw (add-zero (h + 1)) (k .1)
+below-are g t v w r f (Cases h n) e = go (eqb (r .kind) 5) refl
+  where
+    go : (b : Bool) → eqb (r .kind) 5 ≡ b → typed (fieldB t (h + 1 + r .a)) (w + 1) ∷ [] ≡ typedOf v (cases (map (fieldB t) (row n (h + 1)))) w
+    go true k =
+        let z : r .kind ≡ 5 = eqb-true _ _ k in
+        case-below t v h n w (r .a) (sym (f .kind) ∙ z) (f .a) (ltb-true _ _ (cases-is g v t w r f h n z ∙ e))
+    go false k = absurd (false≢true (cases-other g v t w r f h n (eqb-false _ _ k) ∙ e))
 below-are g t v w r f Missing e = refl
 
 -- a row of values, turn by turn: what is left after i of n. The next of them is child i of a value of kind K
@@ -162,7 +191,7 @@ module _ {g t v : List ℕ} {left : ℕ} {K : Kind} {first n next i : ℕ} (T : 
       turn-own h = turn-stop (typedIn t K i next) (tree-wrong (hasType g t v) (typedBelow t v) left (typedIn t K i next) (omega (arith, deep)) (has-type ∙ h))
 
       module _ (right : b ≡ true) {r : Record} (f : Fetched v next r) {m : ℕ} (count : m ≡ childCount L (r .d)) where
-        value-below : mistyped g t v left (typedIn t K i next) ≡ mistypedRow g t v (left - 1) L m 0 (next + 1)
+        value-below : mistyped g t v left (typedIn t K i next) ≡ mistypedRow g t v (left - 1) (kindBelow t L (r .a)) m 0 (next + 1)
         unfolding mistyped typedBelow typedIn typed
         value-below =
             tree-right (hasType g t v) (typedBelow t v) left (typedIn t K i next) (omega (arith, deep)) (has-type ∙ right)
@@ -173,13 +202,17 @@ module _ {g t v : List ℕ} {left : ℕ} {K : Kind} {first n next i : ℕ} (T : 
         turn-leaf z s = turn-next (value-below ∙ rw z) f s
 
         -- by what the check of the row below has answered
-        module _ (one : Fault) (says : faultOf one ≡ at (λ x. x .value) (mistypedRow g t v (left - 1) L m 0 (next + 1))) where
+        module _ {M : Kind} (below : M ≡ kindBelow t L (r .a)) (one : Fault)
+            (says : faultOf one ≡ at (λ x. x .value) (mistypedRow g t v (left - 1) M m 0 (next + 1))) where
+          says-so : faultOf one ≡ at (λ x. x .value) (mistypedRow g t v (left - 1) (kindBelow t L (r .a)) m 0 (next + 1))
+          says-so = says ∙ rw below
+
           pub turn-right : one ≡ Nowhere → {c : ℕ} → ValueSize r c → ValueTurn g t v left K first n (next + c) (i + 1)
-          turn-right h s = turn-next (value-below ∙ at-none _ _ .0 (unfound _ _ says h)) f s
+          turn-right h s = turn-next (value-below ∙ at-none _ _ .0 (unfound _ _ says-so h)) f s
 
           pub turn-wrong : {q : ℕ} → one ≡ At q → some q ≡ at (λ x. x .value) (mistypedRow g t v left K n 0 first)
           turn-wrong h =
-              let x = at-some _ _ _ (found _ _ _ says h) in
+              let x = at-some _ _ _ (found _ _ _ says-so h) in
               ap some (sym (x .2)) ∙ turn-stop (x .0) (value-below ∙ x .1)
 
 -- the whole value

@@ -14,7 +14,7 @@ use Rattle.rules.specs.declared.Position.the-variants.{Nonterminal}
 use Rattle.lexeme.specs.Sets.{LexemesReady}
 use Rattle.typing.specs.declared.Below.{Below}
 use Rattle.typing.specs.declared.Frame.{Frame}
-use Rattle.typing.specs.Answers.{entryOf}
+use Rattle.typing.specs.Answers.{entryOf, bringsOf, brought}
 use Rattle.typing.specs.Asked.{AskedFilled}
 
 -- refusal 7: the tables hold the heads by their numbers, and refusals 1 and 4 are not met
@@ -82,12 +82,12 @@ pub record FrameReady (levels : ℕ) (t : List ℕ) (f : Frame) : Type 0 where
   pub few : f .count ≤ 8 + loops
   pub limits : tree fewLoops (loopedBelow t) levels (looped loops (f .node)) ≡ none
 
--- a row of nodes that may be checked, with so many levels left and so many variables in scope
+-- a row of nodes that may be checked, with so many levels left and so many variables in scope beside what its nodes bring
 pub record RowReady (levels : ℕ) (t : List ℕ) (b : Below) (count : ℕ) : Type 0 where
   pub near : RoomBelow levels (b .first + b .count * 65535)
   pub many : b .count < 65536
   pub inside : (i : ℕ) → i < b .count → entryOf (b .positions) i < 8064
-  pub limits : RowLimits levels t count (b .count) (b .first)
+  pub limits : RowLimits levels t (count + brought (bringsOf (b .positions))) (b .count) (b .first)
 
 -- the frame of a template's body, without the types of its parameters
 pub record BodyOf (t : List ℕ) (q : ℕ) (f : Frame) : Type 0 where

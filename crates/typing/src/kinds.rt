@@ -41,6 +41,7 @@ fn type_at(t: &[u8], h: u16) -> Kind
         1 => Kind::YesNo,
         2 => Kind::Items(r.b),
         3 => Kind::Fields(h, r.d),
+        4 => Kind::Cases(h, r.d),
         _ => Kind::Missing,
     }
 }
@@ -73,6 +74,7 @@ fn field_of(t: &[u8], types: &[u16], n: u16, j: u16) -> Sought
         Kind::Text(_) => Sought::Nothing,
         Kind::YesNo => Sought::Nothing,
         Kind::Items(_) => Sought::Nothing,
+        Kind::Cases(_, _) => Sought::Nothing,
         Kind::Missing => Sought::Nothing,
     }
 }

@@ -11,7 +11,7 @@ use rules::Position;
 // A stream has at most so many records.
 pub const RECORDS: usize = 8064;
 
-// At most so many variables are in scope: 8 parameters, and the items of 16 loops.
+// At most so many variables are in scope: 8 parameters, and one for each of 16 loops, an item or the content of a case.
 pub const VARIABLES: usize = 24;
 
 // Nodes and values stand at most so deep.
@@ -23,12 +23,14 @@ pub enum Sought {
     Nothing,
 }
 
-// What a type is: a text of a class, a yes/no, a list of items of a type, or a record, by the place of its head and its number of fields.
+// What a type is: a text of a class, a yes/no, a list of items of a type, or a record or a variant, by the place of its head and its number of
+// fields or cases.
 pub enum Kind {
     Text(u16),
     YesNo,
     Items(u16),
     Fields(u16, u16),
+    Cases(u16, u16),
     Missing,
 }
 
@@ -40,19 +42,25 @@ pub struct Frame {
     pub count: usize,
 }
 
-// The positions of nodes in a row: all in one, or each in that of its element, by the place of a production's row in the table of asked elements.
+// What nodes in a row have as one variable more: nothing; an item of a type; or each the content of its case, by the place of the variant's head.
+pub enum Brings {
+    Nothing,
+    Item(u16),
+    Contents(u16),
+}
+
+// The positions of nodes in a row: all in one, with what they have as one variable more; or each in that of its element, by the place of a
+// production's row in the table of asked elements.
 pub enum Positions {
-    Alike(Position),
+    Alike(Position, Brings),
     Asked(u16),
 }
 
-// What stands directly below a node: so many nodes in a row from a place on, in these positions, and the type of the item that they have
-// as one variable more, if they do.
+// What stands directly below a node: so many nodes in a row from a place on, in these positions.
 pub struct Below {
     pub first: usize,
     pub count: usize,
     pub positions: Positions,
-    pub item: Sought,
 }
 
 // The answer of a node's own test.

@@ -7,47 +7,77 @@ ghost use Rattle.rules.specs.Faults.{every};
 ghost use Rattle.rules.specs.Blocks.{streamLength};
 ghost use Rattle.rules.specs.Typing.{misfit};
 ghost use Rattle.stream.specs.Record.{Fetched};
-ghost use Rattle.typing.specs.Answers.{siteOf, positionIn, entryOf, bindings, Bound, sitesIn, Checked};
+ghost use Rattle.typing.specs.Answers.{siteOf, entryOf, bringsOf, brought, bindings, Bound, FrameIn, sitesIn, Checked};
 ghost use Rattle.typing.specs.Asks.{CheckerTables, FrameReady, RowReady, Scope};
 use crate::Below;
+use crate::Brings;
 use crate::Frame;
 use crate::Judged;
 use crate::Positions;
 use crate::RECORDS;
-use crate::Sought;
 use crate::Tested;
 use crate::VARIABLES;
 use crate::asked::position_at;
 use crate::suits::own_test;
 use records::node::size_in;
-use rules::Position;
 use stream::record::Record;
 use stream::record::fetch;
 
-// The position of node i of a row.
-fn position_in(g: &[u8], asked: &[u16; RECORDS], positions: Positions, i: usize) -> Position
-    requires { ⌜ (streamLength (now g) ≡ none) × (i < 65536) × (entryOf positions i < 8064) ⌝ }
-    ensures { λ r. ⌜ r ≡ positionIn (now (g .entry)) (now (asked .entry)) positions i ⌝ }
+// Binds what node i of a row brings: its type comes behind those of `count` variables. The answer is how many there are then.
+fn bind(t: &[u8], scope: &mut [u16; VARIABLES], count: usize, brings: Brings, i: usize) -> usize
+    requires { ⌜ (streamLength (now t) ≡ none) × (i < 65536) × (Scope (now scope) (count + brought brings)) ⌝ }
+    ensures { λ r. ⌜ Bound (now (scope .entry)) count (bindings (now (t .entry)) brings i) (now (scope .exit)) r ⌝ }
+{
+    match brings {
+        Brings::Nothing => count,
+        Brings::Item(ty) => {
+            scope[count] = ty;
+            count + 1
+        }
+        Brings::Contents(h) => {
+            scope[count] = fetch(t, h as usize + 1 + i).b;
+            count + 1
+        }
+    }
+}
+
+// The frame of node i of a row, which is at a place and has `count` variables in scope beside what it brings. One match answers for its position
+// and its variable: a build's row, which brings nothing, then costs no more than its positions.
+fn frame_in(
+    g: &[u8],
+    t: &[u8],
+    asked: &[u16; RECORDS],
+    scope: &mut [u16; VARIABLES],
+    count: usize,
+    positions: Positions,
+    at: usize,
+    i: usize,
+) -> Frame
+    requires { ⌜ (streamLength (now g) ≡ none) × (streamLength (now t) ≡ none) × (i < 65536) × (entryOf positions i < 8064) × (Scope (now scope) (count + brought (bringsOf positions))) ⌝ }
+    ensures { λ f. ⌜ FrameIn (now (g .entry)) (now (t .entry)) (now (asked .entry)) (now (scope .entry)) count positions at i (now (scope .exit)) f ⌝ }
 {
     match positions {
-        Positions::Alike(position) => position,
-        Positions::Asked(q) => position_at(g, asked[q as usize + 1 + i]),
+        Positions::Alike(position, brings) => {
+            let seen = bind(t, scope, count, brings, i);
+            Frame {
+                node: at,
+                position: position,
+                count: seen,
+            }
+        }
+        Positions::Asked(q) => {
+            let position = position_at(g, asked[q as usize + 1 + i]);
+            Frame {
+                node: at,
+                position: position,
+                count: count,
+            }
+        }
     }
 }
 
-// Puts the type of an item, if there is one, behind those of `count` variables. The answer is how many there are then.
-fn bind(scope: &mut [u16; VARIABLES], count: usize, item: Sought) -> usize
-    requires { ⌜ Scope (now scope) (count + length (bindings item)) ⌝ }
-    ensures { λ r. ⌜ Bound (now (scope .entry)) count item (now (scope .exit)) r ⌝ }
-{
-    if let Sought::Number(ty) = item {
-        scope[count] = ty;
-        return count + 1;
-    }
-    count
-}
-
-// The first node that does not suit its position, of a row of nodes with so many variables in scope and of all that stands below them.
+// The first node that does not suit its position, of a row of nodes with so many variables in scope beside what they bring, and of all that stands
+// below them.
 fn row(
     g: &[u8],
     t: &[u8],
@@ -69,13 +99,8 @@ fn row(
     let mut at = below.first;
     let mut i = 0;
     while i < below.count {
-        let position = position_in(g, asked, positions, i);
-        let f = Frame {
-            node: at,
-            position: position,
-            count: count,
-        };
-        let head = fetch(t, at);
+        let f = frame_in(g, t, asked, scope, count, positions, at, i);
+        let head = fetch(t, f.node);
         let one = check(
             g,
             t,
@@ -99,7 +124,7 @@ fn row(
     Judged::Suits
 }
 
-// The first node from the frame's on that does not suit its position, where `left` levels are left. A build, an if, a for and a sequence
+// The first node from the frame's on that does not suit its position, where `left` levels are left. A build, an if, a for, a sequence and a match
 // differ only in the row that stands below them. The node's head comes from the caller: a row needs it too, for the node's size.
 pub fn check(
     g: &[u8],
@@ -138,8 +163,6 @@ pub fn check(
     let Tested::Above(below) = own else {
         return Judged::Offends(f.node, position);
     };
-    let item = below.item;
-    let count = bind(scope, f.count, item);
     row(
         g,
         t,
@@ -151,7 +174,7 @@ pub fn check(
         templates,
         scope,
         below,
-        count,
+        f.count,
         left - 1,
     )
 }

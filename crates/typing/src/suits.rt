@@ -14,6 +14,7 @@ ghost use Rattle.stream.specs.Record.{Fetched};
 ghost use Rattle.typing.specs.Answers.{found, siteOf, leafOf, Tests};
 ghost use Rattle.typing.specs.Asks.{RoomBelow, TypeTable, Scope, BuildAsks, CheckerTables};
 use crate::Below;
+use crate::Brings;
 use crate::Frame;
 use crate::Kind;
 use crate::Positions;
@@ -95,7 +96,6 @@ fn leaf(ok: bool) -> Tested
         first: 0,
         count: 0,
         positions: Positions::Asked(0),
-        item: Sought::Nothing,
     })
 }
 
@@ -123,7 +123,6 @@ fn suits_build(g: &[u8], productions: &[u16], asked: &[u16; RECORDS], f: Frame, 
         first: f.node + 1,
         count: r.d as usize,
         positions: Positions::Asked(q),
-        item: Sought::Nothing,
     })
 }
 
@@ -160,6 +159,7 @@ fn suits_place(
         Kind::YesNo => false,
         Kind::Items(_) => false,
         Kind::Fields(_, _) => false,
+        Kind::Cases(_, _) => false,
         Kind::Missing => false,
     }
 }
@@ -221,7 +221,7 @@ fn suits_expand(
     arguments_fit(t, types, scope, f, r.d as usize, q)
 }
 
-// An if: on a yes/no, for a nonterminal. Both branches are in its own position, whichever will be taken.
+// An if: on a yes/no, for a nonterminal. Both branches are in the position of that nonterminal, whichever will be taken.
 fn suits_if(t: &[u8], types: &[u16], scope: &[u16; VARIABLES], f: Frame) -> Tested
     requires { ⌜ (RoomBelow 1 (f .node)) × (TypeTable (now t) (now types)) × (Scope (now scope) (f .count)) ⌝ }
     ensures { λ r. ⌜ ((g asked : List ℕ) → Tests g (now (t .entry)) asked (siteOf (now (scope .entry)) f) Form.If r) ⌝ }
@@ -234,12 +234,12 @@ fn suits_if(t: &[u8], types: &[u16], scope: &[u16; VARIABLES], f: Frame) -> Test
         Kind::YesNo => Tested::Above(Below {
             first: f.node + 2,
             count: 2,
-            positions: Positions::Alike(Position::Nonterminal(n)),
-            item: Sought::Nothing,
+            positions: Positions::Alike(Position::Nonterminal(n), Brings::Nothing),
         }),
         Kind::Text(_) => Tested::Unsuited,
         Kind::Items(_) => Tested::Unsuited,
         Kind::Fields(_, _) => Tested::Unsuited,
+        Kind::Cases(_, _) => Tested::Unsuited,
         Kind::Missing => Tested::Unsuited,
     }
 }
@@ -257,12 +257,12 @@ fn suits_for(t: &[u8], types: &[u16], scope: &[u16; VARIABLES], f: Frame) -> Tes
         Kind::Items(ty) => Tested::Above(Below {
             first: f.node + 2,
             count: 1,
-            positions: Positions::Alike(Position::Nonterminal(n)),
-            item: Sought::Number(ty),
+            positions: Positions::Alike(Position::Nonterminal(n), Brings::Item(ty)),
         }),
         Kind::Text(_) => Tested::Unsuited,
         Kind::YesNo => Tested::Unsuited,
         Kind::Fields(_, _) => Tested::Unsuited,
+        Kind::Cases(_, _) => Tested::Unsuited,
         Kind::Missing => Tested::Unsuited,
     }
 }
@@ -279,9 +279,37 @@ fn suits_sequence(f: Frame, r: Record) -> Tested
     Tested::Above(Below {
         first: f.node + 1,
         count: r.d as usize,
-        positions: Positions::Alike(Position::Item(n)),
-        item: Sought::Nothing,
+        positions: Positions::Alike(Position::Item(n), Brings::Nothing),
     })
+}
+
+// A match: on a variant, for a nonterminal, with an arm for each case. All arms are in the position of that nonterminal, whichever will be taken, and
+// each has one variable more, the content of its case.
+fn suits_match(t: &[u8], types: &[u16], scope: &[u16; VARIABLES], f: Frame, r: Record) -> Tested
+    requires { ⌜ (RoomBelow 1 (f .node)) × (TypeTable (now t) (now types)) × (Scope (now scope) (f .count)) × (Fetched (now t) (f .node) r) ⌝ }
+    ensures { λ a. ⌜ ((g asked : List ℕ) → Tests g (now (t .entry)) asked (siteOf (now (scope .entry)) f) Form.Match a) ⌝ }
+{
+    let position = f.position;
+    let Sought::Number(n) = asks_nonterminal(position) else {
+        return Tested::Unsuited;
+    };
+    match path_kind(t, types, scope, f.count, f.node + 1) {
+        Kind::Cases(h, d) => {
+            if d != r.d {
+                return Tested::Unsuited;
+            }
+            Tested::Above(Below {
+                first: f.node + 2,
+                count: r.d as usize,
+                positions: Positions::Alike(Position::Nonterminal(n), Brings::Contents(h)),
+            })
+        }
+        Kind::Text(_) => Tested::Unsuited,
+        Kind::YesNo => Tested::Unsuited,
+        Kind::Items(_) => Tested::Unsuited,
+        Kind::Fields(_, _) => Tested::Unsuited,
+        Kind::Missing => Tested::Unsuited,
+    }
 }
 
 // A node's own test, from its head r, by its form: whether it suits its position, and what stands below it.
@@ -309,6 +337,7 @@ pub fn own_test(
         Form::If => suits_if(t, types, scope, f),
         Form::For => suits_for(t, types, scope, f),
         Form::Sequence => suits_sequence(f, r),
+        Form::Match => suits_match(t, types, scope, f, r),
         Form::Unknown => Tested::Unsuited,
     }
 }

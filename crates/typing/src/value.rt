@@ -10,7 +10,7 @@ ghost use Rattle.rules.specs.Typing.{hasForm, mistyped, valueTyping};
 ghost use Rattle.rules.specs.Value.{valueSize};
 ghost use Rattle.stream.specs.Fault.{faultOf};
 ghost use Rattle.stream.specs.Record.{Fetched};
-ghost use Rattle.typing.specs.Answers.{kindForm, childCount, childType, rowOf, typedIn};
+ghost use Rattle.typing.specs.Answers.{kindForm, childCount, kindBelow, childType, rowOf, typedIn};
 ghost use Rattle.typing.specs.Asks.{TypeTable, ValueRow, ValueAsks};
 use crate::Kind;
 use crate::LEVELS;
@@ -53,6 +53,7 @@ fn has_form(
         Kind::YesNo => r.kind == 2,
         Kind::Items(_) => r.kind == 3,
         Kind::Fields(_, n) => { if r.kind == 4 { r.d == n } else { false } }
+        Kind::Cases(_, n) => { if r.kind == 5 { (r.a as u16) < n } else { false } }
         Kind::Missing => false,
     }
 }
@@ -66,11 +67,31 @@ fn child_count(kind: Kind, r: Record) -> usize
         Kind::YesNo => 0,
         Kind::Items(_) => r.d as usize,
         Kind::Fields(_, _) => r.d as usize,
+        Kind::Cases(_, _) => 1,
         Kind::Missing => 0,
     }
 }
 
-// The type of child i of a value of a kind: the item type, or that of field i.
+// The kind by which the values below one of a kind are typed: its own; but the one child of a case, whose number is given, comes as an item of
+// the type of that case's content.
+fn kind_below(t: &[u8], kind: Kind, number: u8) -> Kind
+    requires { ⌜ streamLength (now t) ≡ none ⌝ }
+    ensures { λ k. ⌜ k ≡ kindBelow (now (t .entry)) kind number ⌝ }
+{
+    match kind {
+        Kind::Cases(h, _) => {
+            let case = fetch(t, h as usize + 1 + number as usize);
+            Kind::Items(case.b)
+        }
+        Kind::Text(_) => kind,
+        Kind::YesNo => kind,
+        Kind::Items(_) => kind,
+        Kind::Fields(_, _) => kind,
+        Kind::Missing => kind,
+    }
+}
+
+// The type of child i of a value of a kind: the item type, or that of field i. The child of a case comes as an item, by kind_below.
 fn child_type(t: &[u8], kind: Kind, i: usize) -> u16
     requires { ⌜ (streamLength (now t) ≡ none) × (i < 65536) ⌝ }
     ensures { λ r. ⌜ r ≡ childType (now (t .entry)) kind i ⌝ }
@@ -83,6 +104,7 @@ fn child_type(t: &[u8], kind: Kind, i: usize) -> u16
             let r = fetch(t, h as usize + 1 + i);
             r.b
         }
+        Kind::Cases(_, _) => 0,
         Kind::Missing => 0,
     }
 }
@@ -117,12 +139,14 @@ fn values_typed(
             return Fault::At(w);
         }
         let count = child_count(own, r);
+        let number = r.a;
         // All that the next turn needs of this value's record is read here, so that no frame keeps a record over its call.
         next += size_of(r);
         i += 1;
         // Most values are texts, which have nothing below them and cost no call.
         if count != 0 {
-            let one = values_typed(g, t, v, classes, sets, types, own, w + 1, count, left - 1);
+            let below = kind_below(t, own, number);
+            let one = values_typed(g, t, v, classes, sets, types, below, w + 1, count, left - 1);
             if let Fault::At(p) = one {
                 return Fault::At(p);
             }

@@ -14,7 +14,7 @@ use Rattle.rules.specs.Grammar.{nonterminal, textLength, elementNumbered, eleme
 use Rattle.rules.specs.Templates.{formOf}
 use Rattle.rules.specs.Walk.{Input, State, End, stuck, Asked, piece, filledBy, writtenFor, visitForm, reached, visit}
 use Rattle.rules.specs.declared.Form.{Form}
-use Rattle.rules.specs.declared.Form.the-variants.{Build, Literal, Place, Expand, If, For, Sequence, Unknown}
+use Rattle.rules.specs.declared.Form.the-variants.{Build, Literal, Place, Expand, If, For, Sequence, Match, Unknown}
 use Rattle.stream.specs.Record.{Fetched}
 use Rattle.stream.specs.declared.record.Record.{Record}
 use Rattle.records.specs.Sizes.{repeats}
@@ -44,6 +44,7 @@ module _ (i : Input) (n m : ℕ) where
   form-any If self h p env s = found-same _ _ _ (λ w. found-same _ _ _ (λ yes?. h _ env s))
   form-any For self h p env s = refl
   form-any Sequence self h p env s = refl
+  form-any Match self h p env s = found-same _ _ _ (λ w. found-same _ _ _ (λ c. found-same _ _ _ (λ arm. h arm _ s)))
   form-any Unknown self h p env s = refl
 
   pub visit-any : (k p : ℕ) (env : List ℕ) (s : State) → visit i k (piece (nonterminal n)) p env s ≡ visit i k (piece (nonterminal m)) p env s

@@ -6,9 +6,9 @@ use mathlib.Core.Bool.{Bool, true, false, cond}
 use mathlib.Core.Option.{some}
 use native.Mathlib.Omega.{arith}
 use Rattle.rules.specs.Records.{fieldC, fieldD, heads, nth}
-use Rattle.rules.specs.Templates.{templates, body, formOf, nodes, first, second, nodesOf, nodesBelow}
+use Rattle.rules.specs.Templates.{templates, body, formOf, nodes, first, second, arms, nodesOf, nodesBelow}
 use Rattle.rules.specs.declared.Form.{Form}
-use Rattle.rules.specs.declared.Form.the-variants.{Build, Expand, If, For, Sequence}
+use Rattle.rules.specs.declared.Form.the-variants.{Build, Expand, If, For, Sequence, Match}
 use Rattle.laws.specs.Faults.{In, here, later, nth-in, Below, itself, under}
 use Rattle.laws.specs.Rows.{heads-more}
 use Rattle.stream.specs.Record.{Fetched}
@@ -47,6 +47,11 @@ module _ (t : List ℕ) (p : ℕ) where
 
   pub if-below : formOf t p ≡ If → (b : Bool) (c : ℕ) → c ≡ cond b (first p) (second t p) → c ≤ p + 65537 → NodeBelow t p c
   if-below f b c e l = record { stands = rw e (of-form If f (branch-in b)); near = omega arith }
+
+  -- a match: its arm for the case y
+  pub match-below : formOf t p ≡ Match → (y b : ℕ) → nth (arms t p) y ≡ some b → b ≤ p + 2 + 65535 * y → y < 65536 → NodeBelow t p b
+  unfolding nodesOf
+  match-below f y b e l m = record { stands = of-form Match f (nth-in (arms t p) y b e); near = omega arith }
 
 -- a walk along a row of nodes below a node, of which i are passed
 

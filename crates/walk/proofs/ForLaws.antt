@@ -75,8 +75,8 @@ module _ {s : Sources} {at : At} {out₀ s₀ : List ℕ} (formed : Formed For s
     for-end h e = rw e (going-end (inv .going) (λ y. order-done _ _ _ y (drop-done (children (s .value) w) done (omega (arith, length-list)))))
 
     module _ (more : done < count) where
-      parent : 3 ≤ kindOf (s .value) w
-      parent = omega (arith, list .list)
+      parent : (3 ≤ kindOf (s .value) w) × (kindOf (s .value) w ≤ 4)
+      parent = (omega (arith, list .list), omega (arith, list .list))
 
       inside : done < fieldD (s .value) w
       inside = omega (arith, list .counted)

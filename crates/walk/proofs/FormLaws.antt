@@ -12,12 +12,12 @@ use borrow.Author.Tests.{eq-eqb, ne-eqb, eqb-true, eqb-false, lt-ltb, le-ltb, lt
 use Rattle.rules.specs.Records.{kindOf, fieldA, fieldB, fieldC, fieldD, textOf, heads, row, nth}
 use Rattle.rules.specs.Grammar.{production, Element, nonterminal, elementNumbered, elementAt, elementHeads, elementSize, elements}
 use Rattle.rules.specs.Escape.{escape}
-use Rattle.rules.specs.Templates.{templates, template, body, formOf, isFor, nodes, paths, path, first, second}
-use Rattle.rules.specs.Value.{children, asText, asYesNo, asList}
+use Rattle.rules.specs.Templates.{templates, template, body, formOf, isFor, nodes, paths, path, first, second, arms}
+use Rattle.rules.specs.Value.{children, content, asText, asYesNo, asList, asCase}
 use Rattle.rules.specs.Answers.{input}
 use Rattle.rules.specs.Walk.{State, End, done, stuck, andThen, write, pathValue, pathValues, withChild, pieces, Filled, Asked, piece, items, filledBy, visitItem, inOrder, listed, itemsOf, visitIn, writtenFor, visitForm, counted, reached, visit}
 use Rattle.rules.specs.declared.Form.{Form}
-use Rattle.rules.specs.declared.Form.the-variants.{Build, Literal, Place, Expand, If, For, Sequence, Unknown}
+use Rattle.rules.specs.declared.Form.the-variants.{Build, Literal, Place, Expand, If, For, Sequence, Match, Unknown}
 use Rattle.laws.specs.Faults.{on-some, on-none, only-yes, only-no}
 use Rattle.laws.specs.Rows.{heads-done, heads-more}
 use Rattle.walk.specs.declared.at.At.{At}
@@ -140,6 +140,10 @@ module _ (g t v : List ℕ) (fuel : ℕ) (out : List ℕ) (self : Asked → ℕ 
     unfolding visitForm input path
     if-lost = on-none stuck _ lost
 
+    pub match-lost : visitForm (input g t v fuel out) Match self a p env s ≡ stuck
+    unfolding visitForm input path
+    match-lost = on-none stuck _ lost
+
   module _ (w : ℕ) (got : pathValue t v env (p + 1) ≡ some w) (k : ℕ) (hk : k ≡ kindOf v w) where
     pub if-other : (k ≡ 2 → ⊥) → visitForm (input g t v fuel out) If self a p env s ≡ stuck
     unfolding visitForm input path asYesNo
@@ -148,6 +152,24 @@ module _ (g t v : List ℕ) (fuel : ℕ) (out : List ℕ) (self : Asked → ℕ 
     pub if-is : k ≡ 2 → (y b : ℕ) → y ≡ fieldA v w → b ≡ cond (eqb y 1) (first p) (second t p) → self a b env s ≡ visitForm (input g t v fuel out) If self a p env s
     unfolding visitForm input path asYesNo
     if-is e y b ha hb = sym (on-some stuck _ got ∙ on-some stuck _ (only-yes _ (eqb (fieldA v w) 1) (eq-eqb _ _ (sym hk ∙ e))) ∙ rw (← ha, ← hb))
+
+    pub match-other : (k ≡ 5 → ⊥) → visitForm (input g t v fuel out) Match self a p env s ≡ stuck
+    unfolding visitForm input path asCase
+    match-other o = on-some stuck _ got ∙ on-none stuck _ (only-no _ _ (ne-eqb _ _ (λ e. o (hk ∙ e))))
+
+    -- of a case: y is its number
+    module _ (e : k ≡ 5) (y : ℕ) (hy : y ≡ fieldA v w) where
+      case-is : asCase v w ≡ some (record { number = y; inside = content w })
+      unfolding asCase
+      case-is = only-yes _ _ (eq-eqb _ _ (sym hk ∙ e)) ∙ rw (← hy)
+
+      pub match-missing : nth (arms t p) y ≡ none → visitForm (input g t v fuel out) Match self a p env s ≡ stuck
+      unfolding visitForm input path
+      match-missing l = on-some stuck _ got ∙ on-some stuck _ case-is ∙ on-none stuck _ l
+
+      pub match-is : (b : ℕ) → nth (arms t p) y ≡ some b → self a b (env ++ content w ∷ []) s ≡ visitForm (input g t v fuel out) Match self a p env s
+      unfolding visitForm input path
+      match-is b l = sym (on-some stuck _ got ∙ on-some stuck _ case-is ∙ on-some stuck _ l)
 
   -- an expand: q is the template's place
   pub expand-none : (ts : List ℕ) (n : ℕ) → ts ≡ templates t → n ≡ fieldB t p → nth ts n ≡ none → visitForm (input g t v fuel out) Expand self a p env s ≡ stuck

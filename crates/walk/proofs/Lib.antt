@@ -10,4 +10,5 @@ pub mod LoopLaws
 pub mod ForLaws
 pub mod BuildLaws
 pub mod EnterLaws
+pub mod MatchLaws
 pub mod StartLaws

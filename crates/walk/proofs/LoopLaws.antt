@@ -124,7 +124,8 @@ other-form (suc (suc (suc zero))) h = refl
 other-form (suc (suc (suc (suc zero)))) h = refl
 other-form (suc (suc (suc (suc (suc zero))))) h = absurd (h refl)
 other-form (suc (suc (suc (suc (suc (suc zero)))))) h = refl
-other-form (suc (suc (suc (suc (suc (suc (suc a))))))) h = refl
+other-form (suc (suc (suc (suc (suc (suc (suc zero))))))) h = refl
+other-form (suc (suc (suc (suc (suc (suc (suc (suc a)))))))) h = refl
 
 not-for : {t : List ℕ} {p : ℕ} {r : Record} → Fetched t p r → (r .a ≡ 5 → ⊥) → isFor (formOf t p) ≡ false
 unfolding formOf

@@ -11,7 +11,7 @@ use Rattle.rules.specs.Faults.{onFound}
 use Rattle.rules.specs.Blocks.{streamLength}
 use Rattle.rules.specs.Records.{kindOf, fieldA, fieldD, nth}
 use Rattle.rules.specs.Templates.{variable}
-use Rattle.rules.specs.Value.{valueSize, children, valuesBelow, asRecord}
+use Rattle.rules.specs.Value.{valueSize, children, valuesBelow, asRecord, content}
 use Rattle.rules.specs.Walk.{valueAlong, pathValue}
 use Rattle.laws.specs.Faults.{on-some, on-none, only-yes, only-no}
 use Rattle.laws.specs.Lists.{nth-some, nth-none, nth-more, first-some}
@@ -54,16 +54,29 @@ held-more v env w h l = record { each = λ k x e. nth-more env w k x e (Stands v
 
 -- the children of a list or a record, by the table
 
-module _ (v firsts places : List ℕ) (table : Children v firsts places) (w : ℕ) (value : Stands v w) (parent : 3 ≤ kindOf v w) (j : ℕ) (more : j < fieldD v w) where
+module _ (v firsts places : List ℕ) (table : Children v firsts places) (w : ℕ) (value : Stands v w) (parent : (3 ≤ kindOf v w) × (kindOf v w ≤ 4)) (j : ℕ) (more : j < fieldD v w) where
   nth-child : nth (valuesBelow v w) j ≡ some (getD (children v w) j 0)
   unfolding valuesBelow children
-  nth-child = rw (le-leb 3 (kindOf v w) parent) (nth-some (children v w) j (rw (length-heads (valueSize v) (fieldD v w) (w + 1)) more))
+  nth-child = rw (ne-eqb (kindOf v w) 5 (λ e. omega (arith, parent .1)), le-leb 3 (kindOf v w) (parent .0)) (nth-some (children v w) j (rw (length-heads (valueSize v) (fieldD v w) (w + 1)) more))
 
   pub child-there : ChildAt firsts places w j (getD (children v w) j 0)
   child-there = table .each w j (getD (children v w) j 0) value nth-child
 
   pub child-stands : Stands v (getD (children v w) j 0)
   child-stands = below w j (getD (children v w) j 0) value nth-child
+
+-- the content of a case, by the table
+
+module _ (v firsts places : List ℕ) (table : Children v firsts places) (w : ℕ) (value : Stands v w) (case : kindOf v w ≡ 5) where
+  nth-content : nth (valuesBelow v w) 0 ≡ some (content w)
+  unfolding valuesBelow nth
+  nth-content = rw case
+
+  pub content-there : ChildAt firsts places w 0 (content w)
+  content-there = table .each w 0 (content w) value nth-content
+
+  pub content-stands : Stands v (content w)
+  content-stands = below w 0 (content w) value nth-content
 
 -- the fields of a record
 
@@ -85,8 +98,8 @@ module _ (v : List ℕ) (w j k d : ℕ) (hk : k ≡ kindOf v w) (hd : d ≡ fiel
     field-past l = field-in ∙ nth-none (children v w) j (omega (arith, count-is))
 
     module _ (more : j < d) (firsts places : List ℕ) (table : Children v firsts places) (value : Stands v w) where
-      parent : 3 ≤ kindOf v w
-      parent = omega arith
+      parent : (3 ≤ kindOf v w) × (kindOf v w ≤ 4)
+      parent = (omega arith, omega arith)
 
       inside : j < fieldD v w
       inside = omega arith

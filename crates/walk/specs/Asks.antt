@@ -49,7 +49,7 @@ pub record Walkable (s : Sources) (scratch : List ℕ) : Type 0 where
   pub lent : WalkLent s
   pub scratch-lent : scratchNeeded ≤ length scratch
 
--- The root brings one variable, and each level below it at most 8: an expand's paths, or a loop's item. So these are the most that may be
+-- The root brings one variable, and each level below it at most 8: an expand's paths, a loop's item or a case's content. So these are the most that may be
 -- alive at depth 201; the last of them are never stored, since nothing is visited there.
 abbrev pub mostAlive : ℕ
 mostAlive = 1601

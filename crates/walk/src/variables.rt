@@ -20,7 +20,7 @@ pub fn variable(scratch: &[u16], base: usize, vars: usize, k: usize) -> Lookup
     }
 }
 
-// One variable more, right behind those of a frame: the whole value, a parameter, a loop's item.
+// One variable more, right behind those of a frame: the whole value, a parameter, a loop's item, the content of a case.
 pub fn bind(scratch: &mut [u16], base: usize, vars: usize, w: u16)
     requires { ⌜ base + vars < length (now scratch) ⌝ }
     ensures { λ _. ⌜ Bound base vars w (now (scratch .entry)) (now (scratch .exit)) ⌝ }

@@ -5,9 +5,10 @@
 ghost use mathlib.Core.Path.{_≡_};
 ghost use mathlib.Core.Bool.{cond};
 ghost use mathlib.Core.Option.{none};
-ghost use Prim.Native.Nat.{_+_, _≤_, _<_, _^_};
+ghost use Prim.Native.Nat.{_+_, _*_, _≤_, _<_, _^_};
 ghost use lib.Dec.{eqb};
 ghost use Rattle.rules.specs.Blocks.{streamLength};
+ghost use Rattle.rules.specs.Records.{fieldC, after};
 ghost use Rattle.rules.specs.Templates.{body, formOf, first, second};
 ghost use Rattle.stream.specs.Record.{Fetched};
 ghost use Rattle.walk.specs.Asks.{InReach, sources, Visitable, Formed, Listed};
@@ -63,6 +64,20 @@ fn branch_of(t: &[u8], node: usize, a: u8) -> usize
         return yes;
     }
     yes + size_at(t, yes)
+}
+
+// The arm of a match for the case of this number.
+fn arm_of(t: &[u8], node: usize, case: u8) -> usize
+    requires { ⌜ (streamLength (now t) ≡ none) × (InReach 1 node) ⌝ }
+    ensures { λ r. ⌜ (r ≡ after (fieldC (now (t .entry))) case (first node)) × (r ≤ node + 2 + 65535 * case) ⌝ }
+{
+    let mut arm = node + 2;
+    let mut i = 0;
+    while i < case {
+        arm += size_at(t, arm);
+        i += 1;
+    }
+    arm
 }
 
 // A sequence visits its items in order, with its separator between them; n of them so far. A for among them brings any number. The two ways stay apart
@@ -356,6 +371,41 @@ fn if_branch(
     visit(below, g, t, ps, out, v, firsts, places, scratch, ts)
 }
 
+// A match visits only the arm of its case, with the case's content as one variable more.
+fn match_arm(
+    at: At,
+    head: Record,
+    g: &[u8],
+    t: &[u8],
+    ps: &[u16],
+    out: &mut [u8],
+    v: &[u8],
+    firsts: &[u16],
+    places: &[u16],
+    scratch: &mut [u16],
+    ts: &[u16],
+) -> Run
+    requires { ⌜ (Formed Form.Match (sources (now g) (now t) (now v) (now ps) (now ts) (now firsts) (now places)) at (now out) (now scratch)) × (Fetched (now t) (at .node) head) ⌝ }
+    ensures { λ r. ⌜ VisitedFrom (formAt Form.Match (now (g .entry)) (now (t .entry)) (now (v .entry)) at (now (out .entry)) (now (scratch .entry))) at r (now (out .entry)) (now (out .exit)) (now (scratch .entry)) (now (scratch .exit)) ⌝ }
+{
+    let path = at.node + 1;
+    let Lookup::Found(w) = path_value(t, v, firsts, places, scratch, at.base, at.vars, path) else {
+        return stuck(at);
+    };
+    let case = fetch(v, w as usize);
+    if case.kind != 5 {
+        return stuck(at);
+    }
+    if head.d <= case.a as u16 {
+        return stuck(at);
+    }
+    let arm = arm_of(t, at.node, case.a);
+    let content = child_at(firsts, places, w, 0);
+    bind(scratch, at.base, at.vars, content);
+    let below = at.below(arm, at.element).bound();
+    visit(below, g, t, ps, out, v, firsts, places, scratch, ts)
+}
+
 // A visit of a node: it is tried for 10, counts one step, and is tried for 11; then its form decides.
 pub fn visit(
     at: At,
@@ -388,6 +438,7 @@ pub fn visit(
         Form::If => if_branch(here, g, t, ps, out, v, firsts, places, scratch, ts),
         Form::For => stuck(here),
         Form::Sequence => sequence_items(here, head, g, t, ps, out, v, firsts, places, scratch, ts),
+        Form::Match => match_arm(here, head, g, t, ps, out, v, firsts, places, scratch, ts),
         Form::Unknown => stuck(here),
     }
 }

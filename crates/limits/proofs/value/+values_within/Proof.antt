@@ -20,6 +20,7 @@ use borrow.Fn.PlainCycle.{Measures, is, falls, and}
 use Rattle.limits.proofs.value.values_within.Reads as values-within
 use Rattle.limits.proofs.value.values_within.Kinds as values-within-kinds
 use Rattle.limits.proofs.value.+values_within.Lts-values_within as values-within-lts
+use Rattle.records.proofs.value.count_below.Reads as count-below-reads
 use Rattle.records.proofs.value.size_of.Reads as size-of-reads
 use Rattle.stream.proofs.record.fetch_at.Reads as fetch-at-reads
 use Rattle.stream.proofs.record.forward.Reads as forward-reads
@@ -42,7 +43,7 @@ values-within-below t =
     values-within.Pre
 
 abbrev values-within-claims : (t : ℕ) → values-within-lts.Claims
-values-within-claims t = (fetch-at-reads.Asked, fetch-at-reads.Learnt, size-of-reads.Asked, size-of-reads.Learnt, forward-reads.Asked, forward-reads.Learnt, values-within-below t, values-within.Post)
+values-within-claims t = (fetch-at-reads.Asked, fetch-at-reads.Learnt, size-of-reads.Asked, size-of-reads.Learnt, forward-reads.Asked, forward-reads.Learnt, count-below-reads.Asked, count-below-reads.Learnt, values-within-below t, values-within.Post)
 
 abbrev values-within-Inv-loop : values-within-lts.InvT-loop
 values-within-Inv-loop v first count left at₀ place₀ i₀ at place i = (i ≤ count) × (at ≤ first + i * 65536) × (every (tree (λ w. true) (valuesBelow v) left) (heads (valueSize v) (count - i) at) ≡ valuesWithin v left count first) × (place ≡ placeOf at)
@@ -77,26 +78,26 @@ values-within-forward-requires t c κs = reach _ _ _ (c .before .before .before 
 values-within-add-turn : (t : ℕ) → values-within-lts.Need-add-turn (values-within-claims t) (values-within-at t) values-within.Post values-within-Inv-loop values-within-μ-loop
 values-within-add-turn t c = search needs
 
+values-within-count-below-requires : (t : ℕ) → values-within-lts.Need-count-below-requires (values-within-claims t) (values-within-at t) values-within.Post values-within-Inv-loop values-within-μ-loop
+values-within-count-below-requires t c κs = search needs
+
 values-within-forward-requires-2 : (t : ℕ) → values-within-lts.Need-forward-requires-2 (values-within-claims t) (values-within-at t) values-within.Post values-within-Inv-loop values-within-μ-loop
 values-within-forward-requires-2 t c κs = reach _ _ _ (c .before .before .before .before .before .before .loop .inv .3) (omega arith)
 
 values-within-add-values-within : (t : ℕ) → values-within-lts.Need-add-values-within (values-within-claims t) (values-within-at t) values-within.Post values-within-Inv-loop values-within-μ-loop
 values-within-add-values-within t c = search needs
 
-values-within-cast-values-within : (t : ℕ) → values-within-lts.Need-cast-values-within (values-within-claims t) (values-within-at t) values-within.Post values-within-Inv-loop values-within-μ-loop
-values-within-cast-values-within t c = search needs
-
 values-within-sub-values-within : (t : ℕ) → values-within-lts.Need-sub-values-within (values-within-claims t) (values-within-at t) values-within.Post values-within-Inv-loop values-within-μ-loop
 values-within-sub-values-within t c = search needs
 
 values-within-values-within-requires : (t : ℕ) → values-within-lts.Need-values-within-requires (values-within-claims t) (values-within-at t) values-within.Post values-within-Inv-loop values-within-μ-loop
-values-within-values-within-requires t c κs = (omega arith, record { sized = c .before .before .before .before .before .before .before .before .before .before .before .before .pre .1 .sized; near = record { place = omega arith; few = omega arith }; from-is = c .before .forward2 .ensures _ (c .before .before .before .before .before .before .before .before .loop .inv .3) })
+values-within-values-within-requires t c κs = (omega arith, record { sized = c .before .before .before .before .before .before .before .before .before .before .before .pre .1 .sized; near = record { place = omega arith; few = omega arith }; from-is = c .forward2 .ensures _ (c .before .before .before .before .before .before .before .loop .inv .3) })
 
 values-within-enum-known-fault : (t : ℕ) → values-within-lts.Need-enum-known-fault (values-within-claims t) (values-within-at t) values-within.Post values-within-Inv-loop values-within-μ-loop
 values-within-enum-known-fault t c = search needs
 
 values-within-returns-3 : (t : ℕ) → values-within-lts.Need-returns-3 (values-within-claims t) (values-within-at t) values-within.Post values-within-Inv-loop values-within-μ-loop
-values-within-returns-3 t c = every-stop _ (c .before .before .before .before .before .before .before .before .before .before .before .before .loop .inv .2) (heads-more _ _ _ _ (c .before .before .before .before .before .before .before .before .before .before .before .loop-test .taken) _ (c .before .before .before .before .before .before .before .before .before .size-of .ensures .is _ _ (c .before .before .before .before .before .before .before .before .before .before .fetch-at .ensures _ (c .before .before .before .before .before .before .before .before .before .before .before .before .loop .inv .3)))) (value-below _ _ _ (omega arith) _ ((c .before .before .before .before .before .before .before .before .before .before .fetch-at .ensures _ (c .before .before .before .before .before .before .before .before .before .before .before .before .loop .inv .3)) .kind) (c .before .before .before .before .before .before .if3 .taken) _ ((c .before .before .before .before .before .before .before .before .before .before .fetch-at .ensures _ (c .before .before .before .before .before .before .before .before .before .before .before .before .loop .inv .3)) .d) ∙ (found _ _ _ (c .before .before .before .values-within .ensures) (c .before .fault .given .1)))
+values-within-returns-3 t c = every-stop _ (c .before .before .before .before .before .before .before .before .before .before .before .loop .inv .2) (heads-more _ _ _ _ (c .before .before .before .before .before .before .before .before .before .before .loop-test .taken) _ (c .before .before .before .before .before .before .before .before .size-of .ensures .is _ _ (c .before .before .before .before .before .before .before .before .before .fetch-at .ensures _ (c .before .before .before .before .before .before .before .before .before .before .before .loop .inv .3)))) (value-below _ _ _ (omega arith) _ (c .before .before .before .before .before .before .count-below .ensures .is _ _ (c .before .before .before .before .before .before .before .before .before .fetch-at .ensures _ (c .before .before .before .before .before .before .before .before .before .before .before .loop .inv .3))) ∙ found _ _ _ (c .before .before .before .values-within .ensures) (c .before .fault .given .1))
 
 values-within-enum-told : (t : ℕ) → values-within-lts.Need-enum-told (values-within-claims t) (values-within-at t) values-within.Post values-within-Inv-loop values-within-μ-loop
 values-within-enum-told t c = search needs
@@ -105,13 +106,13 @@ values-within-loop-less : (t : ℕ) → values-within-lts.Need-loop-less (values
 values-within-loop-less t c = search needs
 
 values-within-loop-again : (t : ℕ) → values-within-lts.Need-loop-again (values-within-claims t) (values-within-at t) values-within.Post values-within-Inv-loop values-within-μ-loop
-values-within-loop-again t c = (omega arith, omega arith, every-next _ (c .before .before .before .before .before .before .before .before .before .before .before .loop .inv .2) (heads-more _ _ _ _ (c .before .before .before .before .before .before .before .before .before .before .loop-test .taken) _ (c .before .before .before .before .before .before .before .before .size-of .ensures .is _ _ (c .before .before .before .before .before .before .before .before .before .fetch-at .ensures _ (c .before .before .before .before .before .before .before .before .before .before .before .loop .inv .3)))) (value-below _ _ _ (omega arith) _ ((c .before .before .before .before .before .before .before .before .before .fetch-at .ensures _ (c .before .before .before .before .before .before .before .before .before .before .before .loop .inv .3)) .kind) (c .before .before .before .before .before .if3 .taken) _ ((c .before .before .before .before .before .before .before .before .before .fetch-at .ensures _ (c .before .before .before .before .before .before .before .before .before .before .before .loop .inv .3)) .d) ∙ (unfound _ _ (c .before .before .values-within .ensures) (c .enum-told .given .1))), c .before .before .before .before .before .before .before .forward .ensures _ (c .before .before .before .before .before .before .before .before .before .before .before .loop .inv .3))
+values-within-loop-again t c = (omega arith, omega arith, every-next _ (c .before .before .before .before .before .before .before .before .before .before .loop .inv .2) (heads-more _ _ _ _ (c .before .before .before .before .before .before .before .before .before .loop-test .taken) _ (c .before .before .before .before .before .before .before .size-of .ensures .is _ _ (c .before .before .before .before .before .before .before .before .fetch-at .ensures _ (c .before .before .before .before .before .before .before .before .before .before .loop .inv .3)))) (value-below _ _ _ (omega arith) _ (c .before .before .before .before .before .count-below .ensures .is _ _ (c .before .before .before .before .before .before .before .before .fetch-at .ensures _ (c .before .before .before .before .before .before .before .before .before .before .loop .inv .3))) ∙ unfound _ _ (c .before .before .values-within .ensures) (c .enum-told .given .1)), c .before .before .before .before .before .before .forward .ensures _ (c .before .before .before .before .before .before .before .before .before .before .loop .inv .3))
 
 values-within-loop-less-2 : (t : ℕ) → values-within-lts.Need-loop-less-2 (values-within-claims t) (values-within-at t) values-within.Post values-within-Inv-loop values-within-μ-loop
 values-within-loop-less-2 t c = search needs
 
 values-within-loop-again-2 : (t : ℕ) → values-within-lts.Need-loop-again-2 (values-within-claims t) (values-within-at t) values-within.Post values-within-Inv-loop values-within-μ-loop
-values-within-loop-again-2 t c = (omega arith, omega arith, every-next _ (c .before .before .before .before .before .before .loop .inv .2) (heads-more _ _ _ _ (c .before .before .before .before .before .loop-test .taken) _ (c .before .before .before .size-of .ensures .is _ _ (c .before .before .before .before .fetch-at .ensures _ (c .before .before .before .before .before .before .loop .inv .3)))) (value-leaf _ _ _ (omega arith) _ ((c .before .before .before .before .fetch-at .ensures _ (c .before .before .before .before .before .before .loop .inv .3)) .kind) (c .if3 .left)), c .before .before .forward .ensures _ (c .before .before .before .before .before .before .loop .inv .3))
+values-within-loop-again-2 t c = (omega arith, omega arith, every-next _ (c .before .before .before .before .before .before .loop .inv .2) (heads-more _ _ _ _ (c .before .before .before .before .before .loop-test .taken) _ (c .before .before .before .size-of .ensures .is _ _ (c .before .before .before .before .fetch-at .ensures _ (c .before .before .before .before .before .before .loop .inv .3)))) (value-leaf _ _ _ (omega arith) _ (c .before .count-below .ensures .is _ _ (c .before .before .before .before .fetch-at .ensures _ (c .before .before .before .before .before .before .loop .inv .3))) (c .if3 .left)), c .before .before .forward .ensures _ (c .before .before .before .before .before .before .loop .inv .3))
 
 values-within-returns-4 : (t : ℕ) → values-within-lts.Need-returns-4 (values-within-claims t) (values-within-at t) values-within.Post values-within-Inv-loop values-within-μ-loop
 values-within-returns-4 t c = every-end _ (c .before .loop .inv .2) (heads-done _ _ _ _ (c .loop-test .left))
@@ -124,6 +125,8 @@ pub +values-within-spec : {M : Type 1} → statement M
   size-of-reads.Learnt,
   forward-reads.Asked,
   forward-reads.Learnt,
+  count-below-reads.Asked,
+  count-below-reads.Learnt,
   values-within-below t,
   values-within.Post,
 )
@@ -139,9 +142,9 @@ pub +values-within-spec : {M : Type 1} → statement M
     (values-within-add-after t)
     (values-within-forward-requires t)
     (values-within-add-turn t)
+    (values-within-count-below-requires t)
     (values-within-forward-requires-2 t)
     (values-within-add-values-within t)
-    (values-within-cast-values-within t)
     (values-within-sub-values-within t)
     (values-within-values-within-requires t)
     (values-within-enum-known-fault t)

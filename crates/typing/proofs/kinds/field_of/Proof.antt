@@ -36,6 +36,9 @@ enum-told-3 c = search needs
 enum-told-4 : tie.Need-enum-told-4
 enum-told-4 c = search needs
 
+enum-told-5 : tie.Need-enum-told-5
+enum-told-5 c = search needs
+
 returns : tie.Need-returns
 returns c = field-some _ _ _ _ _ (kind-is _ (c .before .before .before .before .before .type-of .ensures) (c .before .before .before .h .given .1)) (c .before .if1 .taken) _ (c .fetch .ensures .b)
 
@@ -58,6 +61,10 @@ returns-6 : tie.Need-returns-6
 unfolding onFound fieldTypes
 returns-6 c = sym (rw (kind-is _ (c .before .before .type-of .ensures) (c .enum-told4 .given .1)))
 
+returns-7 : tie.Need-returns-7
+unfolding onFound fieldTypes
+returns-7 c = sym (rw (kind-is _ (c .before .before .type-of .ensures) (c .enum-told5 .given .1)))
+
 pub field-of-spec : {M : Type 1} → statement M
 field-of-spec =
     tie.close
@@ -72,9 +79,11 @@ field-of-spec =
     enum-told-2
     enum-told-3
     enum-told-4
+    enum-told-5
     returns
     returns-2
     returns-3
     returns-4
     returns-5
-    returns-6)
+    returns-6
+    returns-7)

@@ -25,8 +25,14 @@ unfolding typeAt typeNumbered fieldHeads
 returns-4 c = sym (rw (sym (c .before .fetch .ensures .a) ∙ c .match .keys4, ← c .before .fetch .ensures .d))
 
 returns-5 : tie.Need-returns-5
+unfolding typeAt typeNumbered fieldHeads
+returns-5 c = sym (rw (sym (c .before .fetch .ensures .a) ∙ c .match .keys5, ← c .before .fetch .ensures .d))
+
+returns-6 : tie.Need-returns-6
 unfolding typeAt
-returns-5 c = no-form _ _ _ (λ q. c .match .rest .0 .0 .0 .1 (c .before .fetch .ensures .a ∙ q)) (λ q. c .match .rest .0 .0 .1 (c .before .fetch .ensures .a ∙ q)) (λ q. c .match .rest .0 .1 (c .before .fetch .ensures .a ∙ q)) (λ q. c .match .rest .1 (c .before .fetch .ensures .a ∙ q))
+returns-6 c = no-form _ _ _ (λ q. c .match .rest .0 .0 .0 .0 .1 (c .before .fetch .ensures .a ∙ q)) (λ q. c .match .rest .0 .0 .0 .1 (c .before .fetch .ensures .a ∙ q)) (λ q. c .match .rest .0 .0 .1 (c .before .fetch .ensures .a ∙ q)) (λ q. c .match .rest .0 .1 (c .before .fetch .ensures .a ∙ q)) (λ q. c .match .rest .1 (c .before .fetch .ensures .a ∙ q))
 
 pub type-at-spec : {M : Type 1} → statement M
-type-at-spec = tie.close (tie.spec fetch-requires returns returns-2 returns-3 returns-4 returns-5)
+type-at-spec =
+    tie.close
+    (tie.spec fetch-requires returns returns-2 returns-3 returns-4 returns-5 returns-6)

@@ -64,6 +64,12 @@ suits-sequence-requires c κs = c .before .before .before .before .before .befor
 enum-told-8 : tie.Need-enum-told-8
 enum-told-8 c = search needs
 
+suits-match-requires : tie.Need-suits-match-requires
+suits-match-requires c κs = (c .before .before .before .before .before .before .before .before .before .before .pre .1, c .before .before .before .before .before .before .before .before .before .before .pre .0 .types, c .before .before .before .before .before .before .before .before .before .before .pre .2, c .before .before .before .before .before .before .before .before .before .before .pre .3)
+
+enum-told-9 : tie.Need-enum-told-9
+enum-told-9 c = search needs
+
 returns : tie.Need-returns
 returns c = by-form (form-is _ _ _ (c .before .before .before .before .before .before .before .before .before .before .before .pre .3) _ (c .before .before .before .form-of .ensures)) (c .before .enum-told .given .1) (c .suits-build .ensures _ _ (c .before .before .before .before .before .before .before .before .before .before .before .pre .3))
 
@@ -86,8 +92,11 @@ returns-7 : tie.Need-returns-7
 returns-7 c = by-form (form-is _ _ _ (c .before .before .before .before .before .before .before .before .before .before .before .pre .3) _ (c .before .before .before .form-of .ensures)) (c .before .enum-told7 .given .1) (c .suits-sequence .ensures _ _ _ _ (c .before .before .before .before .before .before .before .before .before .before .before .pre .3))
 
 returns-8 : tie.Need-returns-8
+returns-8 c = by-form (form-is _ _ _ (c .before .before .before .before .before .before .before .before .before .before .before .pre .3) _ (c .before .before .before .form-of .ensures)) (c .before .enum-told8 .given .1) (c .suits-match .ensures _ _)
+
+returns-9 : tie.Need-returns-9
 unfolding suitsForm
-returns-8 c = by-form (form-is _ _ _ (c .before .before .before .before .before .before .before .before .before .before .pre .3) _ (c .before .before .form-of .ensures)) (c .enum-told8 .given .1) (unsuited refl)
+returns-9 c = by-form (form-is _ _ _ (c .before .before .before .before .before .before .before .before .before .before .pre .3) _ (c .before .before .form-of .ensures)) (c .enum-told9 .given .1) (unsuited refl)
 
 pub own-test-spec : {M : Type 1} → statement M
 own-test-spec =
@@ -112,6 +121,8 @@ own-test-spec =
     enum-told-7
     suits-sequence-requires
     enum-told-8
+    suits-match-requires
+    enum-told-9
     returns
     returns-2
     returns-3
@@ -119,4 +130,5 @@ own-test-spec =
     returns-5
     returns-6
     returns-7
-    returns-8)
+    returns-8
+    returns-9)

@@ -44,6 +44,9 @@ enum-told-4 c = search needs
 enum-told-5 : tie.Need-enum-told-5
 enum-told-5 c = search needs
 
+enum-told-6 : tie.Need-enum-told-6
+enum-told-6 c = search needs
+
 returns-2 : tie.Need-returns-2
 unfolding itemType
 returns-2 c = λ g asked. suited (for-is g _ _ _ (sym (kind-is _ (c .before .before .before .before .path-kind .ensures) (c .before .before .ty .given .1))) _ (got (c .before .before .before .before .before .before .before .before .before .asks-item .ensures) (c .before .before .before .before .before .before .before .n .given .1)) asked _ refl)
@@ -64,6 +67,10 @@ returns-6 : tie.Need-returns-6
 unfolding itemType
 returns-6 c = λ g asked. unsuited (for-other g _ _ _ (sym (kind-is _ (c .before .before .path-kind .ensures) (c .enum-told5 .given .1))) _ (got (c .before .before .before .before .before .before .before .asks-item .ensures) (c .before .before .before .before .before .n .given .1)) refl)
 
+returns-7 : tie.Need-returns-7
+unfolding itemType
+returns-7 c = λ g asked. unsuited (for-other g _ _ _ (sym (kind-is _ (c .before .before .path-kind .ensures) (c .enum-told6 .given .1))) _ (got (c .before .before .before .before .before .before .before .asks-item .ensures) (c .before .before .before .before .before .n .given .1)) refl)
+
 pub suits-for-spec : {M : Type 1} → statement M
 suits-for-spec =
     tie.close
@@ -80,8 +87,10 @@ suits-for-spec =
     enum-told-3
     enum-told-4
     enum-told-5
+    enum-told-6
     returns-2
     returns-3
     returns-4
     returns-5
-    returns-6)
+    returns-6
+    returns-7)

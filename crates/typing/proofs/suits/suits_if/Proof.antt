@@ -44,6 +44,9 @@ enum-told-5 c = search needs
 enum-told-6 : tie.Need-enum-told-6
 enum-told-6 c = search needs
 
+enum-told-7 : tie.Need-enum-told-7
+enum-told-7 c = search needs
+
 returns-2 : tie.Need-returns-2
 unfolding isYesNo
 returns-2 c = λ g asked. suited (if-is g _ _ _ (sym (kind-is _ (c .before .before .before .path-kind .ensures) (c .before .enum-told2 .given .1))) _ (got (c .before .before .before .before .before .before .before .before .asks-nonterminal .ensures) (c .before .before .before .before .before .before .n .given .1)) asked refl)
@@ -64,6 +67,10 @@ returns-6 : tie.Need-returns-6
 unfolding isYesNo
 returns-6 c = λ g asked. unsuited (if-other g _ _ _ (sym (kind-is _ (c .before .before .path-kind .ensures) (c .enum-told6 .given .1))) _ (got (c .before .before .before .before .before .before .before .asks-nonterminal .ensures) (c .before .before .before .before .before .n .given .1)) refl)
 
+returns-7 : tie.Need-returns-7
+unfolding isYesNo
+returns-7 c = λ g asked. unsuited (if-other g _ _ _ (sym (kind-is _ (c .before .before .path-kind .ensures) (c .enum-told7 .given .1))) _ (got (c .before .before .before .before .before .before .before .asks-nonterminal .ensures) (c .before .before .before .before .before .n .given .1)) refl)
+
 pub suits-if-spec : {M : Type 1} → statement M
 suits-if-spec =
     tie.close
@@ -80,8 +87,10 @@ suits-if-spec =
     enum-told-4
     enum-told-5
     enum-told-6
+    enum-told-7
     returns-2
     returns-3
     returns-4
     returns-5
-    returns-6)
+    returns-6
+    returns-7)

@@ -45,6 +45,9 @@ enum-told-4 c = search needs
 enum-told-5 : tie.Need-enum-told-5
 enum-told-5 c = search needs
 
+enum-told-6 : tie.Need-enum-told-6
+enum-told-6 c = search needs
+
 returns-2 : tie.Need-returns-2
 unfolding textClass onFound
 returns-2 c = rw (c .before .source-of .ensures .plain) (place-is _ _ _ _ (sym (kind-is _ (c .before .before .before .before .before .path-kind .ensures) (c .before .before .before .d .given .1))) _ (got (c .before .before .before .before .before .before .before .before .before .before .asks-class .ensures) (c .before .before .before .before .before .before .before .before .c .given .1)))
@@ -65,6 +68,10 @@ returns-6 : tie.Need-returns-6
 unfolding textClass onFound
 returns-6 c = place-is _ _ _ _ (sym (kind-is _ (c .before .before .path-kind .ensures) (c .enum-told5 .given .1))) _ (got (c .before .before .before .before .before .before .before .asks-class .ensures) (c .before .before .before .before .before .c .given .1))
 
+returns-7 : tie.Need-returns-7
+unfolding textClass onFound
+returns-7 c = place-is _ _ _ _ (sym (kind-is _ (c .before .before .path-kind .ensures) (c .enum-told6 .given .1))) _ (got (c .before .before .before .before .before .before .before .asks-class .ensures) (c .before .before .before .before .before .c .given .1))
+
 pub suits-place-spec : {M : Type 1} → statement M
 suits-place-spec =
     tie.close
@@ -81,8 +88,10 @@ suits-place-spec =
     enum-told-3
     enum-told-4
     enum-told-5
+    enum-told-6
     returns-2
     returns-3
     returns-4
     returns-5
-    returns-6)
+    returns-6
+    returns-7)

@@ -15,6 +15,7 @@ use Rattle.typing.proofs.kinds.type_of.Reads as type-of-reads
 use Rattle.typing.proofs.value.child_count.Reads as child-count-reads
 use Rattle.typing.proofs.value.child_type.Reads as child-type-reads
 use Rattle.typing.proofs.value.has_form.Reads as has-form-reads
+use Rattle.typing.proofs.value.kind_below.Reads as kind-below-reads
 use Rattle.typing.proofs.value.+values_typed.{statement}
 use Rattle.typing.proofs.value.+values_typed.Tie.{close}
 
@@ -34,7 +35,7 @@ values-typed-below t =
     values-typed.Pre
 
 abbrev values-typed-claims : (t : ℕ) → values-typed-lts.Claims
-values-typed-claims t = (fetch-reads.Asked, fetch-reads.Learnt, child-type-reads.Asked, child-type-reads.Learnt, type-of-reads.Asked, type-of-reads.Learnt, has-form-reads.Asked, has-form-reads.Learnt, child-count-reads.Asked, child-count-reads.Learnt, size-of-reads.Asked, size-of-reads.Learnt, values-typed-below t, values-typed.Post)
+values-typed-claims t = (fetch-reads.Asked, fetch-reads.Learnt, child-type-reads.Asked, child-type-reads.Learnt, type-of-reads.Asked, type-of-reads.Learnt, has-form-reads.Asked, has-form-reads.Learnt, child-count-reads.Asked, child-count-reads.Learnt, size-of-reads.Asked, size-of-reads.Learnt, kind-below-reads.Asked, kind-below-reads.Learnt, values-typed-below t, values-typed.Post)
 
 abbrev values-typed-Inv-loop : values-typed-lts.InvT-loop
 values-typed-Inv-loop g t v classes sets types kind first n left next₀ i₀ next i = ValueTurn g t v left kind first n next i
@@ -75,29 +76,32 @@ values-typed-add-next t c = record { fits = omega (arith, c .before .before .bef
 values-typed-add-i : (t : ℕ) → values-typed-lts.Need-add-i (values-typed-claims t) (values-typed-at t) values-typed.Post values-typed-Inv-loop values-typed-μ-loop
 values-typed-add-i t c = record { fits = omega (arith, c .before .before .before .before .before .before .before .before .before .before .before .before .before .before .before .before .pre .1 .3 .few, c .before .before .before .before .before .before .before .before .loop-test .taken) }
 
+values-typed-kind-below-requires : (t : ℕ) → values-typed-lts.Need-kind-below-requires (values-typed-claims t) (values-typed-at t) values-typed.Post values-typed-Inv-loop values-typed-μ-loop
+values-typed-kind-below-requires t c κs = c .before .before .before .before .before .before .before .before .before .before .before .before .before .before .before .before .before .pre .1 .1 .sized
+
 values-typed-add-values-typed : (t : ℕ) → values-typed-lts.Need-add-values-typed (values-typed-claims t) (values-typed-at t) values-typed.Post values-typed-Inv-loop values-typed-μ-loop
-values-typed-add-values-typed t c = record { fits = omega (arith, c .before .before .before .before .before .before .before .before .before .before .before .before .before .before .before .before .before .pre .1 .3 .near, c .before .before .before .before .before .before .before .before .before .before .before .before .before .before .before .before .before .pre .1 .3 .few, (c .before .before .before .before .before .before .before .before .before .before .loop .inv) .here, (c .before .before .before .before .before .before .before .before .before .before .loop .inv) .within, c .before .before .before .before .before .before .before .before .before .loop-test .taken, c .before .before .before .before .before .before .before .before .if1 .left) }
+values-typed-add-values-typed t c = record { fits = omega (arith, c .before .before .before .before .before .before .before .before .before .before .before .before .before .before .before .before .before .before .pre .1 .3 .near, c .before .before .before .before .before .before .before .before .before .before .before .before .before .before .before .before .before .before .pre .1 .3 .few, (c .before .before .before .before .before .before .before .before .before .before .before .loop .inv) .here, (c .before .before .before .before .before .before .before .before .before .before .before .loop .inv) .within, c .before .before .before .before .before .before .before .before .before .before .loop-test .taken, c .before .before .before .before .before .before .before .before .before .if1 .left) }
 
 values-typed-sub-values-typed : (t : ℕ) → values-typed-lts.Need-sub-values-typed (values-typed-claims t) (values-typed-at t) values-typed.Post values-typed-Inv-loop values-typed-μ-loop
-values-typed-sub-values-typed t c = omega (arith, c .before .before .before .before .before .before .before .before .if1 .left)
+values-typed-sub-values-typed t c = omega (arith, c .before .before .before .before .before .before .before .before .before .if1 .left)
 
 values-typed-values-typed-requires : (t : ℕ) → values-typed-lts.Need-values-typed-requires (values-typed-claims t) (values-typed-at t) values-typed.Post values-typed-Inv-loop values-typed-μ-loop
-values-typed-values-typed-requires t c κs = (omega (arith, c .before .before .before .before .before .before .before .before .before .before .before .before .before .before .before .before .before .pre .0, c .before .before .before .before .before .before .before .before .if1 .left), (c .before .before .before .before .before .before .before .before .before .before .before .before .before .before .before .before .before .pre .1 .0, c .before .before .before .before .before .before .before .before .before .before .before .before .before .before .before .before .before .pre .1 .1, c .before .before .before .before .before .before .before .before .before .before .before .before .before .before .before .before .before .pre .1 .2, record { near = omega (arith, c .before .before .before .before .before .before .before .before .before .before .before .before .before .before .before .before .before .pre .1 .3 .near, c .before .before .before .before .before .before .before .before .before .before .before .before .before .before .before .before .before .pre .1 .3 .few, (c .before .before .before .before .before .before .before .before .before .before .loop .inv) .here, (c .before .before .before .before .before .before .before .before .before .before .loop .inv) .within, c .before .before .before .before .before .before .before .before .before .loop-test .taken, c .before .before .before .before .before .before .before .before .if1 .left); few = c .before .before .child-count .ensures .1 }))
+values-typed-values-typed-requires t c κs = (omega (arith, c .before .before .before .before .before .before .before .before .before .before .before .before .before .before .before .before .before .before .pre .0, c .before .before .before .before .before .before .before .before .before .if1 .left), (c .before .before .before .before .before .before .before .before .before .before .before .before .before .before .before .before .before .before .pre .1 .0, c .before .before .before .before .before .before .before .before .before .before .before .before .before .before .before .before .before .before .pre .1 .1, c .before .before .before .before .before .before .before .before .before .before .before .before .before .before .before .before .before .before .pre .1 .2, record { near = omega (arith, c .before .before .before .before .before .before .before .before .before .before .before .before .before .before .before .before .before .before .pre .1 .3 .near, c .before .before .before .before .before .before .before .before .before .before .before .before .before .before .before .before .before .before .pre .1 .3 .few, (c .before .before .before .before .before .before .before .before .before .before .before .loop .inv) .here, (c .before .before .before .before .before .before .before .before .before .before .before .loop .inv) .within, c .before .before .before .before .before .before .before .before .before .before .loop-test .taken, c .before .before .before .before .before .before .before .before .before .if1 .left); few = c .before .before .before .child-count .ensures .1 }))
 
 values-typed-enum-known-one : (t : ℕ) → values-typed-lts.Need-enum-known-one (values-typed-claims t) (values-typed-at t) values-typed.Post values-typed-Inv-loop values-typed-μ-loop
 values-typed-enum-known-one t c = search needs
 
 values-typed-returns-3 : (t : ℕ) → values-typed-lts.Need-returns-3 (values-typed-claims t) (values-typed-at t) values-typed.Post values-typed-Inv-loop values-typed-μ-loop
-values-typed-returns-3 t c = turn-wrong (c .before .before .before .before .before .before .before .before .before .before .before .before .before .before .loop .inv) (c .before .before .before .before .before .before .before .before .before .before .before .before .before .loop-test .taken) (c .before .before .before .before .before .before .before .before .before .before .before .before .if1 .left) (c .before .before .before .before .before .before .before .before .before .before .child-type .ensures) (c .before .before .before .before .before .before .before .before .before .type-of .result) (c .before .before .before .before .before .before .before .before .before .type-of .ensures) (c .before .before .before .before .before .before .before .before .has-form .ensures (c .before .before .before .before .before .before .before .before .before .before .before .before .before .before .before .before .before .before .before .before .before .args .t .now)) (not-false _ (c .before .before .before .before .before .before .before .if2 .left)) (c .before .before .before .before .before .before .before .before .before .before .before .fetch .ensures) (c .before .before .before .before .before .before .child-count .ensures .0) _ (c .before .before .before .values-typed .ensures) (c .before .one .given .1)
+values-typed-returns-3 t c = turn-wrong (c .before .before .before .before .before .before .before .before .before .before .before .before .before .before .before .loop .inv) (c .before .before .before .before .before .before .before .before .before .before .before .before .before .before .loop-test .taken) (c .before .before .before .before .before .before .before .before .before .before .before .before .before .if1 .left) (c .before .before .before .before .before .before .before .before .before .before .before .child-type .ensures) (c .before .before .before .before .before .before .before .before .before .before .type-of .result) (c .before .before .before .before .before .before .before .before .before .before .type-of .ensures) (c .before .before .before .before .before .before .before .before .before .has-form .ensures (c .before .before .before .before .before .before .before .before .before .before .before .before .before .before .before .before .before .before .before .before .before .before .args .t .now)) (not-false _ (c .before .before .before .before .before .before .before .before .if2 .left)) (c .before .before .before .before .before .before .before .before .before .before .before .before .fetch .ensures) (c .before .before .before .before .before .before .before .child-count .ensures .0) (c .before .before .before .before .kind-below .ensures) _ (c .before .before .before .values-typed .ensures) (c .before .one .given .1)
 
 values-typed-enum-told : (t : ℕ) → values-typed-lts.Need-enum-told (values-typed-claims t) (values-typed-at t) values-typed.Post values-typed-Inv-loop values-typed-μ-loop
 values-typed-enum-told t c = search needs
 
 values-typed-loop-less : (t : ℕ) → values-typed-lts.Need-loop-less (values-typed-claims t) (values-typed-at t) values-typed.Post values-typed-Inv-loop values-typed-μ-loop
-values-typed-loop-less t c = omega (arith, c .before .before .before .before .before .before .before .before .before .before .before .before .loop-test .taken)
+values-typed-loop-less t c = omega (arith, c .before .before .before .before .before .before .before .before .before .before .before .before .before .loop-test .taken)
 
 values-typed-loop-again : (t : ℕ) → values-typed-lts.Need-loop-again (values-typed-claims t) (values-typed-at t) values-typed.Post values-typed-Inv-loop values-typed-μ-loop
-values-typed-loop-again t c = turn-right (c .before .before .before .before .before .before .before .before .before .before .before .before .before .loop .inv) (c .before .before .before .before .before .before .before .before .before .before .before .before .loop-test .taken) (c .before .before .before .before .before .before .before .before .before .before .before .if1 .left) (c .before .before .before .before .before .before .before .before .before .child-type .ensures) (c .before .before .before .before .before .before .before .before .type-of .result) (c .before .before .before .before .before .before .before .before .type-of .ensures) (c .before .before .before .before .before .before .before .has-form .ensures (c .before .before .before .before .before .before .before .before .before .before .before .before .before .before .before .before .before .before .before .before .args .t .now)) (not-false _ (c .before .before .before .before .before .before .if2 .left)) (c .before .before .before .before .before .before .before .before .before .before .fetch .ensures) (c .before .before .before .before .before .child-count .ensures .0) _ (c .before .before .values-typed .ensures) (c .enum-told .given .1) (c .before .before .before .before .size-of .ensures)
+values-typed-loop-again t c = turn-right (c .before .before .before .before .before .before .before .before .before .before .before .before .before .before .loop .inv) (c .before .before .before .before .before .before .before .before .before .before .before .before .before .loop-test .taken) (c .before .before .before .before .before .before .before .before .before .before .before .before .if1 .left) (c .before .before .before .before .before .before .before .before .before .before .child-type .ensures) (c .before .before .before .before .before .before .before .before .before .type-of .result) (c .before .before .before .before .before .before .before .before .before .type-of .ensures) (c .before .before .before .before .before .before .before .before .has-form .ensures (c .before .before .before .before .before .before .before .before .before .before .before .before .before .before .before .before .before .before .before .before .before .args .t .now)) (not-false _ (c .before .before .before .before .before .before .before .if2 .left)) (c .before .before .before .before .before .before .before .before .before .before .before .fetch .ensures) (c .before .before .before .before .before .before .child-count .ensures .0) (c .before .before .before .kind-below .ensures) _ (c .before .before .values-typed .ensures) (c .enum-told .given .1) (c .before .before .before .before .before .size-of .ensures)
 
 values-typed-loop-less-2 : (t : ℕ) → values-typed-lts.Need-loop-less-2 (values-typed-claims t) (values-typed-at t) values-typed.Post values-typed-Inv-loop values-typed-μ-loop
 values-typed-loop-less-2 t c = omega (arith, c .before .before .before .before .before .before .before .before .before .loop-test .taken)
@@ -122,6 +126,8 @@ pub +values-typed-spec : {M : Type 1} → statement M
   child-count-reads.Learnt,
   size-of-reads.Asked,
   size-of-reads.Learnt,
+  kind-below-reads.Asked,
+  kind-below-reads.Learnt,
   values-typed-below t,
   values-typed.Post,
 )
@@ -140,6 +146,7 @@ pub +values-typed-spec : {M : Type 1} → statement M
     (values-typed-size-of-requires t)
     (values-typed-add-next t)
     (values-typed-add-i t)
+    (values-typed-kind-below-requires t)
     (values-typed-add-values-typed t)
     (values-typed-sub-values-typed t)
     (values-typed-values-typed-requires t)

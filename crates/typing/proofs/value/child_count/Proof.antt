@@ -26,6 +26,9 @@ cast-result-2 c = search needs
 enum-told-5 : tie.Need-enum-told-5
 enum-told-5 c = search needs
 
+enum-told-6 : tie.Need-enum-told-6
+enum-told-6 c = search needs
+
 returns : tie.Need-returns
 unfolding childCount
 returns c = (sym (rw (c .enum-told .given .1)), omega (arith))
@@ -46,6 +49,10 @@ returns-5 : tie.Need-returns-5
 unfolding childCount
 returns-5 c = (sym (rw (c .enum-told5 .given .1)), omega (arith))
 
+returns-6 : tie.Need-returns-6
+unfolding childCount
+returns-6 c = (sym (rw (c .enum-told6 .given .1)), omega (arith))
+
 pub child-count-spec : {M : Type 1} → statement M
 child-count-spec =
     tie.close
@@ -57,8 +64,10 @@ child-count-spec =
     enum-told-4
     cast-result-2
     enum-told-5
+    enum-told-6
     returns
     returns-2
     returns-3
     returns-4
-    returns-5)
+    returns-5
+    returns-6)

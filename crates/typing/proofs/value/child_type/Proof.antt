@@ -31,6 +31,9 @@ fetch-requires c κs = c .before .before .before .before .pre .0
 enum-told-3 : tie.Need-enum-told-3
 enum-told-3 c = search needs
 
+enum-told-4 : tie.Need-enum-told-4
+enum-told-4 c = search needs
+
 returns : tie.Need-returns
 unfolding childType
 returns c = sym (rw (c .enum-told .given .1))
@@ -51,6 +54,10 @@ returns-5 : tie.Need-returns-5
 unfolding childType
 returns-5 c = sym (rw (c .enum-told3 .given .1))
 
+returns-6 : tie.Need-returns-6
+unfolding childType
+returns-6 c = sym (rw (c .enum-told4 .given .1))
+
 pub child-type-spec : {M : Type 1} → statement M
 child-type-spec =
     tie.close
@@ -64,8 +71,10 @@ child-type-spec =
     add-fetch-2
     fetch-requires
     enum-told-3
+    enum-told-4
     returns
     returns-2
     returns-3
     returns-4
-    returns-5)
+    returns-5
+    returns-6)

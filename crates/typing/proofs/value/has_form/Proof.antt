@@ -1,5 +1,5 @@
 use mathlib.Core.Path.{_∙_}
-use Rattle.typing.proofs.ValueLaws.{by-kind, text-read, text-other, yes-no-is, items-is, fields-is, fields-other, missing-is}
+use Rattle.typing.proofs.ValueLaws.{by-kind, text-read, text-other, yes-no-is, items-is, fields-is, fields-other, cases-is, cases-other, missing-is}
 use borrow.Author.Needs.{needs}
 use Rattle.typing.proofs.value.has_form.Statement.{statement}
 use Rattle.typing.proofs.value.has_form.Tie as tie
@@ -25,6 +25,12 @@ enum-told-2 c = search needs
 enum-known-kind-2 : tie.Need-enum-known-kind-2
 enum-known-kind-2 c = search needs
 
+enum-known-kind-3 : tie.Need-enum-known-kind-3
+enum-known-kind-3 c = search needs
+
+cast-result : tie.Need-cast-result
+cast-result c = search needs
+
 enum-told-3 : tie.Need-enum-told-3
 enum-told-3 c = search needs
 
@@ -47,7 +53,13 @@ returns-6 : tie.Need-returns-6
 returns-6 c = λ t. fields-other _ _ t _ _ (c .before .before .before .before .before .before .before .before .before .pre .1) _ _ (c .if2 .left) ∙ by-kind _ _ t _ (c .before .before .before .kind2 .given .1)
 
 returns-7 : tie.Need-returns-7
-returns-7 c = λ t. missing-is _ _ t _ ∙ by-kind _ _ t _ (c .enum-told3 .given .1)
+returns-7 c = λ t. cases-is _ _ t _ _ (c .before .before .before .before .before .before .before .before .before .before .pre .1) _ _ (c .before .if3 .taken) ∙ by-kind _ _ t _ (c .before .before .before .before .kind3 .given .1)
+
+returns-8 : tie.Need-returns-8
+returns-8 c = λ t. cases-other _ _ t _ _ (c .before .before .before .before .before .before .before .before .before .pre .1) _ _ (c .if3 .left) ∙ by-kind _ _ t _ (c .before .before .before .kind3 .given .1)
+
+returns-9 : tie.Need-returns-9
+returns-9 c = λ t. missing-is _ _ t _ ∙ by-kind _ _ t _ (c .enum-told3 .given .1)
 
 pub has-form-spec : {M : Type 1} → statement M
 has-form-spec =
@@ -60,6 +72,8 @@ has-form-spec =
     enum-told
     enum-told-2
     enum-known-kind-2
+    enum-known-kind-3
+    cast-result
     enum-told-3
     returns
     returns-2
@@ -67,4 +81,6 @@ has-form-spec =
     returns-4
     returns-5
     returns-6
-    returns-7)
+    returns-7
+    returns-8
+    returns-9)

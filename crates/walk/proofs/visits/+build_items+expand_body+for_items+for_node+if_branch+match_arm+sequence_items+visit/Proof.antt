@@ -9,7 +9,7 @@ use Rattle.walk.specs.Nodes.{afterAt, endedAt}
 use Rattle.walk.proofs.PathLaws.{got, lost}
 use Rattle.walk.proofs.RunLaws.{visited-stuck}
 use Rattle.walk.proofs.MarkLaws.{heads-some}
-use Rattle.walk.proofs.FormLaws.{literal-is, place-is, unknown-is, build-none, if-lost, if-other, if-is, for-piece, listed-none, listed-other, for-none}
+use Rattle.walk.proofs.FormLaws.{literal-is, place-is, unknown-is, build-none, if-lost, if-other, if-is, match-lost, match-other, match-missing, for-piece, listed-none, listed-other, for-none}
 use Rattle.walk.proofs.SeparatorLaws.{Apart, due-later}
 use Rattle.walk.proofs.LoopLaws.{follows, vars-inside, after-level, below-falls, InSequence, sequence-lost, sequence-start, sequence-end, items-few}
 use Rattle.walk.proofs.LoopLaws.{turns-visitable, turns-for, turns-stop, turns-next, apart-room, apart-stop, apart-skipped, apart-written, item-visitable, item-falls, item-stop, item-next}
@@ -17,31 +17,35 @@ use Rattle.walk.proofs.ForLaws.{InFor, for-start, for-end, turn-room, f
 use Rattle.walk.proofs.ForLaws.{turned-over, list-there, turned-whole}
 use Rattle.walk.proofs.BuildLaws.{InBuild, build-start, build-end, write-asks, keyword-stop, keyword-next, child-missing, child-visitable, child-falls, child-stop, child-next}
 use Rattle.walk.proofs.EnterLaws.{falls-there, branch-visitable, branch-visited, expand-missing, count-few, expand-room, enter-lost, enter-visitable, enter-falls, enter-visited}
+use Rattle.walk.proofs.MatchLaws.{no-arm, an-arm, arm-there, arm-vars, arm-visitable, arm-falls, arm-visited}
 use Rattle.walk.proofs.EnterLaws.{spent-visited, deepest-visited, form-asked, form-falls, form-here, form-formed, form-visited, form-ran}
 use borrow.Author.Needs.{needs}
 use borrow.Fn.Kinds.{In}
 use borrow.Fn.PlainCycle.{Measures, is, falls, and}
 use Rattle.walk.proofs.visits.build_items.Reads as build-items
 use Rattle.walk.proofs.visits.build_items.Kinds as build-items-kinds
-use Rattle.walk.proofs.visits.+build_items+expand_body+for_items+for_node+if_branch+sequence_items+visit.Lts-build_items as build-items-lts
+use Rattle.walk.proofs.visits.+build_items+expand_body+for_items+for_node+if_branch+match_arm+sequence_items+visit.Lts-build_items as build-items-lts
 use Rattle.walk.proofs.visits.expand_body.Reads as expand-body
 use Rattle.walk.proofs.visits.expand_body.Kinds as expand-body-kinds
-use Rattle.walk.proofs.visits.+build_items+expand_body+for_items+for_node+if_branch+sequence_items+visit.Lts-expand_body as expand-body-lts
+use Rattle.walk.proofs.visits.+build_items+expand_body+for_items+for_node+if_branch+match_arm+sequence_items+visit.Lts-expand_body as expand-body-lts
 use Rattle.walk.proofs.visits.for_items.Reads as for-items
 use Rattle.walk.proofs.visits.for_items.Kinds as for-items-kinds
-use Rattle.walk.proofs.visits.+build_items+expand_body+for_items+for_node+if_branch+sequence_items+visit.Lts-for_items as for-items-lts
+use Rattle.walk.proofs.visits.+build_items+expand_body+for_items+for_node+if_branch+match_arm+sequence_items+visit.Lts-for_items as for-items-lts
 use Rattle.walk.proofs.visits.for_node.Reads as for-node
 use Rattle.walk.proofs.visits.for_node.Kinds as for-node-kinds
-use Rattle.walk.proofs.visits.+build_items+expand_body+for_items+for_node+if_branch+sequence_items+visit.Lts-for_node as for-node-lts
+use Rattle.walk.proofs.visits.+build_items+expand_body+for_items+for_node+if_branch+match_arm+sequence_items+visit.Lts-for_node as for-node-lts
 use Rattle.walk.proofs.visits.if_branch.Reads as if-branch
 use Rattle.walk.proofs.visits.if_branch.Kinds as if-branch-kinds
-use Rattle.walk.proofs.visits.+build_items+expand_body+for_items+for_node+if_branch+sequence_items+visit.Lts-if_branch as if-branch-lts
+use Rattle.walk.proofs.visits.+build_items+expand_body+for_items+for_node+if_branch+match_arm+sequence_items+visit.Lts-if_branch as if-branch-lts
+use Rattle.walk.proofs.visits.match_arm.Reads as match-arm
+use Rattle.walk.proofs.visits.match_arm.Kinds as match-arm-kinds
+use Rattle.walk.proofs.visits.+build_items+expand_body+for_items+for_node+if_branch+match_arm+sequence_items+visit.Lts-match_arm as match-arm-lts
 use Rattle.walk.proofs.visits.sequence_items.Reads as sequence-items
 use Rattle.walk.proofs.visits.sequence_items.Kinds as sequence-items-kinds
-use Rattle.walk.proofs.visits.+build_items+expand_body+for_items+for_node+if_branch+sequence_items+visit.Lts-sequence_items as sequence-items-lts
+use Rattle.walk.proofs.visits.+build_items+expand_body+for_items+for_node+if_branch+match_arm+sequence_items+visit.Lts-sequence_items as sequence-items-lts
 use Rattle.walk.proofs.visits.visit.Reads as visit
 use Rattle.walk.proofs.visits.visit.Kinds as visit-kinds
-use Rattle.walk.proofs.visits.+build_items+expand_body+for_items+for_node+if_branch+sequence_items+visit.Lts-visit as visit-lts
+use Rattle.walk.proofs.visits.+build_items+expand_body+for_items+for_node+if_branch+match_arm+sequence_items+visit.Lts-visit as visit-lts
 use Rattle.records.proofs.element.size_of.Reads as size-of-reads
 use Rattle.records.proofs.node.form_of.Reads as form-of-reads
 use Rattle.records.proofs.node.is_for.Reads as is-for-reads
@@ -68,14 +72,15 @@ use Rattle.walk.proofs.tables.child_at.Reads as child-at-reads
 use Rattle.walk.proofs.tables.head_at.Reads as head-at-reads
 use Rattle.walk.proofs.tables.production_at.Reads as production-at-reads
 use Rattle.walk.proofs.variables.bind.Reads as bind-reads
+use Rattle.walk.proofs.visits.arm_of.Reads as arm-of-reads
 use Rattle.walk.proofs.visits.body_of.Reads as body-of-reads
 use Rattle.walk.proofs.visits.branch_of.Reads as branch-of-reads
 use Rattle.walk.proofs.writer.place.Reads as place-reads
 use Rattle.walk.proofs.writer.write.Reads as write-reads
-use Rattle.walk.proofs.visits.+build_items+expand_body+for_items+for_node+if_branch+sequence_items+visit.{
+use Rattle.walk.proofs.visits.+build_items+expand_body+for_items+for_node+if_branch+match_arm+sequence_items+visit.{
   statement,
 }
-use Rattle.walk.proofs.visits.+build_items+expand_body+for_items+for_node+if_branch+sequence_items+visit.Tie.{
+use Rattle.walk.proofs.visits.+build_items+expand_body+for_items+for_node+if_branch+match_arm+sequence_items+visit.Tie.{
   close,
 }
 
@@ -93,6 +98,9 @@ abbrev μ-for-node : Measures 9 for-node-kinds.ps ℕ
 
 abbrev μ-if-branch : Measures 9 if-branch-kinds.ps ℕ
 μ-if-branch κs a = 2 * (a .0 .fuel - a .0 .steps) + 1
+
+abbrev μ-match-arm : Measures 9 match-arm-kinds.ps ℕ
+μ-match-arm κs a = 2 * (a .0 .fuel - a .0 .steps) + 1
 
 abbrev μ-sequence-items : Measures 9 sequence-items-kinds.ps ℕ
 μ-sequence-items κs a = 2 * (a .0 .fuel - a .0 .steps) + 1
@@ -133,9 +141,16 @@ for-node-below t =
 abbrev if-branch-at : ℕ → In 9 if-branch-kinds.ps
 if-branch-at t = and 9 if-branch-kinds.ps (is 9 if-branch-kinds.ps μ-if-branch t) if-branch.Pre
 
+abbrev match-arm-at : ℕ → In 9 match-arm-kinds.ps
+match-arm-at t = and 9 match-arm-kinds.ps (is 9 match-arm-kinds.ps μ-match-arm t) match-arm.Pre
+
 abbrev if-branch-below : ℕ → In 9 if-branch-kinds.ps
 if-branch-below t =
     and 9 if-branch-kinds.ps (falls 9 if-branch-kinds.ps _<_ μ-if-branch t) if-branch.Pre
+
+abbrev match-arm-below : ℕ → In 9 match-arm-kinds.ps
+match-arm-below t =
+    and 9 match-arm-kinds.ps (falls 9 match-arm-kinds.ps _<_ μ-match-arm t) match-arm.Pre
 
 abbrev sequence-items-at : ℕ → In 9 sequence-items-kinds.ps
 sequence-items-at t =
@@ -174,11 +189,14 @@ for-node-claims t = (spent-reads.Asked, spent-reads.Learnt, ended-reads.Asked, e
 abbrev if-branch-claims : (t : ℕ) → if-branch-lts.Claims
 if-branch-claims t = (path-value-reads.Asked, path-value-reads.Learnt, stuck-reads.Asked, stuck-reads.Learnt, fetch-reads.Asked, fetch-reads.Learnt, branch-of-reads.Asked, branch-of-reads.Learnt, below-reads.Asked, below-reads.Learnt, visit-below t, visit.Post)
 
+abbrev match-arm-claims : (t : ℕ) → match-arm-lts.Claims
+match-arm-claims t = (path-value-reads.Asked, path-value-reads.Learnt, stuck-reads.Asked, stuck-reads.Learnt, fetch-reads.Asked, fetch-reads.Learnt, arm-of-reads.Asked, arm-of-reads.Learnt, child-at-reads.Asked, child-at-reads.Learnt, bind-reads.Asked, bind-reads.Learnt, below-reads.Asked, below-reads.Learnt, bound-reads.Asked, bound-reads.Learnt, visit-below t, visit.Post)
+
 abbrev sequence-items-claims : (t : ℕ) → sequence-items-lts.Claims
 sequence-items-claims t = (fetch-reads.Asked, fetch-reads.Learnt, fills-reads.Asked, fills-reads.Learnt, stuck-reads.Asked, stuck-reads.Learnt, separator-of-reads.Asked, separator-of-reads.Learnt, going-reads.Asked, going-reads.Learnt, is-for-reads.Asked, is-for-reads.Learnt, after-reads.Asked, after-reads.Learnt, below-reads.Asked, below-reads.Learnt, size-in-reads.Asked, size-in-reads.Learnt, for-node-below t, for-node.Post, is-due-reads.Asked, is-due-reads.Learnt, separate-reads.Asked, separate-reads.Learnt, visit-below t, visit.Post)
 
 abbrev visit-claims : (t : ℕ) → visit-lts.Claims
-visit-claims t = (spent-reads.Asked, spent-reads.Learnt, ended-reads.Asked, ended-reads.Learnt, counted-reads.Asked, counted-reads.Learnt, fetch-reads.Asked, fetch-reads.Learnt, form-of-reads.Asked, form-of-reads.Learnt, build-items-below t, build-items.Post, write-reads.Asked, write-reads.Learnt, place-reads.Asked, place-reads.Learnt, expand-body-below t, expand-body.Post, if-branch-below t, if-branch.Post, stuck-reads.Asked, stuck-reads.Learnt, sequence-items-below t, sequence-items.Post)
+visit-claims t = (spent-reads.Asked, spent-reads.Learnt, ended-reads.Asked, ended-reads.Learnt, counted-reads.Asked, counted-reads.Learnt, fetch-reads.Asked, fetch-reads.Learnt, form-of-reads.Asked, form-of-reads.Learnt, build-items-below t, build-items.Post, write-reads.Asked, write-reads.Learnt, place-reads.Asked, place-reads.Learnt, expand-body-below t, expand-body.Post, if-branch-below t, if-branch.Post, stuck-reads.Asked, stuck-reads.Learnt, sequence-items-below t, sequence-items.Post, match-arm-below t, match-arm.Post)
 
 abbrev build-items-Inv-loop : build-items-lts.InvT-loop
 build-items-Inv-loop head g t ps out₀ v firsts places scratch₀ ts production count element₀ child₀ used₀ here₀ taken₀ out scratch element child used here taken = InBuild (sources g t v ps ts firsts places) here₀ out₀ scratch₀ production count (head .d) out scratch element child used here taken
@@ -603,6 +621,81 @@ if-branch-same-length-4 t c = c .before .before .before .before .visit .kept .1 
 if-branch-returns-3 : (t : ℕ) → if-branch-lts.Need-returns-3 (if-branch-claims t) (if-branch-at t) if-branch.Post
 if-branch-returns-3 t c = branch-visited (c .before .before .before .before .before .before .before .before .before .before .before .before .before .before .before .before .before .before .before .before .before .before .before .before .before .before .before .pre .1) (c .before .before .before .before .before .before .before .below .ensures) (if-is _ _ _ _ _ _ _ _ _ _ _ (got (c .before .before .before .before .before .before .before .before .before .before .before .before .before .before .before .path-value .ensures .is) (c .before .before .before .before .before .before .before .before .before .before .before .before .before .w .given .1)) _ (c .before .before .before .before .before .before .before .before .before .before .before .fetch .ensures .kind) (c .before .before .before .before .before .before .before .before .before .if1 .left) _ _ (c .before .before .before .before .before .before .before .before .before .before .before .fetch .ensures .a) (c .before .before .before .before .before .before .before .before .branch-of .ensures .0)) (c .before .before .before .before .visit .ensures)
 
+match-arm-add-path : (t : ℕ) → match-arm-lts.Need-add-path (match-arm-claims t) (match-arm-at t) match-arm.Post
+match-arm-add-path t c = record { fits = omega (arith, c .before .before .before .before .before .before .before .before .before .before .pre .1 .0 .visitable .near) }
+
+match-arm-path-value-requires : (t : ℕ) → match-arm-lts.Need-path-value-requires (match-arm-claims t) (match-arm-at t) match-arm.Post
+match-arm-path-value-requires t c κs = follows (c .before .before .before .before .before .before .before .before .before .before .before .pre .1 .0)
+
+match-arm-enum-known-w : (t : ℕ) → match-arm-lts.Need-enum-known-w (match-arm-claims t) (match-arm-at t) match-arm.Post
+match-arm-enum-known-w t c = search needs
+
+match-arm-enum-told : (t : ℕ) → match-arm-lts.Need-enum-told (match-arm-claims t) (match-arm-at t) match-arm.Post
+match-arm-enum-told t c = search needs
+
+match-arm-stuck-requires : (t : ℕ) → match-arm-lts.Need-stuck-requires (match-arm-claims t) (match-arm-at t) match-arm.Post
+match-arm-stuck-requires t c κs = search needs
+
+match-arm-same-length : (t : ℕ) → match-arm-lts.Need-same-length (match-arm-claims t) (match-arm-at t) match-arm.Post
+match-arm-same-length t c = refl
+
+match-arm-returns : (t : ℕ) → match-arm-lts.Need-returns (match-arm-claims t) (match-arm-at t) match-arm.Post
+match-arm-returns t c = visited-stuck (c .before .before .before .before .before .before .before .before .before .before .before .before .before .before .before .args .at) (c .before .before .before .before .before .before .before .before .before .before .before .before .before .before .before .pre .1 .0 .visitable .room) (c .stuck .ensures) (match-lost _ _ _ _ _ _ _ _ _ _ (lost (c .before .before .before .path-value .ensures .is) (c .before .enum-told .given .1)))
+
+match-arm-cast-fetch : (t : ℕ) → match-arm-lts.Need-cast-fetch (match-arm-claims t) (match-arm-at t) match-arm.Post
+match-arm-cast-fetch t c = search needs
+
+match-arm-fetch-requires : (t : ℕ) → match-arm-lts.Need-fetch-requires (match-arm-claims t) (match-arm-at t) match-arm.Post
+match-arm-fetch-requires t c κs = c .before .before .before .before .before .before .before .before .before .before .before .before .before .before .before .pre .1 .0 .visitable .lent .value-lent .sized
+
+match-arm-stuck-requires-2 : (t : ℕ) → match-arm-lts.Need-stuck-requires-2 (match-arm-claims t) (match-arm-at t) match-arm.Post
+match-arm-stuck-requires-2 t c κs = search needs
+
+match-arm-same-length-2 : (t : ℕ) → match-arm-lts.Need-same-length-2 (match-arm-claims t) (match-arm-at t) match-arm.Post
+match-arm-same-length-2 t c = refl
+
+match-arm-returns-2 : (t : ℕ) → match-arm-lts.Need-returns-2 (match-arm-claims t) (match-arm-at t) match-arm.Post
+match-arm-returns-2 t c = visited-stuck (c .before .before .before .before .before .before .before .before .before .before .before .before .before .before .before .before .before .before .before .args .at) (c .before .before .before .before .before .before .before .before .before .before .before .before .before .before .before .before .before .before .before .pre .1 .0 .visitable .room) (c .stuck2 .ensures) (match-other _ _ _ _ _ _ _ _ _ _ _ (got (c .before .before .before .before .before .before .before .path-value .ensures .is) (c .before .before .before .before .before .w .given .1)) _ (c .before .before .before .fetch .ensures .kind) (c .before .if1 .taken))
+
+match-arm-cast-if2 : (t : ℕ) → match-arm-lts.Need-cast-if2 (match-arm-claims t) (match-arm-at t) match-arm.Post
+match-arm-cast-if2 t c = search needs
+
+match-arm-stuck-requires-3 : (t : ℕ) → match-arm-lts.Need-stuck-requires-3 (match-arm-claims t) (match-arm-at t) match-arm.Post
+match-arm-stuck-requires-3 t c κs = search needs
+
+match-arm-same-length-3 : (t : ℕ) → match-arm-lts.Need-same-length-3 (match-arm-claims t) (match-arm-at t) match-arm.Post
+match-arm-same-length-3 t c = refl
+
+match-arm-returns-3 : (t : ℕ) → match-arm-lts.Need-returns-3 (match-arm-claims t) (match-arm-at t) match-arm.Post
+match-arm-returns-3 t c = visited-stuck (c .before .before .before .before .before .before .before .before .before .before .before .before .before .before .before .before .before .before .before .before .before .before .args .at) (c .before .before .before .before .before .before .before .before .before .before .before .before .before .before .before .before .before .before .before .before .before .before .pre .1 .0 .visitable .room) (c .stuck3 .ensures) (match-missing _ _ _ _ _ _ _ _ _ _ _ (got (c .before .before .before .before .before .before .before .before .before .before .path-value .ensures .is) (c .before .before .before .before .before .before .before .before .w .given .1)) _ (c .before .before .before .before .before .before .fetch .ensures .kind) (c .before .before .before .before .if1 .left) _ (c .before .before .before .before .before .before .fetch .ensures .a) (no-arm (c .before .before .before .before .before .before .before .before .before .before .before .before .before .before .before .before .before .before .before .before .before .before .pre .1 .1) _ (c .before .if2 .taken)))
+
+match-arm-arm-of-requires : (t : ℕ) → match-arm-lts.Need-arm-of-requires (match-arm-claims t) (match-arm-at t) match-arm.Post
+match-arm-arm-of-requires t c κs = (c .before .before .before .before .before .before .before .before .before .before .before .before .before .before .before .before .before .before .before .before .before .pre .1 .0 .visitable .lent .templates-sized, omega (arith, c .before .before .before .before .before .before .before .before .before .before .before .before .before .before .before .before .before .before .before .before .before .pre .1 .0 .level, c .before .before .before .before .before .before .before .before .before .before .before .before .before .before .before .before .before .before .before .before .before .pre .1 .0 .visitable .near))
+
+match-arm-child-at-requires : (t : ℕ) → match-arm-lts.Need-child-at-requires (match-arm-claims t) (match-arm-at t) match-arm.Post
+match-arm-child-at-requires t c κs = arm-there (c .before .before .before .before .before .before .before .before .before .before .before .before .before .before .before .before .before .before .before .before .before .before .pre .1 .0) (c .before .before .before .before .before .before .before .before .before .before .path-value .ensures .stands _ (got (c .before .before .before .before .before .before .before .before .before .before .path-value .ensures .is) (c .before .before .before .before .before .before .before .before .w .given .1))) (c .before .before .before .before .before .before .fetch .ensures) (c .before .before .before .before .if1 .left)
+
+match-arm-bind-requires : (t : ℕ) → match-arm-lts.Need-bind-requires (match-arm-claims t) (match-arm-at t) match-arm.Post
+match-arm-bind-requires t c κs = vars-inside (c .before .before .before .before .before .before .before .before .before .before .before .before .before .before .before .before .before .before .before .before .before .before .before .before .pre .1 .0)
+
+match-arm-below-requires : (t : ℕ) → match-arm-lts.Need-below-requires (match-arm-claims t) (match-arm-at t) match-arm.Post
+match-arm-below-requires t c κs = c .before .before .before .before .before .before .before .before .before .before .before .before .before .before .before .before .before .before .before .before .before .before .before .before .before .before .before .pre .1 .0 .level
+
+match-arm-bound-requires : (t : ℕ) → match-arm-lts.Need-bound-requires (match-arm-claims t) (match-arm-at t) match-arm.Post
+match-arm-bound-requires t c κs = arm-vars (c .before .before .before .before .before .before .before .before .before .before .before .before .before .before .before .before .before .before .before .before .before .before .before .before .before .before .before .before .pre .1 .0) (c .below .ensures)
+
+match-arm-visit-requires : (t : ℕ) → match-arm-lts.Need-visit-requires (match-arm-claims t) (match-arm-at t) match-arm.Post
+match-arm-visit-requires t c κs = (omega (arith, c .before .before .before .before .before .before .before .before .before .before .before .before .before .before .before .before .before .before .before .before .before .before .before .before .before .before .before .before .before .before .before .pre .0, arm-falls (c .before .before .before .before .before .before .before .before .before .before .before .before .before .before .before .before .before .before .before .before .before .before .before .before .before .before .before .before .before .before .before .pre .1 .0) (c .before .before .before .before .before .before .before .before .before .before .before .before .before .before .before .before .before .before .before .path-value .ensures .stands _ (got (c .before .before .before .before .before .before .before .before .before .before .before .before .before .before .before .before .before .before .before .path-value .ensures .is) (c .before .before .before .before .before .before .before .before .before .before .before .before .before .before .before .before .before .w .given .1))) (c .before .before .before .before .before .before .before .before .before .before .before .before .before .before .before .fetch .ensures) (c .before .before .before .before .before .before .before .before .before .before .before .before .before .if1 .left) (an-arm (c .before .before .before .before .before .before .before .before .before .before .before .before .before .before .before .before .before .before .before .before .before .before .before .before .before .before .before .before .before .before .before .pre .1 .1) _ (c .before .before .before .before .before .before .before .before .before .before .if2 .left) (c .before .before .before .before .before .before .before .before .before .arm-of .ensures .0)) _ (c .before .before .before .before .before .before .before .before .child-at .ensures) _ (c .before .before .before .before .before .before .bind .ensures) (c .before .before .before .below .ensures) (c .before .before .bound .ensures)), arm-visitable (c .before .before .before .before .before .before .before .before .before .before .before .before .before .before .before .before .before .before .before .before .before .before .before .before .before .before .before .before .before .before .before .pre .1 .0) (c .before .before .before .before .before .before .before .before .before .before .before .before .before .before .before .before .before .before .before .path-value .ensures .stands _ (got (c .before .before .before .before .before .before .before .before .before .before .before .before .before .before .before .before .before .before .before .path-value .ensures .is) (c .before .before .before .before .before .before .before .before .before .before .before .before .before .before .before .before .before .w .given .1))) (c .before .before .before .before .before .before .before .before .before .before .before .before .before .before .before .fetch .ensures) (c .before .before .before .before .before .before .before .before .before .before .before .before .before .if1 .left) (an-arm (c .before .before .before .before .before .before .before .before .before .before .before .before .before .before .before .before .before .before .before .before .before .before .before .before .before .before .before .before .before .before .before .pre .1 .1) _ (c .before .before .before .before .before .before .before .before .before .before .if2 .left) (c .before .before .before .before .before .before .before .before .before .arm-of .ensures .0)) _ (c .before .before .before .before .before .before .before .before .child-at .ensures) _ (c .before .before .before .before .before .before .bind .ensures) (c .before .before .before .below .ensures) (c .before .before .bound .ensures) (c .before .before .before .before .before .before .before .before .before .arm-of .ensures .1) (c .before .before .before .before .before .before .bind .kept .0))
+
+match-arm-same-length-4 : (t : ℕ) → match-arm-lts.Need-same-length-4 (match-arm-claims t) (match-arm-at t) match-arm.Post
+match-arm-same-length-4 t c = c .before .before .before .before .visit .kept .1 .1 .1 .1 .0
+
+match-arm-same-length-5 : (t : ℕ) → match-arm-lts.Need-same-length-5 (match-arm-claims t) (match-arm-at t) match-arm.Post
+match-arm-same-length-5 t c = c .before .before .before .before .visit .kept .1 .1 .1 .1 .1 .1 .1 .1 .0 ∙ c .before .before .before .before .before .before .before .before .before .before .before .bind .kept .0
+
+match-arm-returns-4 : (t : ℕ) → match-arm-lts.Need-returns-4 (match-arm-claims t) (match-arm-at t) match-arm.Post
+match-arm-returns-4 t c = arm-visited (c .before .before .before .before .before .before .before .before .before .before .before .before .before .before .before .before .before .before .before .before .before .before .before .before .before .before .before .before .before .before .before .before .before .before .before .before .pre .1 .0) (c .before .before .before .before .before .before .before .before .before .before .before .before .before .before .before .before .before .before .before .before .before .before .before .before .path-value .ensures .stands _ (got (c .before .before .before .before .before .before .before .before .before .before .before .before .before .before .before .before .before .before .before .before .before .before .before .before .path-value .ensures .is) (c .before .before .before .before .before .before .before .before .before .before .before .before .before .before .before .before .before .before .before .before .before .before .w .given .1))) (c .before .before .before .before .before .before .before .before .before .before .before .before .before .before .before .before .before .before .before .before .fetch .ensures) (c .before .before .before .before .before .before .before .before .before .before .before .before .before .before .before .before .before .before .if1 .left) (an-arm (c .before .before .before .before .before .before .before .before .before .before .before .before .before .before .before .before .before .before .before .before .before .before .before .before .before .before .before .before .before .before .before .before .before .before .before .before .pre .1 .1) _ (c .before .before .before .before .before .before .before .before .before .before .before .before .before .before .before .if2 .left) (c .before .before .before .before .before .before .before .before .before .before .before .before .before .before .arm-of .ensures .0)) _ (c .before .before .before .before .before .before .before .before .before .before .before .before .before .child-at .ensures) _ (c .before .before .before .before .before .before .before .before .before .before .before .bind .ensures) (c .before .before .before .before .before .before .before .before .below .ensures) (c .before .before .before .before .before .before .before .bound .ensures) (got (c .before .before .before .before .before .before .before .before .before .before .before .before .before .before .before .before .before .before .before .before .before .before .before .before .path-value .ensures .is) (c .before .before .before .before .before .before .before .before .before .before .before .before .before .before .before .before .before .before .before .before .before .before .w .given .1)) (c .before .before .before .before .visit .ensures)
+
 abbrev sequence-items-Inv-loop : sequence-items-lts.InvT-loop
 sequence-items-Inv-loop at g t ps out₀ v firsts places scratch₀ ts sep count item₀ n₀ r₀ visited₀ out scratch item n r visited = InSequence (sources g t v ps ts firsts places) at out₀ scratch₀ sep count out scratch item n r visited
 
@@ -807,6 +900,12 @@ visit-sequence-items-requires t c κs = (omega (arith, c .before .before .before
 visit-enum-told-8 : (t : ℕ) → visit-lts.Need-enum-told-8 (visit-claims t) (visit-at t) visit.Post
 visit-enum-told-8 t c = search needs
 
+visit-match-arm-requires : (t : ℕ) → visit-lts.Need-match-arm-requires (visit-claims t) (visit-at t) visit.Post
+visit-match-arm-requires t c κs = (omega (arith, c .before .before .before .before .before .before .before .before .before .before .before .before .before .before .before .before .before .before .before .before .pre .0, form-falls (c .before .before .before .before .before .before .before .before .before .before .before .before .before .before .before .before .before .before .before .before .pre .1) (leb-false _ _ (sym (c .before .before .before .before .before .before .before .before .before .before .spent .ensures) ∙ c .before .before .before .before .before .before .before .before .before .if1 .left)) (c .before .before .before .before .before .before .before .before .counted .ensures)), (form-formed (c .before .before .before .before .before .before .before .before .before .before .before .before .before .before .before .before .before .before .before .before .pre .1) (leb-false _ _ (sym (c .before .before .before .before .before .before .before .before .before .before .spent .ensures) ∙ c .before .before .before .before .before .before .before .before .before .if1 .left)) (c .before .before .before .before .before .before .before .before .counted .ensures) (c .before .before .before .before .before .before .if2 .left) (form-here (c .before .before .before .before .before .before .before .before .before .before .before .before .before .before .before .before .before .before .before .before .pre .1) (leb-false _ _ (sym (c .before .before .before .before .before .before .before .before .before .before .spent .ensures) ∙ c .before .before .before .before .before .before .before .before .before .if1 .left)) (c .before .before .before .before .before .before .before .before .counted .ensures) (c .before .before .before .before .before .fetch .ensures) _ (c .before .before .before .before .form-of .ensures) ∙ c .before .before .enum-told8 .given .1), c .before .before .before .before .before .fetch .ensures))
+
+visit-enum-told-9 : (t : ℕ) → visit-lts.Need-enum-told-9 (visit-claims t) (visit-at t) visit.Post
+visit-enum-told-9 t c = search needs
+
 visit-stuck-requires-2 : (t : ℕ) → visit-lts.Need-stuck-requires-2 (visit-claims t) (visit-at t) visit.Post
 visit-stuck-requires-2 t c κs = search needs
 
@@ -864,18 +963,28 @@ visit-same-length-11 t c = c .before .before .before .before .sequence-items .ke
 visit-returns-9 : (t : ℕ) → visit-lts.Need-returns-9 (visit-claims t) (visit-at t) visit.Post
 visit-returns-9 t c = form-visited (c .before .before .before .before .before .before .before .before .before .before .before .before .before .before .before .before .before .before .before .before .before .before .before .before .before .pre .1) (leb-false _ _ (sym (c .before .before .before .before .before .before .before .before .before .before .before .before .before .before .before .spent .ensures) ∙ c .before .before .before .before .before .before .before .before .before .before .before .before .before .before .if1 .left)) (c .before .before .before .before .before .before .before .before .before .before .before .before .before .counted .ensures) (c .before .before .before .before .before .before .before .before .before .before .before .if2 .left) (form-here (c .before .before .before .before .before .before .before .before .before .before .before .before .before .before .before .before .before .before .before .before .before .before .before .before .before .pre .1) (leb-false _ _ (sym (c .before .before .before .before .before .before .before .before .before .before .before .before .before .before .before .spent .ensures) ∙ c .before .before .before .before .before .before .before .before .before .before .before .before .before .before .if1 .left)) (c .before .before .before .before .before .before .before .before .before .before .before .before .before .counted .ensures) (c .before .before .before .before .before .before .before .before .before .before .fetch .ensures) _ (c .before .before .before .before .before .before .before .before .before .form-of .ensures) ∙ c .before .before .before .before .before .before .before .enum-told7 .given .1) (c .before .before .before .before .sequence-items .ensures)
 
-visit-returns-10 : (t : ℕ) → visit-lts.Need-returns-10 (visit-claims t) (visit-at t) visit.Post
-visit-returns-10 t c = form-visited (c .before .before .before .before .before .before .before .before .before .before .before .before .before .before .before .before .before .before .before .pre .1) (leb-false _ _ (sym (c .before .before .before .before .before .before .before .before .before .spent .ensures) ∙ c .before .before .before .before .before .before .before .before .if1 .left)) (c .before .before .before .before .before .before .before .counted .ensures) (c .before .before .before .before .before .if2 .left) (form-here (c .before .before .before .before .before .before .before .before .before .before .before .before .before .before .before .before .before .before .before .pre .1) (leb-false _ _ (sym (c .before .before .before .before .before .before .before .before .before .spent .ensures) ∙ c .before .before .before .before .before .before .before .before .if1 .left)) (c .before .before .before .before .before .before .before .counted .ensures) (c .before .before .before .before .fetch .ensures) _ (c .before .before .before .form-of .ensures) ∙ c .before .enum-told8 .given .1) (visited-stuck (c .before .before .before .before .before .before .before .counted .result) (form-formed (c .before .before .before .before .before .before .before .before .before .before .before .before .before .before .before .before .before .before .before .pre .1) (leb-false _ _ (sym (c .before .before .before .before .before .before .before .before .before .spent .ensures) ∙ c .before .before .before .before .before .before .before .before .if1 .left)) (c .before .before .before .before .before .before .before .counted .ensures) (c .before .before .before .before .before .if2 .left) (form-here (c .before .before .before .before .before .before .before .before .before .before .before .before .before .before .before .before .before .before .before .pre .1) (leb-false _ _ (sym (c .before .before .before .before .before .before .before .before .before .spent .ensures) ∙ c .before .before .before .before .before .before .before .before .if1 .left)) (c .before .before .before .before .before .before .before .counted .ensures) (c .before .before .before .before .fetch .ensures) _ (c .before .before .before .form-of .ensures) ∙ c .before .enum-told8 .given .1) .visitable .room) (c .stuck2 .ensures) (unknown-is _ _ _ _ _ _ _ _ _ _))
+visit-same-length-12 : (t : ℕ) → visit-lts.Need-same-length-12 (visit-claims t) (visit-at t) visit.Post
+visit-same-length-12 t c = c .before .before .before .before .match-arm .kept .1 .1 .1 .1 .1 .0
 
-pub +build-items+expand-body+for-items+for-node+if-branch+sequence-items+visit-spec :
+visit-same-length-13 : (t : ℕ) → visit-lts.Need-same-length-13 (visit-claims t) (visit-at t) visit.Post
+visit-same-length-13 t c = c .before .before .before .before .match-arm .kept .1 .1 .1 .1 .1 .1 .1 .1 .1 .0
+
+visit-returns-10 : (t : ℕ) → visit-lts.Need-returns-10 (visit-claims t) (visit-at t) visit.Post
+visit-returns-10 t c = form-visited (c .before .before .before .before .before .before .before .before .before .before .before .before .before .before .before .before .before .before .before .before .before .before .before .before .before .pre .1) (leb-false _ _ (sym (c .before .before .before .before .before .before .before .before .before .before .before .before .before .before .before .spent .ensures) ∙ c .before .before .before .before .before .before .before .before .before .before .before .before .before .before .if1 .left)) (c .before .before .before .before .before .before .before .before .before .before .before .before .before .counted .ensures) (c .before .before .before .before .before .before .before .before .before .before .before .if2 .left) (form-here (c .before .before .before .before .before .before .before .before .before .before .before .before .before .before .before .before .before .before .before .before .before .before .before .before .before .pre .1) (leb-false _ _ (sym (c .before .before .before .before .before .before .before .before .before .before .before .before .before .before .before .spent .ensures) ∙ c .before .before .before .before .before .before .before .before .before .before .before .before .before .before .if1 .left)) (c .before .before .before .before .before .before .before .before .before .before .before .before .before .counted .ensures) (c .before .before .before .before .before .before .before .before .before .before .fetch .ensures) _ (c .before .before .before .before .before .before .before .before .before .form-of .ensures) ∙ c .before .before .before .before .before .before .before .enum-told8 .given .1) (c .before .before .before .before .match-arm .ensures)
+
+visit-returns-11 : (t : ℕ) → visit-lts.Need-returns-11 (visit-claims t) (visit-at t) visit.Post
+visit-returns-11 t c = form-visited (c .before .before .before .before .before .before .before .before .before .before .before .before .before .before .before .before .before .before .before .pre .1) (leb-false _ _ (sym (c .before .before .before .before .before .before .before .before .before .spent .ensures) ∙ c .before .before .before .before .before .before .before .before .if1 .left)) (c .before .before .before .before .before .before .before .counted .ensures) (c .before .before .before .before .before .if2 .left) (form-here (c .before .before .before .before .before .before .before .before .before .before .before .before .before .before .before .before .before .before .before .pre .1) (leb-false _ _ (sym (c .before .before .before .before .before .before .before .before .before .spent .ensures) ∙ c .before .before .before .before .before .before .before .before .if1 .left)) (c .before .before .before .before .before .before .before .counted .ensures) (c .before .before .before .before .fetch .ensures) _ (c .before .before .before .form-of .ensures) ∙ c .before .enum-told9 .given .1) (visited-stuck (c .before .before .before .before .before .before .before .counted .result) (form-formed (c .before .before .before .before .before .before .before .before .before .before .before .before .before .before .before .before .before .before .before .pre .1) (leb-false _ _ (sym (c .before .before .before .before .before .before .before .before .before .spent .ensures) ∙ c .before .before .before .before .before .before .before .before .if1 .left)) (c .before .before .before .before .before .before .before .counted .ensures) (c .before .before .before .before .before .if2 .left) (form-here (c .before .before .before .before .before .before .before .before .before .before .before .before .before .before .before .before .before .before .before .pre .1) (leb-false _ _ (sym (c .before .before .before .before .before .before .before .before .before .spent .ensures) ∙ c .before .before .before .before .before .before .before .before .if1 .left)) (c .before .before .before .before .before .before .before .counted .ensures) (c .before .before .before .before .fetch .ensures) _ (c .before .before .before .form-of .ensures) ∙ c .before .enum-told9 .given .1) .visitable .room) (c .stuck2 .ensures) (unknown-is _ _ _ _ _ _ _ _ _ _))
+
+pub +build-items+expand-body+for-items+for-node+if-branch+match-arm+sequence-items+visit-spec :
     {M : Type 1} → statement M
-+build-items+expand-body+for-items+for-node+if-branch+sequence-items+visit-spec =
++build-items+expand-body+for-items+for-node+if-branch+match-arm+sequence-items+visit-spec =
     close
     μ-build-items
     μ-expand-body
     μ-for-items
     μ-for-node
     μ-if-branch
+    μ-match-arm
     μ-sequence-items
     μ-visit
     (λ t. build-items-lts.spec (build-items-claims t)
@@ -1032,6 +1141,34 @@ pub +build-items+expand-body+for-items+for-node+if-branch+sequence-items+visit-s
     (if-branch-same-length-3 t)
     (if-branch-same-length-4 t)
     (if-branch-returns-3 t))
+    (λ t. match-arm-lts.spec (match-arm-claims t)
+    (match-arm-at t)
+    match-arm.Post
+    (match-arm-add-path t)
+    (match-arm-path-value-requires t)
+    (match-arm-enum-known-w t)
+    (match-arm-enum-told t)
+    (match-arm-stuck-requires t)
+    (match-arm-same-length t)
+    (match-arm-returns t)
+    (match-arm-cast-fetch t)
+    (match-arm-fetch-requires t)
+    (match-arm-stuck-requires-2 t)
+    (match-arm-same-length-2 t)
+    (match-arm-returns-2 t)
+    (match-arm-cast-if2 t)
+    (match-arm-stuck-requires-3 t)
+    (match-arm-same-length-3 t)
+    (match-arm-returns-3 t)
+    (match-arm-arm-of-requires t)
+    (match-arm-child-at-requires t)
+    (match-arm-bind-requires t)
+    (match-arm-below-requires t)
+    (match-arm-bound-requires t)
+    (match-arm-visit-requires t)
+    (match-arm-same-length-4 t)
+    (match-arm-same-length-5 t)
+    (match-arm-returns-4 t))
     (λ t. sequence-items-lts.spec (sequence-items-claims t)
     (sequence-items-at t)
     sequence-items.Post
@@ -1104,6 +1241,8 @@ pub +build-items+expand-body+for-items+for-node+if-branch+sequence-items+visit-s
     (visit-enum-told-7 t)
     (visit-sequence-items-requires t)
     (visit-enum-told-8 t)
+    (visit-match-arm-requires t)
+    (visit-enum-told-9 t)
     (visit-stuck-requires-2 t)
     (visit-same-length t)
     (visit-same-length-2 t)
@@ -1123,4 +1262,7 @@ pub +build-items+expand-body+for-items+for-node+if-branch+sequence-items+visit-s
     (visit-same-length-10 t)
     (visit-same-length-11 t)
     (visit-returns-9 t)
+    (visit-same-length-12 t)
+    (visit-same-length-13 t)
     (visit-returns-10 t)
+    (visit-returns-11 t)
