@@ -70,3 +70,5 @@ pub mod Unseparated
 pub mod UnseparatedLaid
 pub mod EmptySeparator
 pub mod Few
+pub mod MatchTotal
+pub mod Variants

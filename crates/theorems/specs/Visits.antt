@@ -11,10 +11,10 @@ use native.Mathlib.Nat.{add-zero, zero-add, add-assoc}
 use lib.ListN.{length}
 use lib.Dec.{ltb}
 use Rattle.rules.specs.Faults.{onFound}
-use Rattle.rules.specs.Records.{fieldA, kindOf, nth}
+use Rattle.rules.specs.Records.{nth}
 use Rattle.rules.specs.Grammar.{Element, keyword, lexeme, nonterminal, repetition, unknown}
 use Rattle.rules.specs.Templates.{formOf, nodes, path, first, second, arms}
-use Rattle.rules.specs.Value.{asYesNo, Case, asCase, content}
+use Rattle.rules.specs.Value.{asYesNo, Case, asCase}
 use Rattle.rules.specs.Limits.{deepest}
 use Rattle.rules.specs.Walk.{Input, State, start, too-deep, End, done, ended, stuck, andThen, pathValue, write, withChild, pieces, Filled, Asked, piece, items}
 use Rattle.rules.specs.Walk.{separate, visitItem, inOrder, listed, itemsOf, visitIn, visitForm, reached, visit, walk}
@@ -76,7 +76,7 @@ visit-unlisted i (suc k) f n c env s e u s′ h =
     let d : stuck ≡ done s′ = rw (e, u) at r in
     let z : _≡_ {A = ℕ} 0 1 = cc in omega arith
 
-node-in : {t v env cs : List ℕ} {c n : ℕ} → NodeAfter t v env c cs n → In c cs
+pub node-in : {t v env cs : List ℕ} {c n : ℕ} → NodeAfter t v env c cs n → In c cs
 node-in (first-node cs) = here cs
 node-in (later-node b m n cs h j) = later b cs (node-in j)
 
