@@ -24,6 +24,8 @@ pub enum Type {
     List(u16),
     /// A record of fields with these types.
     Record(Vec<u16>),
+    /// A variant: one of several cases, whose contents have these types.
+    Variant(Vec<u16>),
 }
 
 /// A template.
@@ -54,12 +56,14 @@ pub enum Node {
     For(Path, Box<Node>),
     /// Items in a row.
     Sequence(Vec<Node>),
+    /// The arm of the case that the path finds, with the case's content as one variable more.
+    Match(Path, Vec<Node>),
 }
 
 /// A path: a variable, then field by field.
 #[derive(Clone, Debug, PartialEq, Eq)]
 pub struct Path {
-    /// The number of the variable: the parameters, then the loops from outside in.
+    /// The number of the variable: the parameters, then the loops and arms from outside in.
     pub variable: u8,
     /// The field numbers; only the first five can be said.
     pub fields: Vec<u8>,
@@ -131,6 +135,11 @@ impl Node {
         Node::Sequence(items.into_iter().collect())
     }
 
+    /// A match on the case that a path finds, with an arm for each case.
+    pub fn by_case(path: Path, arms: impl IntoIterator<Item = Node>) -> Self {
+        Node::Match(path, arms.into_iter().collect())
+    }
+
     fn push(&self, records: &mut Vec<Record>) {
         let head = records.len();
         records.push(self.head());
@@ -145,6 +154,10 @@ impl Node {
             Node::For(path, body) => {
                 records.push(path.record());
                 body.push(records);
+            }
+            Node::Match(path, arms) => {
+                records.push(path.record());
+                arms.iter().for_each(|arm| arm.push(records));
             }
             Node::Build(_, below) | Node::Sequence(below) => {
                 below.iter().for_each(|node| node.push(records));
@@ -163,6 +176,7 @@ impl Node {
             Node::If(..) => record(5, 4, 0, 0, 0),
             Node::For(..) => record(5, 5, 0, 0, 0),
             Node::Sequence(items) => record(5, 6, 0, 0, word(items.len())),
+            Node::Match(_, arms) => record(5, 7, 0, 0, word(arms.len())),
         }
     }
 }
@@ -198,6 +212,11 @@ impl Templates {
     /// Adds the type of records with fields of these types.
     pub fn record(&mut self, fields: impl IntoIterator<Item = u16>) -> u16 {
         self.add(Type::Record(fields.into_iter().collect()))
+    }
+
+    /// Adds the type of variants whose cases have contents of these types.
+    pub fn variant(&mut self, cases: impl IntoIterator<Item = u16>) -> u16 {
+        self.add(Type::Variant(cases.into_iter().collect()))
     }
 
     /// Adds a template and answers its number.
@@ -246,9 +265,14 @@ fn push_type(records: &mut Vec<Record>, kind: &Type) {
         Type::Text(class) => records.push(record(1, 0, *class, 0, 0)),
         Type::YesNo => records.push(record(1, 1, 0, 0, 0)),
         Type::List(item) => records.push(record(1, 2, *item, 0, 0)),
-        Type::Record(fields) => {
-            records.push(record(1, 3, 0, 0, word(fields.len())));
-            records.extend(fields.iter().map(|&field| record(2, 0, field, 0, 0)));
+        Type::Record(named) | Type::Variant(named) => {
+            let form = if matches!(kind, Type::Record(_)) {
+                3
+            } else {
+                4
+            };
+            records.push(record(1, form, 0, 0, word(named.len())));
+            records.extend(named.iter().map(|&number| record(2, 0, number, 0, 0)));
         }
     }
 }

@@ -15,6 +15,8 @@ pub enum Value {
     List(Vec<Value>),
     /// A record of values.
     Record(Vec<Value>),
+    /// A case of a variant: its number and its content.
+    Case(u8, Box<Value>),
 }
 
 impl Value {
@@ -31,6 +33,12 @@ impl Value {
     /// A record.
     pub fn record(fields: impl IntoIterator<Item = Value>) -> Self {
         Value::Record(fields.into_iter().collect())
+    }
+
+    /// A case of a variant.
+    #[must_use]
+    pub fn case(number: u8, content: Value) -> Self {
+        Value::Case(number, Box::new(content))
     }
 
     /// The records in order.
@@ -66,6 +74,11 @@ impl Value {
                 let kind = if matches!(self, Value::List(_)) { 3 } else { 4 };
                 records.push(record(kind, 0, 0, 0, word(below.len())));
                 below.iter().for_each(|value| value.push(records));
+                close(records, head);
+            }
+            Value::Case(number, content) => {
+                records.push(record(5, *number, 0, 0, 0));
+                content.push(records);
                 close(records, head);
             }
         }

@@ -1,6 +1,6 @@
 //! The page machine in plain Rust, written from document 01 and the requests of 02 that have landed
 //! (a: separators; b: checks that start from the block before; c: escaped classes; d: XML's
-//! characters; f: production numbers of two bytes), and from nothing else.
+//! characters; f: production numbers of two bytes; g: variants and matches), and from nothing else.
 //!
 //! A grammar, a template set and a value go in as streams of 512-byte blocks; a text that the
 //! grammar derives, or one numbered refusal, comes out. This crate exists to be compared with the

@@ -1,4 +1,4 @@
-//! Refusal 4: over 200 deep, over 8 parameters, over 16 loops.
+//! Refusal 4: over 200 deep, over 8 parameters, over 16 loops, arms among them.
 
 use crate::answer::{Kind, Refusal};
 use crate::templates::{Form, Templates};
@@ -14,14 +14,15 @@ pub(crate) fn judge_templates(set: &Templates<'_>) -> Result<(), Refusal> {
         if template.parameters.len() > PARAMETERS {
             return Err(Refusal::at(4, Kind::Templates, template.place));
         }
-        // The loops around the node, each by the index behind it.
+        // The loops and arms around the node, each by the index behind it: all that is below a match
+        // is within one of its arms.
         let mut loops: Vec<usize> = Vec::new();
         for (index, node) in (template.body..).zip(set.nodes_of(template)) {
             while loops.pop_if(|end| *end <= index).is_some() {}
             if node.depth > DEPTH || loops.len() > LOOPS {
                 return Err(Refusal::at(4, Kind::Templates, node.place));
             }
-            if let Form::For(_) = node.form {
+            if let Form::For(_) | Form::Match(_) = node.form {
                 loops.push(node.next);
             }
         }

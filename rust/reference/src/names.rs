@@ -1,5 +1,5 @@
-//! Refusal 5: what is named must exist; a field names an earlier type, an escaped class an earlier
-//! plain class, and a text type a plain class.
+//! Refusal 5: what is named must exist; a field or case names an earlier type, an escaped class an
+//! earlier plain class, and a text type a plain class.
 
 use crate::answer::{Kind, Refusal};
 use crate::grammar::{Class, Grammar, Symbol};
@@ -44,9 +44,9 @@ fn judge_types(grammar: &Grammar<'_>, set: &Templates<'_>) -> Result<(), Refusal
             Shape::Text(class) => ask(grammar.has_plain_class(*class), kind.place)?,
             Shape::YesNo => {}
             Shape::List(item) => named(*item, set.types.len(), kind.place)?,
-            Shape::Record(fields) => {
-                for field in fields {
-                    named(field.number, number, field.place)?;
+            Shape::Record(earlier) | Shape::Variant(earlier) => {
+                for name in earlier {
+                    named(name.number, number, name.place)?;
                 }
             }
         }

@@ -2,6 +2,9 @@
 
 use crate::records::{ask, Broken, Nesting, Reader, Record, Records};
 
+/// A variant has at most so many cases, and at least one.
+const CASES: u16 = 256;
+
 /// A template set whose layout holds.
 pub(crate) struct Templates<'a> {
     pub(crate) types: Vec<Type>,
@@ -22,9 +25,11 @@ pub(crate) enum Shape {
     YesNo,
     List(u16),
     Record(Vec<TypeName>),
+    /// One of these cases.
+    Variant(Vec<TypeName>),
 }
 
-/// A field or parameter record: it names a type.
+/// A field or parameter record: it names a type. The cases of a variant are field records, too.
 pub(crate) struct TypeName {
     pub(crate) place: usize,
     pub(crate) number: u16,
@@ -49,15 +54,22 @@ pub(crate) struct Node<'a> {
     pub(crate) form: Form<'a>,
 }
 
-/// The seven forms of a node.
+/// The eight forms of a node.
 pub(crate) enum Form<'a> {
-    Build { production: u16 },
+    Build {
+        production: u16,
+    },
     Literal(&'a [u8]),
     Place(Path),
-    Expand { template: u16, paths: Vec<Path> },
+    Expand {
+        template: u16,
+        paths: Vec<Path>,
+    },
     If(Path),
     For(Path),
     Sequence,
+    /// Its children are its arms.
+    Match(Path),
 }
 
 /// A path: a variable, then field by field.
@@ -121,12 +133,15 @@ fn read_type(reader: &mut Reader<'_>) -> Result<Type, Broken> {
         1 if b == 0 && d == 0 => Shape::YesNo,
         2 if d == 0 => Shape::List(b),
         3 if b == 0 => Shape::Record(read_type_names(reader, 2, d.into())?),
+        4 if b == 0 && (1..=CASES).contains(&d) => {
+            Shape::Variant(read_type_names(reader, 2, d.into())?)
+        }
         _ => return Err(Broken),
     };
     Ok(Type { place, shape })
 }
 
-/// Reads so many fields (kind 2) or parameters (kind 4).
+/// Reads so many fields or cases (kind 2) or parameters (kind 4).
 fn read_type_names(
     reader: &mut Reader<'_>,
     kind: u8,
@@ -197,6 +212,7 @@ fn read_form<'a>(reader: &mut Reader<'a>, head: Record) -> Result<(Form<'a>, u16
         4 if bare => (Form::If(read_path(reader)?), 2),
         5 if bare => (Form::For(read_path(reader)?), 1),
         6 if b == 0 => (Form::Sequence, d),
+        7 if b == 0 => (Form::Match(read_path(reader)?), d),
         _ => return Err(Broken),
     })
 }

@@ -40,7 +40,7 @@ pub(crate) fn judge_templates(
 }
 
 /// One template's body, with the types of the variables at the node that is judged: the
-/// parameters, then the loops from outside in.
+/// parameters, then the loops and arms from outside in.
 struct Body<'a> {
     grammar: &'a Grammar<'a>,
     lexemes: &'a Lexemes,
@@ -51,7 +51,7 @@ struct Body<'a> {
 /// The place of the first offending node.
 type Judged = Result<(), usize>;
 
-impl Body<'_> {
+impl<'a> Body<'a> {
     /// Judges a node and all below it. Recursion is bounded, since refusal 4 has been tried.
     fn judge(&mut self, index: usize, position: Position) -> Judged {
         let set = self.set;
@@ -70,7 +70,7 @@ impl Body<'_> {
                 .children(index)
                 .try_for_each(|item| self.judge(item, Position::Item(n))),
             (Form::For(path), Position::Item(n)) => match self.shape_of(path) {
-                Some(Shape::List(item)) => self.judge_loop(index, *item, n),
+                Some(&Shape::List(item)) => self.judge_with(index + 1, item, n),
                 _ => Err(node.place),
             },
             (form, Position::Nonterminal(n) | Position::Item(n)) => {
@@ -80,9 +80,10 @@ impl Body<'_> {
         }
     }
 
-    fn judge_loop(&mut self, index: usize, item: u16, nonterminal: u16) -> Judged {
-        self.variables.push(item);
-        self.judge(index + 1, Position::Nonterminal(nonterminal))?;
+    /// Judges the body of a loop or an arm, which sees one variable more, of a type.
+    fn judge_with(&mut self, index: usize, more: u16, nonterminal: u16) -> Judged {
+        self.variables.push(more);
+        self.judge(index, Position::Nonterminal(nonterminal))?;
         self.variables.pop();
         Ok(())
     }
@@ -104,8 +105,21 @@ impl Body<'_> {
                     .children(index)
                     .try_for_each(|branch| self.judge(branch, Position::Nonterminal(nonterminal)))
             }
+            Form::Match(path) => self.judge_match(index, path, nonterminal),
             _ => Err(place),
         }
+    }
+
+    /// A match has one arm for each case, and all of them are judged.
+    fn judge_match(&mut self, index: usize, path: &Path, nonterminal: u16) -> Judged {
+        let set = self.set;
+        let cases = match self.shape_of(path) {
+            Some(Shape::Variant(cases)) if cases.len() == set.children(index).count() => cases,
+            _ => return Err(set.nodes[index].place),
+        };
+        set.children(index)
+            .zip(cases)
+            .try_for_each(|(arm, case)| self.judge_with(arm, case.number, nonterminal))
     }
 
     fn judge_build(&mut self, index: usize, production: u16, nonterminal: u16) -> Judged {
@@ -140,7 +154,7 @@ impl Body<'_> {
         Some(number)
     }
 
-    fn shape_of(&self, path: &Path) -> Option<&Shape> {
+    fn shape_of(&self, path: &Path) -> Option<&'a Shape> {
         let number = self.type_of(path)?;
         Some(&self.set.types[usize::from(number)].shape)
     }
@@ -197,6 +211,10 @@ impl Typed<'_> {
                 .children(index)
                 .zip(fields)
                 .try_for_each(|(child, field)| self.judge(child, field.number)),
+            (Shape::Variant(cases), Content::Case(number)) => {
+                let case = cases.get(usize::from(number)).ok_or(item.place)?;
+                self.judge(index + 1, case.number)
+            }
             _ => Err(item.place),
         }
     }

@@ -19,7 +19,7 @@ pub(crate) struct Item<'a> {
     pub(crate) content: Content<'a>,
 }
 
-/// The four kinds of value.
+/// The five kinds of value.
 #[derive(Clone, Copy)]
 pub(crate) enum Content<'a> {
     Text(&'a [u8]),
@@ -30,6 +30,8 @@ pub(crate) enum Content<'a> {
         first: usize,
         count: usize,
     },
+    /// The number of a variant's case. Its one child is the content.
+    Case(u8),
 }
 
 impl<'a> Value<'a> {
@@ -83,7 +85,7 @@ impl<'a> Value<'a> {
         }
     }
 
-    /// The indexes of a list's items or a record's fields, in order.
+    /// The indexes of a list's items, a record's fields or a case's content, in order.
     pub(crate) fn children(&self, index: usize) -> impl Iterator<Item = usize> + '_ {
         let end = self.items[index].next;
         let within = move |&child: &usize| child < end;
@@ -127,6 +129,10 @@ fn read_content<'a>(
             ask(a == 0 && b == 0)?;
             let (first, count) = (0, d.into());
             Ok((Content::Record { first, count }, c, d))
+        }
+        5 => {
+            ask(b == 0 && d == 0)?;
+            Ok((Content::Case(a), c, 1))
         }
         _ => Err(Broken),
     }

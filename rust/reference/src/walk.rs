@@ -82,6 +82,7 @@ impl Walk<'_> {
                 Content::YesNo(false) => self.visit(set.nodes[index + 1].next, depth + 1, base),
                 _ => unreachable!("an if's path finds a yes/no"),
             },
+            Form::Match(path) => self.by_case(index, path, depth, base),
             Form::Literal(_) | Form::Place(_) => unreachable!("it stands for a class of a build"),
             Form::Sequence => unreachable!("a sequence stands for a repetition of a build"),
             Form::For(_) => unreachable!("a for stands in a sequence"),
@@ -219,6 +220,26 @@ impl Walk<'_> {
             self.item(index + 1, row, depth + 1, base)?;
             self.variables.pop();
         }
+        Ok(())
+    }
+
+    /// Visits the arm of the case that a match's path finds, the content being one variable more.
+    fn by_case(
+        &mut self,
+        index: usize,
+        path: &Path,
+        depth: usize,
+        base: usize,
+    ) -> Result<(), Stop> {
+        let case = self.find(path, base);
+        let Content::Case(number) = self.value.items[case].content else {
+            unreachable!("a match's path finds a case")
+        };
+        let mut arms = self.set.children(index);
+        let arm = arms.nth(number.into()).expect("an arm for each case");
+        self.variables.push(case + 1);
+        self.visit(arm, depth + 1, base)?;
+        self.variables.pop();
         Ok(())
     }
 

@@ -14,7 +14,7 @@ use trials::{Fields, Machine, Random, Reference, SECOND};
 
 /// The folder of vectors: `base`, or the letter of the latest landed request that has any (e changes
 /// no answer and has none).
-const STAGE: &str = "f";
+const STAGE: &str = "g";
 
 const MACHINES: [&dyn Machine; 2] = [&Reference, &SECOND];
 

@@ -36,6 +36,10 @@ impl Values<'_> {
             Type::Record(fields) => {
                 Value::record(fields.iter().map(|&field| self.value(field, depth + 1)))
             }
+            Type::Variant(cases) => {
+                let number = self.random.below(cases.len());
+                Value::case(number as u8, self.value(cases[number], depth + 1))
+            }
         }
     }
 
@@ -50,7 +54,7 @@ impl Values<'_> {
 
     /// A value that is mostly of another type.
     fn slipped(&mut self, number: u16) -> Value {
-        match (&self.types[usize::from(number)], self.random.below(5)) {
+        match (&self.types[usize::from(number)], self.random.below(6)) {
             (Type::Text(class), 0..=2) => {
                 let (_, class) = self.grammar.plain(*class).expect("a class");
                 Value::text(near_lexeme(self.random, class))
@@ -62,7 +66,16 @@ impl Values<'_> {
                 let short = &fields[..fields.len().saturating_sub(1)];
                 Value::record(short.iter().map(|&field| self.value(field, 40)))
             }
+            (Type::Variant(cases), 3) => self.slipped_case(cases),
+            (_, 4) => Value::case(0, Value::YesNo(true)),
             _ => Value::record([Value::list([]), Value::text("")]),
         }
+    }
+
+    /// The content of one case under the number of any, or of none.
+    fn slipped_case(&mut self, cases: &[u16]) -> Value {
+        let number = self.random.below(cases.len() + 2);
+        let content = *self.random.pick(cases);
+        Value::case(number as u8, self.value(content, 40))
     }
 }
