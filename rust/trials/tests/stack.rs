@@ -1,6 +1,7 @@
 //! A whole call runs on a small stack, on both machines: layout is judged before depth, on the
 //! deepest trees that 128 blocks hold, and a walk goes 201 levels deep, with thousands of items
-//! below the 200th. And what a call of the proved library takes is measured.
+//! below the 200th, through builds, loops, expands and matches. And what a call of the proved library
+//! takes is measured.
 
 use std::thread::Builder;
 
@@ -230,6 +231,162 @@ fn text_in_lists() -> Case {
     (name, templates.stream(), value.stream(), [0, 0, 0, 1, 0])
 }
 
+/// Text of a class, and on top of it so many variants of one case in one another. Answers the type of
+/// the whole; variant n has type n.
+fn variants(templates: &mut Templates, class: u16, levels: u16) -> u16 {
+    let text = templates.text(class);
+    (0..levels).fold(text, |content, _| templates.variant([content]))
+}
+
+/// A value below so many cases.
+fn cases_around(levels: u16, content: Value) -> Value {
+    (0..levels).fold(content, |content, _| Value::case(0, content))
+}
+
+/// Cases, 200 levels in all, around what is a text of the class or isn't.
+fn text_in_cases(class: u16, name: &'static str, text: &str, expected: Fields) -> Case {
+    let mut templates = Templates::new();
+    let whole = variants(&mut templates, class, 199);
+    templates.template(0, [whole], nothing());
+    let value = cases_around(199, Value::text(text));
+    (name, templates.stream(), value.stream(), expected)
+}
+
+/// Lists and cases in turn, as deep as may be, around an empty list or a case too many.
+fn lists_and_cases(name: &'static str, innermost: Value, expected: Fields) -> Case {
+    let mut templates = Templates::new();
+    let list = templates.list(1);
+    let variant = templates.variant([list]);
+    templates.template(0, [variant], nothing());
+    let turn = |content, _| Value::case(0, Value::list([content]));
+    let value = (0..99).fold(innermost, turn);
+    (name, templates.stream(), value.stream(), expected)
+}
+
+/// Trees of cases and of matches, as deep as 128 blocks hold them.
+fn deepest_cases() -> Vec<Case> {
+    let mut value: Vec<Record> = (0..FULL - 1)
+        .map(|level| record(5, 0, 0, FULL - level, 0))
+        .collect();
+    value.push(record(3, 0, 0, 1, 0));
+    let levels = (FULL - 4) / 2;
+    let mut body = vec![
+        record(1, 2, 0, 0, 0),
+        record(3, 1, 0, 2 * levels + 3, 0),
+        record(4, 0, 0, 0, 0),
+    ];
+    for level in 0..levels {
+        let size = 2 * (levels - level) + 1;
+        body.extend([record(5, 7, 0, size, 1), record(6, 0, 0, 0, 0)]);
+    }
+    body.push(record(5, 0, 2, 1, 0));
+    let over_depth = [4, 3, 200, 0, 0];
+    let over_loops = [4, 2, 3 + 2 * 17, 0, 0];
+    vec![
+        (
+            "a value of 8,063 cases",
+            templates([nothing()]),
+            blocks(VALUE, &value),
+            over_depth,
+        ),
+        (
+            "a body of 4,030 matches",
+            blocks(TEMPLATES, &body),
+            lists(1),
+            over_loops,
+        ),
+    ]
+}
+
+/// A node below so many matches, each on the content of the one around it.
+fn matches_around(count: u8, body: Node) -> Node {
+    let on = |variable| Path::variable(variable);
+    (0..count)
+        .rev()
+        .fold(body, |body, variable| Node::by_case(on(variable), [body]))
+}
+
+/// A walk through matches in one another: sixteen of a template, then an expand of the next. The
+/// innermost body writes the text, of a class, below so many builds.
+fn walk_of_matches(class: u16, name: &'static str, builds: usize, expected: Fields) -> Case {
+    let mut set = Templates::new();
+    let mut kind = variants(&mut set, class, 11 * 16 + 10);
+    for next in 1..=11 {
+        let further = Node::expand(next, [Path::variable(16)]);
+        set.template(0, [kind], matches_around(16, further));
+        kind -= 16;
+    }
+    let place = Node::build(3, [Node::place(Path::variable(10))]);
+    set.template(0, [kind], matches_around(10, below(builds, place)));
+    let value = cases_around(11 * 16 + 10, Value::text("ab"));
+    (name, set.stream(), value.stream(), expected)
+}
+
+/// Sixteen loops and arms in turn, and builds below them down to depth 200: typing and a walk.
+fn loops_and_arms() -> Case {
+    let mut set = Templates::new();
+    let list = set.list(1);
+    let variant = set.variant([list]);
+    let last = below(200 - 8 * 4 - 1, nothing());
+    let body = (0..8).rev().fold(last, |body, turn| {
+        let each = Node::each(Path::variable(2 * turn + 1), body);
+        let row = Node::build(1, [Node::sequence([each])]);
+        Node::by_case(Path::variable(2 * turn), [row])
+    });
+    set.template(0, [variant], body);
+    let innermost = Value::case(0, Value::list([]));
+    let turn = |content, _| Value::case(0, Value::list([content]));
+    let value = (0..8).fold(innermost, turn);
+    let name = "16 loops and arms, and builds to depth 200";
+    let bytes = 2 * (8 + 200 - 8 * 4 - 1);
+    (name, set.stream(), value.stream(), [0, 0, 0, 200, bytes])
+}
+
+/// Thousands of items, each a case, whose arms lie at depth 200 or would lie at 201.
+fn many_cases(name: &'static str, levels: usize, expected: Fields) -> Case {
+    let mut set = Templates::new();
+    let list = set.list(2);
+    let yes_no = set.yes_no();
+    let variant = set.variant([yes_no; 4]);
+    set.template(0, [list], below(levels, each(expand(1, 1))));
+    let arms = vec![nothing(); 4];
+    set.template(0, [variant], Node::by_case(Path::variable(0), arms));
+    let item = |number: usize| Value::case((number % 4) as u8, Value::YesNo(true));
+    let value = Value::list((0..4_000).map(item));
+    (name, set.stream(), value.stream(), expected)
+}
+
+/// Values of variants and matches on them.
+fn variant_cases(class: u16) -> Vec<Case> {
+    let typed = [0, 0, 0, 1, 0];
+    let mut all = deepest_cases();
+    all.extend([
+        text_in_cases(class, "a text below 199 cases", LETTERS, typed),
+        text_in_cases(
+            class,
+            "a wrong text below 199 cases",
+            "\u{B}",
+            [8, 3, 199, 0, 0],
+        ),
+        lists_and_cases(
+            "99 lists and cases in turn",
+            Value::case(0, Value::list([])),
+            typed,
+        ),
+        lists_and_cases(
+            "a case too many in lists and cases",
+            Value::case(1, Value::list([])),
+            [8, 3, 198, 0, 0],
+        ),
+        walk_of_matches(class, "186 matches", 1, [0, 0, 0, 200, 4]),
+        walk_of_matches(class, "a place below 186 matches", 2, [11, 2, 794, 201, 2]),
+        loops_and_arms(),
+        many_cases("4,000 arms at depth 200", 194, [0, 0, 0, 12_197, 390]),
+        many_cases("an arm at depth 201", 195, [11, 2, 214, 201, 196]),
+    ]);
+    all
+}
+
 /// Walks over thousands of items, which lie at depth 200 or would lie at 201.
 fn wide_walks() -> Vec<Case> {
     let list = |count| Value::list(vec![Value::list([]); count]).stream();
@@ -278,6 +435,7 @@ fn cases(class: u16) -> Vec<Case> {
         lexemes,
         texts,
         wide_walks(),
+        variant_cases(class),
     ]
     .concat()
 }
