@@ -10,7 +10,7 @@ use build::borders::{ADMITTED, OTHERS};
 use build::{records_of, Record, PAYLOAD};
 
 use crate::faulty::{
-    b, c, class_positions, classes, d, elements_of_form, literal, text, text_length, types, values,
+    b, c, class_positions, classes, d, elements_of_form, literal, text, text_length, typed,
 };
 use crate::machine::{Fields, Machine, Reference};
 use crate::unescaping::Unescaping;
@@ -307,32 +307,14 @@ fn literals(grammar: &[Record], templates: &[Record]) -> Vec<Piece> {
 /// The texts of the value, in record order, as far as it is of its declared type.
 fn titles(grammar: &[Record], templates: &[Record], value: &[Record]) -> Vec<Piece> {
     let heads = classes(grammar);
-    let types = types(templates);
-    let declared = templates.iter().position(|record| record[0] == 4);
-    let mut titles = Vec::new();
-    // Values that are still to be looked at, the next one last, each with its type.
-    let mut left: Vec<(usize, usize)> = Vec::new();
-    if let (Some(parameter), false) = (declared, value.is_empty()) {
-        left.push((0, b(&templates[parameter])));
-    }
-    while let Some((place, number)) = left.pop() {
-        let head = types[number];
-        let below = values(value, place).into_iter();
-        match (templates[head][1], value[place][0]) {
-            (0, 1) => titles.push(Piece {
-                kind: Text::Title,
-                place,
-                class: heads[b(&templates[head])],
-                bytes: text(value, place, b(&value[place])),
-            }),
-            (2, 3) => left.extend(below.rev().map(|item| (item, b(&templates[head])))),
-            (3, 4) => {
-                let fields = templates[head + 1..head + 1 + d(&templates[head])].iter();
-                let pairs: Vec<_> = below.zip(fields.map(b)).collect();
-                left.extend(pairs.into_iter().rev());
-            }
-            _ => {}
-        }
-    }
-    titles
+    let texts = typed(templates, value)
+        .into_iter()
+        .filter(|&(place, head)| (templates[head][1], value[place][0]) == (0, 1));
+    let piece = |(place, head): (usize, usize)| Piece {
+        kind: Text::Title,
+        place,
+        class: heads[b(&templates[head])],
+        bytes: text(value, place, b(&value[place])),
+    };
+    texts.map(piece).collect()
 }

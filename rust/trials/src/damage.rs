@@ -1,8 +1,10 @@
 //! Damage to streams: every field, flipped bytes, cut and joined streams, odd lengths.
 
+use std::ops::Range;
+
 use build::{blocks, due_start, mend, mend_from, records_of, Record, BLOCK};
 
-use crate::faulty::{classes, productions};
+use crate::faulty::{c, classes, nodes, productions, types, value_heads};
 use crate::generate::Streams;
 use crate::random::Random;
 use crate::uploads;
@@ -12,7 +14,7 @@ pub fn damage(random: &mut Random, streams: &mut Streams, other: &Streams) {
     let index = random.below(3);
     let kind = index as u8 + 1;
     let stream = streams.part_mut(index);
-    match random.below(32) {
+    match random.below(38) {
         0..=7 => change_field(random, stream, kind),
         8 | 9 => move_records(random, stream, kind),
         10 | 11 => flip(random, stream),
@@ -28,6 +30,8 @@ pub fn damage(random: &mut Random, streams: &mut Streams, other: &Streams) {
         21..=24 => damage_chain(random, streams, other),
         25 | 26 => change_escaped(random, &mut streams.grammar),
         27..=30 => change_numbers(random, &mut streams.grammar),
+        31..=33 => change_match(random, &mut streams.templates),
+        34..=36 => change_case(random, &mut streams.value),
         _ => *stream = other.parts()[random.below(3)].to_vec(),
     }
 }
@@ -170,6 +174,79 @@ fn renumber(records: &mut [Record], heads: &[usize], first: usize, other: impl F
         let [low, high] = (other(number) as u16).to_le_bytes();
         (records[head][1], records[head][4]) = (low, high);
     }
+}
+
+/// Changes a field of a variant's head, of the record of a case of it, or of a match; the checks are
+/// mended.
+fn change_match(random: &mut Random, stream: &mut Vec<u8>) {
+    let mut records = records_of(stream);
+    let mut found = types(&records);
+    found.retain(|&head| records[head][1] == 4);
+    let cases: Vec<usize> = found.iter().map(|head| head + 1).collect();
+    found.extend(cases);
+    let matches = nodes(&records).into_iter();
+    found.extend(matches.filter(|&node| records[node][1] == 7));
+    found.retain(|&at| at < records.len());
+    if found.is_empty() {
+        return;
+    }
+    let at = *random.pick(&found);
+    let record = &mut records[at];
+    let forms: &[u8] = match record[0] {
+        5 => &[4, 5, 6, 8, 8],
+        _ => &[2, 3, 5],
+    };
+    match random.below(6) {
+        0 => record[1] = *random.pick(forms),
+        1 => record[random.between(2, 3)] = random.byte() | 1,
+        2 => record[random.between(4, 5)] ^= random.byte() | 1,
+        3 => record[7] = odd_byte(random, 0),
+        _ => record[6] = odd_byte(random, record[6]),
+    }
+    *stream = blocks(2, &records);
+}
+
+/// Changes a case of the value: a field, its kind, or how many children it has, with the sizes around
+/// it as they are to be; the checks are mended.
+fn change_case(random: &mut Random, stream: &mut Vec<u8>) {
+    let mut records = records_of(stream);
+    let mut found = value_heads(&records);
+    found.retain(|&head| records[head][0] == 5);
+    if found.is_empty() {
+        return;
+    }
+    let case = *random.pick(&found);
+    let end = case + c(&records[case]);
+    let record = &mut records[case];
+    match random.below(9) {
+        0 => record[0] = *random.pick(&[1, 2, 3, 4, 6]),
+        1 | 2 => record[1] = odd_byte(random, record[1]),
+        3 => record[random.between(2, 3)] = odd_byte(random, 0),
+        4 => record[random.between(4, 5)] = odd_byte(random, record[4]),
+        5 => record[6] = *random.pick(&[1, 1, 2, 255]),
+        6 => record[7] = odd_byte(random, 0),
+        // A second child: yes.
+        7 => splice(&mut records, end..end, &[[2, 1, 0, 0, 0, 0, 0, 0]]),
+        // No child.
+        _ => splice(&mut records, case + 1..end, &[]),
+    }
+    *stream = blocks(3, &records);
+}
+
+/// Puts other records in the place of some of a value, and gives the heads around them their sizes.
+fn splice(records: &mut Vec<Record>, range: Range<usize>, others: &[Record]) {
+    if range.start > range.end || range.end > records.len() {
+        return;
+    }
+    for head in value_heads(records) {
+        let end = head + c(&records[head]);
+        let sized = records[head][0] != 2;
+        if sized && head < range.start && range.end <= end {
+            let size = c(&records[head]) + others.len() - range.len();
+            records[head][4..6].copy_from_slice(&(size as u16).to_le_bytes());
+        }
+    }
+    records.splice(range, others.iter().copied());
 }
 
 /// A record of some of them, mostly one that isn't a unit of text.

@@ -1,4 +1,5 @@
-//! A walk over the records of an accepted set that goes wrong with separators or entities in one way.
+//! A walk over the records of an accepted set that goes wrong with separators, entities or matches in
+//! one way.
 //!
 //! Without a fault it answers as the reference does (a test says so), though it shares no code with
 //! it: it reads the records where they lie.
@@ -7,7 +8,7 @@ use build::{records_of, Record, PAYLOAD};
 
 use crate::machine::Fields;
 
-/// What is wrong with a walk's separators, or with the entities of its escaped lexemes.
+/// What is wrong with a walk's separators, with the entities of its escaped lexemes, or with its matches.
 #[derive(Clone, Copy, Debug, PartialEq, Eq)]
 pub enum Fault {
     /// Nothing.
@@ -64,11 +65,33 @@ pub enum Fault {
     RoomForSixfold,
     /// Counts the characters of the escaped text against most.
     CountsEntities,
+    /// Takes the first arm of every match.
+    FirstArm,
+    /// Takes the last arm of every match.
+    LastArm,
+    /// Takes the arm behind the right one, and the first for the last.
+    NextArm,
+    /// Visits all arms in order.
+    AllArms,
+    /// Gives an arm no variable more.
+    NoContent,
+    /// Puts the content before the other variables.
+    ContentFirst,
+    /// Gives an arm the case for its content.
+    CaseForContent,
+    /// Visits an arm at the depth of its match.
+    ArmAtSameDepth,
+    /// Visits an arm two deeper than its match.
+    ArmTwoDeeper,
+    /// Counts no step for a match.
+    MatchIsNoStep,
+    /// Takes a match for no item of its sequence.
+    MatchIsNoItem,
 }
 
 impl Fault {
     /// All that go wrong.
-    pub const ALL: [Fault; 26] = [
+    pub const ALL: [Fault; 37] = [
         Fault::Forgets,
         Fault::BeforeTheFirst,
         Fault::BehindEach,
@@ -95,6 +118,17 @@ impl Fault {
         Fault::EscapedInPart,
         Fault::RoomForSixfold,
         Fault::CountsEntities,
+        Fault::FirstArm,
+        Fault::LastArm,
+        Fault::NextArm,
+        Fault::AllArms,
+        Fault::NoContent,
+        Fault::ContentFirst,
+        Fault::CaseForContent,
+        Fault::ArmAtSameDepth,
+        Fault::ArmTwoDeeper,
+        Fault::MatchIsNoStep,
+        Fault::MatchIsNoItem,
     ];
 }
 
@@ -182,39 +216,66 @@ pub(crate) fn types(templates: &[Record]) -> Vec<usize> {
     while let Some(head) = templates.get(at).filter(|head| head[0] == 1) {
         types.push(at);
         at += match head[1] {
-            3 => 1 + d(head),
+            3 | 4 => 1 + d(head),
             _ => 1,
         };
     }
     types
 }
 
+/// The heads of a value and of all below it, as far as its records can be followed.
+pub(crate) fn value_heads(value: &[Record]) -> Vec<usize> {
+    let (mut heads, mut at) = (Vec::new(), 0);
+    while let Some(head) = value.get(at).filter(|head| head[0] != 0) {
+        heads.push(at);
+        at += match head[0] {
+            1 => 1 + b(head).div_ceil(8),
+            _ => 1,
+        };
+    }
+    heads
+}
+
+/// The heads of the templates.
+pub(crate) fn template_heads(templates: &[Record]) -> Vec<usize> {
+    let first = templates.iter().position(|head| ![1, 2].contains(&head[0]));
+    let (mut heads, mut at) = (Vec::new(), first.unwrap_or(0));
+    while let Some(head) = templates.get(at).filter(|head| head[0] == 3) {
+        heads.push(at);
+        at += c(head).max(1);
+    }
+    heads
+}
+
+/// The body of the template with this head.
+pub(crate) fn body_of(templates: &[Record], head: usize) -> usize {
+    head + 1 + usize::from(templates[head][1])
+}
+
 /// The body of each template.
 fn bodies(templates: &[Record]) -> Vec<usize> {
-    let first = templates.iter().position(|head| ![1, 2].contains(&head[0]));
-    let (mut bodies, mut at) = (Vec::new(), first.unwrap_or(0));
-    while let Some(head) = templates.get(at).filter(|head| head[0] == 3) {
-        bodies.push(at + 1 + usize::from(head[1]));
-        at += c(head);
-    }
-    bodies
+    let heads = template_heads(templates).into_iter();
+    heads.map(|head| body_of(templates, head)).collect()
 }
 
 /// The nodes of all bodies, in record order.
 pub(crate) fn nodes(templates: &[Record]) -> Vec<usize> {
-    let mut nodes = Vec::new();
-    for body in bodies(templates) {
-        let (mut at, end) = (body, body + c(&templates[body]));
-        while at < end {
-            nodes.push(at);
-            let head = templates[at];
-            at += match head[1] {
-                1 => 1 + b(&head).div_ceil(8),
-                2 | 4 | 5 => 2,
-                3 => 1 + d(&head),
-                _ => 1,
-            };
-        }
+    let bodies = bodies(templates).into_iter();
+    bodies.flat_map(|body| nodes_of(templates, body)).collect()
+}
+
+/// The nodes of a body, in record order, as far as its records can be followed.
+pub(crate) fn nodes_of(templates: &[Record], body: usize) -> Vec<usize> {
+    let end = body + templates.get(body).map_or(0, c);
+    let (mut nodes, mut at) = (Vec::new(), body);
+    while let Some(head) = templates.get(at).filter(|_| at < end) {
+        nodes.push(at);
+        at += match head[1] {
+            1 => 1 + b(head).div_ceil(8),
+            2 | 4 | 5 | 7 => 2,
+            3 => 1 + d(head),
+            _ => 1,
+        };
     }
     nodes
 }
@@ -309,12 +370,50 @@ fn escaped_by(fault: Fault, plain: &[u8], start: usize) -> Vec<u8> {
     written
 }
 
-/// The children of a list or record of a value.
+/// The children of a list, record or case of a value.
 pub(crate) fn values(value: &[Record], head: usize) -> Vec<usize> {
-    in_a_row(head + 1, d(&value[head]), |at| match value[at][0] {
+    let count = match value[head][0] {
+        5 => 1,
+        _ => d(&value[head]),
+    };
+    in_a_row(head + 1, count, |at| match value[at][0] {
         2 => 1,
         _ => c(&value[at]),
     })
+}
+
+/// The values that a type is asked of, in record order, each with the head of its type, as far as the
+/// whole is of its declared type.
+pub(crate) fn typed(templates: &[Record], value: &[Record]) -> Vec<(usize, usize)> {
+    let types = types(templates);
+    let declared = templates.iter().position(|record| record[0] == 4);
+    let mut found = Vec::new();
+    // Values that are still to be looked at, the next one last, each with its type.
+    let mut left: Vec<(usize, usize)> = Vec::new();
+    if let (Some(parameter), false) = (declared, value.is_empty()) {
+        left.push((0, b(&templates[parameter])));
+    }
+    while let Some((place, number)) = left.pop() {
+        let head = types[number];
+        found.push((place, head));
+        let below = values(value, place).into_iter();
+        let named = |number: usize| b(&templates[head + 1 + number]);
+        let count = d(&templates[head]);
+        match (templates[head][1], value[place][0]) {
+            (2, 3) => left.extend(below.rev().map(|item| (item, b(&templates[head])))),
+            (3, 4) => {
+                let pairs: Vec<_> = below.zip((0..count).map(named)).collect();
+                left.extend(pairs.into_iter().rev());
+            }
+            (4, 5) => {
+                let number = usize::from(value[place][1]);
+                let case = Some(number).filter(|&number| number < count);
+                left.extend(case.map(|number| (place + 1, named(number))));
+            }
+            _ => {}
+        }
+    }
+    found
 }
 
 /// So many things in a row, from a record on.
@@ -351,12 +450,19 @@ impl Walk<'_> {
     }
 
     fn reach(&mut self, node: usize, depth: usize) -> Result<(), Stop> {
+        if self.fault == Fault::MatchIsNoStep && self.is_match(node) {
+            return Ok(());
+        }
         self.fuel_left(node)?;
         self.steps += 1;
         match depth {
             ..=200 => Ok(()),
             _ => Err((11, node)),
         }
+    }
+
+    fn is_match(&self, node: usize) -> bool {
+        self.templates[node][1] == 7
     }
 
     fn fuel_left(&self, node: usize) -> Result<(), Stop> {
@@ -375,11 +481,43 @@ impl Walk<'_> {
                 let found: Vec<usize> = paths.map(|path| self.find(path, variables)).collect();
                 self.visit(self.bodies[b(&head)], depth + 1, &found)
             }
+            7 => self.by_case(node, depth, variables),
             _ => {
                 let no = usize::from(self.value[self.find(node + 1, variables)][1] == 0);
                 self.visit(self.nodes(node + 2, 2)[no], depth + 1, variables)
             }
         }
+    }
+
+    /// The arm of a match, with the content as one variable more. (A wrong arm before it may have let
+    /// the path find no case at all: that counts as its own content.)
+    fn by_case(&mut self, node: usize, depth: usize, variables: &[usize]) -> Result<(), Stop> {
+        let case = self.find(node + 1, variables);
+        let arms = self.nodes(node + 2, d(&self.templates[node]));
+        let number = usize::from(self.value[case][1]).min(arms.len() - 1);
+        let content = match (self.fault, self.value[case][0]) {
+            (Fault::CaseForContent, _) | (_, ..=4) => case,
+            _ => case + 1,
+        };
+        let inside = match self.fault {
+            Fault::NoContent => variables.to_vec(),
+            Fault::ContentFirst => [&[content], variables].concat(),
+            _ => [variables, &[content]].concat(),
+        };
+        let depth = match self.fault {
+            Fault::ArmAtSameDepth => depth,
+            Fault::ArmTwoDeeper => depth + 2,
+            _ => depth + 1,
+        };
+        let taken = match self.fault {
+            Fault::FirstArm => &arms[..1],
+            Fault::LastArm => &arms[arms.len() - 1..],
+            Fault::NextArm => &arms[(number + 1) % arms.len()..][..1],
+            Fault::AllArms => &arms[..],
+            _ => &arms[number..=number],
+        };
+        let mut taken = taken.iter();
+        taken.try_for_each(|&arm| self.visit(arm, depth, &inside))
     }
 
     fn build(&mut self, node: usize, depth: usize, variables: &[usize]) -> Result<(), Stop> {
@@ -529,9 +667,12 @@ impl Walk<'_> {
         if self.fault == Fault::BehindEach {
             self.write(row.1, row.0)?;
         }
-        if self.fault != Fault::ForgetsEmptyItems || self.bytes > before {
-            self.items += 1;
-        }
+        let counts = match self.fault {
+            Fault::ForgetsEmptyItems => self.bytes > before,
+            Fault::MatchIsNoItem => !self.is_match(node),
+            _ => true,
+        };
+        self.items += usize::from(counts);
         Ok(())
     }
 
@@ -572,13 +713,17 @@ impl Walk<'_> {
         in_a_row(start, count, |at| c(&self.templates[at]))
     }
 
-    /// The value that a path finds.
+    /// The value that a path finds; the whole one where a fault lets it find none.
     fn find(&self, path: usize, variables: &[usize]) -> usize {
         let [_, variable, steps, fields @ ..] = self.templates[path];
-        let fields = &fields[..usize::from(steps)];
-        let start = variables[usize::from(variable)];
-        fields.iter().fold(start, |record, &field| {
-            values(&self.value, record)[usize::from(field)]
-        })
+        let mut fields = fields[..usize::from(steps)].iter();
+        let start = variables.get(usize::from(variable)).copied();
+        let found = start.and_then(|start| {
+            fields.try_fold(start, |record, &field| {
+                let below = values(&self.value, record);
+                below.get(usize::from(field)).copied()
+            })
+        });
+        found.unwrap_or(0)
     }
 }

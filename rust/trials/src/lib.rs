@@ -13,6 +13,7 @@ pub mod faulty;
 pub mod generate;
 pub mod judging;
 pub mod machine;
+pub mod matching;
 pub mod mutants;
 pub mod numbers;
 #[cfg(feature = "proved")]

@@ -7,6 +7,7 @@ use crate::chains::Chain;
 use crate::faulty::{elements_of_form, productions, text_length, walk, Fault};
 use crate::judging::Judging;
 use crate::machine::{Fields, Machine, Reference};
+use crate::matching::Matching;
 use crate::numbers::Numbering;
 use crate::unescaping::Unescaping;
 
@@ -59,7 +60,7 @@ pub enum Mutant {
     TakesFormFive,
     /// Doesn't look whether the nonterminal of a repetition with a separator exists.
     ForgivesSeparatedNames,
-    /// Walks with a fault in its separators or entities.
+    /// Walks with a fault in its separators, entities or matches.
     Walks(Fault),
     /// Judges escaped classes and what stands for them with a fault.
     JudgesEscaped(Judging),
@@ -69,6 +70,8 @@ pub enum Mutant {
     Admits(Admission),
     /// Numbers productions with a fault.
     Numbers(Numbering),
+    /// Judges variants, cases and matches with a fault.
+    Matches(Matching),
     /// Judges the blocks of a set by another chain of checks.
     Judges(Chain),
     /// Unpacks by another chain of checks.
@@ -95,6 +98,7 @@ impl Mutant {
         let unescapes = Unescaping::ALL.map(Mutant::Unescapes);
         let mut all = [&Self::OTHERS[..], &walks, &packs, &escaped, &unescapes].concat();
         all.extend(Numbering::ALL.map(Mutant::Numbers));
+        all.extend(Matching::ALL.map(Mutant::Matches));
         all.extend(judges);
         all.extend(Admission::all().into_iter().map(Mutant::Admits));
         all
@@ -234,6 +238,7 @@ impl Machine for Mutant {
         match self {
             Mutant::JudgesEscaped(fault) => fault.check(grammar, templates),
             Mutant::Admits(fault) => fault.check(grammar, templates),
+            Mutant::Matches(fault) => fault.check(grammar, templates),
             Mutant::Numbers(fault) => {
                 let [grammar, templates] = fault.taken(grammar, templates);
                 Reference.check(&grammar, &templates)
@@ -267,6 +272,7 @@ impl Machine for Mutant {
                 fields
             }
             Mutant::Admits(fault) => fault.evaluate(parts, fuel, out, scratch),
+            Mutant::Matches(fault) => fault.evaluate(parts, fuel, out, scratch),
             Mutant::Numbers(fault) => {
                 let [grammar, templates] = fault.taken(parts[0], parts[1]);
                 Reference.evaluate([&grammar, &templates, parts[2]], fuel, out, scratch)

@@ -7,6 +7,7 @@ use trials::chains::Chain;
 use trials::compare::{self, Call, Conversion};
 use trials::faulty::Fault;
 use trials::generate::{self, Streams};
+use trials::matching::Matching;
 use trials::mutants::Mutant;
 use trials::numbers::Numbering;
 use trials::run::run;
@@ -35,16 +36,18 @@ fn no_difference_and_every_number_is_reached() {
 
 #[test]
 fn every_mutant_is_found() {
+    let mut missed = Vec::new();
     for mutant in Mutant::all() {
         match run(&Reference, &mutant, seed(), 0..8_000) {
-            Ok(_) => panic!("{} isn't found", mutant.name()),
+            Ok(_) => missed.push(mutant),
             Err(failure) => println!("found after {:>4} cases: {failure}", failure.case + 1),
         }
     }
+    assert_eq!(missed, [], "mutants that aren't found");
 }
 
-/// What the faults in separators, entities, unescape calls, admission, numbers and chains of checks are
-/// put into is right without one.
+/// What the faults in separators, entities, unescape calls, admission, numbers, matches and chains of
+/// checks are put into is right without one.
 #[test]
 fn a_machine_without_a_fault_is_no_mutant() {
     let chains = [Mutant::Judges, Mutant::Unpacks, Mutant::Packs].map(|part| part(Chain::Right));
@@ -53,6 +56,7 @@ fn a_machine_without_a_fault_is_no_mutant() {
         Mutant::Unescapes(Unescaping::Right),
         Mutant::Admits(Admission::Right),
         Mutant::Numbers(Numbering::Right),
+        Mutant::Matches(Matching::Right),
     ];
     for right in [&others[..], &chains].concat() {
         if let Err(failure) = run(&Reference, &right, seed(), 0..2_000) {
@@ -189,16 +193,27 @@ fn all_forms() -> Streams {
     let yes_no = templates.yes_no();
     let entry = templates.record([text, yes_no, text]);
     let entries = templates.list(entry);
-    let root = templates.record([entries, yes_no]);
+    let variant = templates.variant([text, entry]);
+    let variants = templates.list(variant);
+    let root = templates.record([entries, yes_no, variants]);
     let either = |path: Path| Node::either(path, Node::build(3, []), Node::build(4, []));
     let field = |number| Path::variable(1).field(number);
     let body = Node::build(1, [Node::place(field(2)), either(field(1))]);
     let pair = Node::build(5, [Node::literal("&lt;"), Node::place(field(2))]);
+    let by_case = || {
+        let entry = Path::variable(2).field(0);
+        let arms = [Path::variable(2), entry].map(|path| {
+            let text = Node::place(path);
+            Node::build(1, [text, either(Path::variable(0).field(1))])
+        });
+        Node::by_case(Path::variable(1), arms)
+    };
     let items = Node::sequence([
         Node::each(Path::variable(0).field(0), body),
         Node::each(Path::variable(0).field(0), pair),
         Node::build(2, [Node::literal("\u{10348}")]),
         Node::expand(1, [Path::variable(0).field(1), Path::variable(0)]),
+        Node::each(Path::variable(0).field(2), by_case()),
     ]);
     templates.template(5, [root], Node::build(0, [items.clone(), items]));
     let body = Node::build(1, [Node::literal("ἀ"), either(Path::variable(0))]);
@@ -206,7 +221,11 @@ fn all_forms() -> Streams {
     let entry =
         |text: &str| Value::record([Value::text(""), Value::YesNo(true), Value::text(text)]);
     let list = Value::list([entry("abc&def'i"), entry("ἄἄ")]);
-    let value = Value::record([list, Value::YesNo(false)]);
+    let cases = [
+        Value::case(0, Value::text("abc")),
+        Value::case(1, entry("c")),
+    ];
+    let value = Value::record([list, Value::YesNo(false), Value::list(cases)]);
     Streams::of(&every_element(), &templates, &value)
 }
 

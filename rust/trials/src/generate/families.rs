@@ -7,13 +7,13 @@ use build::{
 
 use super::grammars::draw_class;
 use super::lexemes::{lexeme, near_lexeme};
-use super::{admission, escapes, productions, separators, Streams};
+use super::{admission, escapes, productions, separators, variants, Streams};
 use crate::random::Random;
 use crate::uploads;
 
 /// A set of one of the families.
 pub(super) fn set(random: &mut Random) -> Streams {
-    match random.below(42) {
+    match random.below(50) {
         0 => deep_body(random),
         1 => deep_value(random),
         2 => thousands_deep(random),
@@ -33,7 +33,8 @@ pub(super) fn set(random: &mut Random) -> Streams {
         21 => chances(random),
         22..=28 => escapes::set(random),
         29..=37 => admission::set(random),
-        _ => productions::set(random),
+        38..=41 => productions::set(random),
+        _ => variants::set(random),
     }
 }
 

@@ -9,6 +9,7 @@ mod productions;
 mod separators;
 mod sketch;
 mod values;
+mod variants;
 
 use build::{Grammar, Templates, Value};
 

@@ -53,18 +53,27 @@ fn draw_types(random: &mut Random, grammar: &Grammar) -> Vec<Type> {
     }
     let total = types.len() + random.between(1, 7);
     while types.len() < total {
-        types.push(match random.below(6) {
+        let earlier = types.len();
+        types.push(match random.below(9) {
             0 => Type::List(random.below(total) as u16),
             5 => random.pick(&types).clone(),
-            1 => Type::List(random.below(types.len()) as u16),
+            1 => Type::List(random.below(earlier) as u16),
+            6..=8 => {
+                let count = *random.pick(&[1, 2, 2, 3, 5]);
+                Type::Variant(some_of(random, earlier, count))
+            }
             _ => {
                 let count = random.below(7);
-                let earlier = types.len();
-                Type::Record((0..count).map(|_| random.below(earlier) as u16).collect())
+                Type::Record(some_of(random, earlier, count))
             }
         });
     }
     types
+}
+
+/// So many numbers of the earlier types.
+fn some_of(random: &mut Random, earlier: usize, count: usize) -> Vec<u16> {
+    (0..count).map(|_| random.below(earlier) as u16).collect()
 }
 
 fn draw_signatures(random: &mut Random, nonterminals: &[u16], types: &[Type]) -> Vec<Signature> {
@@ -136,6 +145,7 @@ impl Sketch<'_> {
         let other = match choice {
             0 | 1 => self.expand(nonterminal, scope),
             2 | 3 => self.either(nonterminal, scope, depth),
+            4 | 5 => self.by_case(nonterminal, scope, depth),
             _ => None,
         };
         other.unwrap_or_else(|| {
@@ -244,6 +254,35 @@ impl Sketch<'_> {
         Some(Node::either(path, yes, no))
     }
 
+    /// A match, if a variant is in sight.
+    fn by_case(&mut self, nonterminal: u16, scope: &mut Scope, depth: usize) -> Option<Node> {
+        let variants = self.paths(scope, |kind| matches!(kind, Type::Variant(_)));
+        let around = scope.variables.len() - scope.parameters;
+        if variants.is_empty() || around >= LOOPS {
+            return None;
+        }
+        let mut path = self.random.pick(&variants).clone();
+        let types = self.types;
+        let Type::Variant(cases) = &types[usize::from(self.type_of(&path, scope)?)] else {
+            return None;
+        };
+        let mut arms = Vec::new();
+        for &case in cases {
+            scope.variables.push(case);
+            arms.push(self.node(nonterminal, scope, depth + 1));
+            scope.variables.pop();
+        }
+        if self.slips() {
+            match self.random.below(4) {
+                0 => drop(arms.pop()),
+                1 => arms.push(self.odd_node(scope)),
+                2 => arms.reverse(),
+                _ => path = self.odd_path(scope),
+            }
+        }
+        Some(Node::by_case(path, arms))
+    }
+
     /// An expand of a template of the nonterminal for whose parameters values are in sight; mostly
     /// of a later one, so that few sets go round in circles.
     fn expand(&mut self, nonterminal: u16, scope: &Scope) -> Option<Node> {
@@ -328,7 +367,11 @@ impl Sketch<'_> {
     /// A node that may stand anywhere but mostly not here.
     fn odd_node(&mut self, scope: &Scope) -> Node {
         let leaf = Node::literal("a");
-        match self.random.below(8) {
+        match self.random.below(9) {
+            8 => {
+                let arms = vec![leaf; self.random.below(3)];
+                Node::by_case(self.odd_path(scope), arms)
+            }
             0 => leaf,
             1 => Node::place(self.odd_path(scope)),
             2 => Node::Sequence(vec![]),
@@ -387,8 +430,8 @@ fn slip_grammar(random: &mut Random, grammar: &mut Grammar) {
     }
 }
 
-/// Once in a while lets a type or field name nothing, a text any class, or a field its own or a later
-/// type.
+/// Once in a while lets a type or field name nothing, a text any class, or a field or case its own or
+/// a later type.
 fn slip_types(random: &mut Random, types: &mut [Type], classes: usize) {
     let total = types.len();
     let number = random.below(total);
@@ -397,6 +440,7 @@ fn slip_types(random: &mut Random, types: &mut [Type], classes: usize) {
         Type::Text(class) if random.once_in(5) => *class = random.below(classes + 1) as u16,
         Type::List(item) if random.once_in(10) => *item = total as u16,
         Type::Record(fields) if random.once_in(10) => fields.push(named),
+        Type::Variant(cases) if random.once_in(10) => cases[0] = named,
         _ => {}
     }
 }
