@@ -14,6 +14,7 @@
 //! | `escapes` | escaped classes: texts, literals, positions, layout, names; the unescape call |
 //! | `admission` | characters that XML 1.0 admits: titles, literals, class tables; where it isn't asked |
 //! | `productions` | more than 256 productions: their numbers, and builds of them |
+//! | `variants` | variants, cases and matches: layout, names, limits, typing, runs |
 //!
 //! To add a case, add it to one of these, then `cargo run -p cases`.
 
@@ -31,6 +32,7 @@ mod runs;
 mod separators;
 mod sets;
 mod streams;
+mod variants;
 
 use std::path::{Path, PathBuf};
 
@@ -51,6 +53,7 @@ pub fn all() -> Vec<Case> {
         escapes::all(),
         admission::all(),
         productions::all(),
+        variants::all(),
     ]
     .concat()
 }

@@ -88,9 +88,9 @@ fn templates_layout() -> Vec<Case> {
     let six_steps = [6, 1, 6, 0, 0, 0, 0, 0];
     let more_than_steps = [6, 1, 0, 1, 0, 0, 0, 0];
     vec![
-        in_templates("3 type of form 4", 1, record(1, 4, 0, 0, 0)),
+        in_templates("3 type of form 5", 1, record(1, 5, 0, 0, 0)),
         in_templates("3 template of another size", 2, record(3, 1, 0, 8, 0)),
-        in_templates("3 node of form 7", 9, record(5, 7, 0, 2, 0)),
+        in_templates("3 node of form 8", 9, record(5, 8, 0, 2, 0)),
         in_templates("3 place of another size", 9, record(5, 2, 0, 3, 0)),
         in_templates("3 place with d", 9, record(5, 2, 0, 2, 1)),
         in_templates("3 path of six steps", 10, six_steps),
