@@ -1,8 +1,8 @@
 //! Fixed examples: what is derived, and what is not once a byte is missing or added.
 
 use build::Element::{Class, Nonterminal, Repetition};
-use build::{Element, Grammar};
-use recogniser::BUDGET;
+use build::{Element, Grammar, Node, Path, Templates};
+use recogniser::{start, BUDGET};
 
 fn keyword(text: &str) -> Element {
     Element::keyword(text)
@@ -334,4 +334,35 @@ fn thousands_of_askers_for_thousands_of_empty_productions() {
     assert!(derives(&grammar, 0, b"a"));
     assert!(!derives(&grammar, 0, b""));
     assert!(!derives(&grammar, 0, b"aa"));
+}
+
+/// A template 0 behind variants, with a match on one.
+fn set_with_a_match(nonterminal: u16) -> Templates {
+    let mut templates = Templates::new();
+    let text = templates.text(0);
+    let yes_no = templates.yes_no();
+    let variant = templates.variant([text, yes_no]);
+    let titles = Node::sequence([Node::build(1, [Node::place(Path::variable(1))])]);
+    let arms = [
+        Node::build(0, [titles]),
+        Node::build(0, [Node::sequence([])]),
+    ];
+    let body = Node::by_case(Path::variable(0), arms);
+    templates.template(nonterminal, [variant], body);
+    templates
+}
+
+/// A derivation knows no match: what either arm writes is derived from template 0's nonterminal, and
+/// nothing else is.
+#[test]
+fn what_the_arms_of_a_match_write() {
+    for nonterminal in [0, 1, 700] {
+        let templates = set_with_a_match(nonterminal).stream();
+        assert_eq!(start(&templates), Some(nonterminal));
+    }
+    let grammar = entries();
+    let root = start(&set_with_a_match(0).stream()).expect("a template 0");
+    for (text, derived) in [("[<ab>]", true), ("[]", true), ("<ab>", false), ("", false)] {
+        assert_eq!(derives(&grammar, root, text.as_bytes()), derived, "{text}");
+    }
 }
