@@ -16,7 +16,7 @@ pub struct Family {
 }
 
 /// All families.
-pub const FAMILIES: [Family; 31] = [
+pub const FAMILIES: [Family; 33] = [
     Family {
         name: "the paper's example",
         set: |_| example(),
@@ -165,6 +165,16 @@ pub const FAMILIES: [Family; 31] = [
     Family {
         name: "a thousand ifs and loops",
         set: many_branches,
+        grows: true,
+    },
+    Family {
+        name: "episodes, audio or video",
+        set: audio_or_video,
+        grows: true,
+    },
+    Family {
+        name: "thousands of cases, the last of 256 arms",
+        set: last_arms,
         grows: true,
     },
     Family {
@@ -399,6 +409,98 @@ fn many_nonterminals(scale: usize) -> Streams {
     let page = [Node::sequence(items), Node::build(close, [])];
     templates.template(0, [yes_no], Node::build(0, page));
     Streams::of(&grammar, &templates, &Value::YesNo(true))
+}
+
+/// 500 episodes, each with a title and a variant of two records with different fields, matched in a
+/// for: what is heard has an address and a length, what is seen a width, a height and captions, too.
+fn audio_or_video(scale: usize) -> Streams {
+    let mut templates = Templates::new();
+    let [line, yes_no] = [templates.text(0), templates.yes_no()];
+    let heard = templates.record([line, line]);
+    let seen = templates.record([line, line, line, line, yes_no]);
+    let variant = templates.variant([heard, seen]);
+    let episode = templates.record([line, variant]);
+    let episodes = templates.list(episode);
+    let content = |field| Path::variable(2).field(field);
+    let places = |count| (0..count).map(move |field| Node::place(content(field)));
+    let captions = [5, 4].map(|production| Node::build(production, []));
+    let [yes, no] = captions;
+    let arms = [
+        Node::build(2, places(2)),
+        Node::build(3, places(4).chain([Node::either(content(4), yes, no)])),
+    ];
+    let file = Node::by_case(Path::variable(1).field(1), arms);
+    let title = Node::place(Path::variable(1).field(0));
+    let each = Node::each(Path::variable(0), Node::build(1, [title, file]));
+    let body = Node::build(0, [Node::sequence([each])]);
+    templates.template(0, [episodes], body);
+    let value = Value::list((0..125 * scale).map(episode_value));
+    Streams::of(&episodes_grammar(), &templates, &value)
+}
+
+/// Nonterminal 0 is a row of 1, which has a title and a 2: an enclosure of either kind. Nonterminal 3 is
+/// nothing, or captions.
+fn episodes_grammar() -> Grammar {
+    let mut grammar = Grammar::new();
+    let line = grammar.class(1, 60, &[(0x20, 0x25), (0x27, 0x3B), (0x3F, 0x7E)]);
+    let line = || Element::Class(line);
+    let row = Element::Repetition(1);
+    grammar.production(0, [keyword("<channel>\n"), row, keyword("</channel>\n")]);
+    let title = [keyword("<item><title>"), line(), keyword("</title>")];
+    let file = [Element::Nonterminal(2), keyword("</item>\n")];
+    grammar.production(1, title.into_iter().chain(file));
+    let url = |kind: &str| {
+        let head = keyword(&format!("<enclosure type=\"{kind}\" url=\""));
+        [head, line(), keyword("\" length=\""), line()]
+    };
+    let end = [keyword("\"/>")];
+    grammar.production(2, url("audio/mpeg").into_iter().chain(end));
+    let size = [keyword("\"/><media:content width=\""), line()];
+    let rest = [keyword("\" height=\""), line(), keyword("\"/>")];
+    let rest = size.into_iter().chain(rest);
+    let video = url("video/mp4").into_iter().chain(rest);
+    grammar.production(2, video.chain([Element::Nonterminal(3)]));
+    grammar.production(3, []);
+    grammar.production(3, [keyword("<media:subTitle/>")]);
+    grammar
+}
+
+/// Every third episode is seen.
+fn episode_value(number: usize) -> Value {
+    let address = format!("https://example.org/{number:04}");
+    let file = [Value::text(address), Value::text("48213760")];
+    let content = match number % 3 {
+        2 => {
+            let size = [Value::text("1280"), Value::text("720")];
+            let rest = size.into_iter().chain([Value::YesNo(number % 2 == 1)]);
+            Value::case(1, Value::record(file.into_iter().chain(rest)))
+        }
+        _ => Value::case(0, Value::record(file)),
+    };
+    let title = Value::text(format!("{number}. A night by the sea"));
+    Value::record([title, content])
+}
+
+/// Thousands of cases of a variant of 256, matched in a for, of which all but the first are the last.
+fn last_arms(scale: usize) -> Streams {
+    let grammar = entries(1, 4, &[(0x61, 0x7A)]);
+    let mut templates = Templates::new();
+    let yes_no = templates.yes_no();
+    let variant = templates.variant([yes_no; 256]);
+    let list = templates.list(variant);
+    let arm = Node::build(1, [Node::literal("a")]);
+    let each = Node::each(
+        Path::variable(0),
+        Node::by_case(Path::variable(1), vec![arm; 256]),
+    );
+    let body = Node::build(0, [Node::sequence([each])]);
+    templates.template(0, [list], body);
+    let case = |number: usize| {
+        let last = if number == 0 { 0 } else { 255 };
+        Value::case(last, Value::YesNo(true))
+    };
+    let value = Value::list((0..1_000 * scale).map(case));
+    Streams::of(&grammar, &templates, &value)
 }
 
 /// Five records of 255 fields in one another, of which places read the last of the last.
