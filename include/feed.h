@@ -49,17 +49,20 @@
  *        follows the last thing
  *    4   a template node or a value is over 200 deep, or a   2, 3     that record
  *        template has over 8 parameters, or over 16 loops
- *        stand around a node
+ *        and arms of matches stand around a node
  *    5   a class, nonterminal, production, template or       1, 2     the record
- *        type that is named doesn't exist, or a field                 that names
- *        names no earlier type, an escaped class no earlier
- *        plain class, or a text type an escaped class
+ *        type that is named doesn't exist, or a field or              that names
+ *        case names no earlier type, an escaped class no
+ *        earlier plain class, or a text type an escaped
+ *        class
  *    6   a class has least above most, or a range has        1        the class or
  *        lowest above highest or passes U+10FFFF                      the range
- *    7   a typing rule fails, or a path names a variable     2        the node; 0
- *        or field that isn't there; or template 0 is                  for template
- *        missing or hasn't exactly one parameter                      0
- *    8   the value isn't of its declared type                3        that record
+ *    7   a typing rule fails (such as: a match has one arm   2        the node; 0
+ *        for each case), or a path names a variable or                for template
+ *        field that isn't there; or template 0 is missing             0
+ *        or hasn't exactly one parameter
+ *    8   the value isn't of its declared type (nor is a      3        that record
+ *        case that its variant doesn't have)
  *    9   the scratch has fewer than 4,800 16-bit numbers     0        0
  *   10   a node is reached with all fuel used (it isn't      2        the node
  *        counted as a step)

@@ -55,15 +55,16 @@ pub enum Refusal {
         /// The stream that holds them.
         stream: Stream,
     },
-    /// 4: a node or value over 200 deep, over 8 parameters, or over 16 loops around a node.
+    /// 4: a node or value over 200 deep, over 8 parameters, or over 16 loops and arms of matches around a
+    /// node.
     Limit {
         /// The templates or the value.
         stream: Stream,
         /// The node, value or template that is over the limit.
         record: u64,
     },
-    /// 5: a thing that is named doesn't exist, or a field names no earlier type, an escaped class no
-    /// earlier plain class, or a text type an escaped class.
+    /// 5: a thing that is named doesn't exist, or a field or case names no earlier type, an escaped class
+    /// no earlier plain class, or a text type an escaped class.
     Name {
         /// The grammar or the templates.
         stream: Stream,
@@ -77,12 +78,13 @@ pub enum Refusal {
     },
     /// 7: a typing rule fails, or a path names a variable or field that isn't there. A literal must be a
     /// [lexeme](crate#lexemes). In the position of an escaped class it is an escaped text itself, and a
-    /// place has a text of the plain class.
+    /// place has a text of the plain class. A match has one arm for each case of its variant.
     Typing {
         /// The node, in the templates; 0 if template 0 is missing or hasn't exactly one parameter.
         node: u64,
     },
-    /// 8: the value isn't of its declared type. A text must be a [lexeme](crate#lexemes).
+    /// 8: the value isn't of its declared type. A text must be a [lexeme](crate#lexemes), and a case one
+    /// that its variant has.
     ValueType {
         /// The first record of the value that fails its own rule.
         record: u64,
