@@ -265,11 +265,7 @@ impl Machine for Mutant {
                 _ => Reference.evaluate(parts, fuel, out, scratch),
             },
             Mutant::TakesSmallScratch if scratch.len() == 4_799 => {
-                let fields = Reference.evaluate(parts, fuel, out, &mut [0; 4_800]);
-                if fields[0] == 0 || fields[0] >= 10 {
-                    scratch.fill(0);
-                }
-                fields
+                with_small_scratch(parts, fuel, out, scratch)
             }
             Mutant::Admits(fault) => fault.evaluate(parts, fuel, out, scratch),
             Mutant::Matches(fault) => fault.evaluate(parts, fuel, out, scratch),
@@ -361,6 +357,15 @@ impl Mutant {
         }
         fields
     }
+}
+
+/// A call that makes do with a scratch that is too small.
+fn with_small_scratch(parts: [&[u8]; 3], fuel: u32, out: &mut [u8], scratch: &mut [u16]) -> Fields {
+    let fields = Reference.evaluate(parts, fuel, out, &mut [0; 4_800]);
+    if fields[0] == 0 || fields[0] >= 10 {
+        scratch.fill(0);
+    }
+    fields
 }
 
 /// One step more would show whether the node that 10 stops at lies at depth 201.

@@ -186,6 +186,16 @@ fn every_element() -> Grammar {
     grammar
 }
 
+/// A match on variable 1, with the text that each content is or has, and a node behind it.
+fn by_case(behind: impl Fn(Path) -> Node) -> Node {
+    let entry = Path::variable(2).field(0);
+    let arms = [Path::variable(2), entry].map(|path| {
+        let text = Node::place(path);
+        Node::build(1, [text, behind(Path::variable(0).field(1))])
+    });
+    Node::by_case(Path::variable(1), arms)
+}
+
 /// All forms of records in one set: every class, element, type, node and value.
 fn all_forms() -> Streams {
     let mut templates = Templates::new();
@@ -200,20 +210,12 @@ fn all_forms() -> Streams {
     let field = |number| Path::variable(1).field(number);
     let body = Node::build(1, [Node::place(field(2)), either(field(1))]);
     let pair = Node::build(5, [Node::literal("&lt;"), Node::place(field(2))]);
-    let by_case = || {
-        let entry = Path::variable(2).field(0);
-        let arms = [Path::variable(2), entry].map(|path| {
-            let text = Node::place(path);
-            Node::build(1, [text, either(Path::variable(0).field(1))])
-        });
-        Node::by_case(Path::variable(1), arms)
-    };
     let items = Node::sequence([
         Node::each(Path::variable(0).field(0), body),
         Node::each(Path::variable(0).field(0), pair),
         Node::build(2, [Node::literal("\u{10348}")]),
         Node::expand(1, [Path::variable(0).field(1), Path::variable(0)]),
-        Node::each(Path::variable(0).field(2), by_case()),
+        Node::each(Path::variable(0).field(2), by_case(either)),
     ]);
     templates.template(5, [root], Node::build(0, [items.clone(), items]));
     let body = Node::build(1, [Node::literal("ἀ"), either(Path::variable(0))]);

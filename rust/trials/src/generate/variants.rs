@@ -337,26 +337,18 @@ fn item(random: &mut Random) -> Node {
             let arms = [nothing(), again.clone(), nothing(), again];
             Node::each(field(0), Node::by_case(field(1), arms))
         }
-        5 => {
-            let pair = Node::expand(2, [variable(2), variable(1)]);
-            let arms = [nothing(), nothing(), pair_in(pair), nothing()];
-            Node::by_case(field(1), arms)
-        }
+        5 => Node::by_case(field(1), [nothing(), nothing(), pairs(), nothing()]),
         _ => nothing(),
     }
 }
 
-/// The expand of the template of two parameters, for each variant of the list that holds an inner one.
-fn pair_in(pair: Node) -> Node {
-    let shifted = match pair {
-        Node::Expand(template, _) => Node::expand(template, [variable(3), variable(1)]),
-        other => other,
-    };
-    let arms = [nothing(), nothing(), nothing(), shifted];
-    row([Node::each(
-        variable(0).field(0),
-        Node::by_case(variable(2), arms),
-    )])
+/// In the arm of a record, for each of the list that holds an inner variant, an expand with that and the
+/// record.
+fn pairs() -> Node {
+    let pair = Node::expand(2, [variable(3), variable(1)]);
+    let arms = [nothing(), nothing(), nothing(), pair];
+    let item = Node::by_case(variable(2), arms);
+    row([Node::each(variable(0).field(0), item)])
 }
 
 /// A value of the outer variant.
