@@ -208,7 +208,7 @@ fn change_match(random: &mut Random, stream: &mut Vec<u8>) {
 
 /// Changes a case of the value: a field, its kind, or how many children it has, with the sizes around
 /// it as they are to be; the checks are mended.
-fn change_case(random: &mut Random, stream: &mut Vec<u8>) {
+pub(crate) fn change_case(random: &mut Random, stream: &mut Vec<u8>) {
     let mut records = records_of(stream);
     let mut found = value_heads(&records);
     found.retain(|&head| records[head][0] == 5);
@@ -218,7 +218,7 @@ fn change_case(random: &mut Random, stream: &mut Vec<u8>) {
     let case = *random.pick(&found);
     let end = case + c(&records[case]);
     let record = &mut records[case];
-    match random.below(9) {
+    match random.below(11) {
         0 => record[0] = *random.pick(&[1, 2, 3, 4, 6]),
         1 | 2 => record[1] = odd_byte(random, record[1]),
         3 => record[random.between(2, 3)] = odd_byte(random, 0),
@@ -226,27 +226,31 @@ fn change_case(random: &mut Random, stream: &mut Vec<u8>) {
         5 => record[6] = *random.pick(&[1, 1, 2, 255]),
         6 => record[7] = odd_byte(random, 0),
         // A second child: yes.
-        7 => splice(&mut records, end..end, &[[2, 1, 0, 0, 0, 0, 0, 0]]),
+        7 | 8 => splice(&mut records, case, end..end, &[[2, 1, 0, 0, 0, 0, 0, 0]]),
         // No child.
-        _ => splice(&mut records, case + 1..end, &[]),
+        _ => splice(&mut records, case, case + 1..end, &[]),
     }
     *stream = blocks(3, &records);
 }
 
-/// Puts other records in the place of some of a value, and gives the heads around them their sizes.
-fn splice(records: &mut Vec<Record>, range: Range<usize>, others: &[Record]) {
+/// Puts other records in the place of some below a case of a value, and gives the case and the heads
+/// around it their sizes.
+fn splice(records: &mut Vec<Record>, case: usize, range: Range<usize>, others: &[Record]) {
     if range.start > range.end || range.end > records.len() {
         return;
     }
     for head in value_heads(records) {
         let end = head + c(&records[head]);
         let sized = records[head][0] != 2;
-        if sized && head < range.start && range.end <= end {
+        if sized && head <= case && range.end <= end {
             let size = c(&records[head]) + others.len() - range.len();
             records[head][4..6].copy_from_slice(&(size as u16).to_le_bytes());
         }
     }
     records.splice(range, others.iter().copied());
+    // Without the zero fill, which a record more would make too long.
+    let used = records.iter().rposition(|record| *record != [0; 8]);
+    records.truncate(used.map_or(0, |last| last + 1));
 }
 
 /// A record of some of them, mostly one that isn't a unit of text.

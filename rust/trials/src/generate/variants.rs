@@ -3,16 +3,18 @@
 use build::{Element, Grammar, Node, Path, Templates, Type, Value};
 
 use super::Streams;
+use crate::damage::change_case;
 use crate::random::Random;
 
 /// A set with variants.
 pub(super) fn set(random: &mut Random) -> Streams {
-    match random.below(11) {
+    match random.below(12) {
         0..=2 => counted(random),
         3 | 4 => loops_and_arms(random),
         5 => deep_value(random),
         6 => deep_body(random),
         7 => odd_body(random),
+        8 => odd_case(random),
         _ => rows(random),
     }
 }
@@ -272,6 +274,13 @@ fn odd_body(random: &mut Random) -> Streams {
     let rest = [Value::YesNo(random.once_in(2)), Value::list([]), case];
     let value = Value::record(texts.into_iter().chain(rest));
     Streams::of(&grammar(), &templates, &value)
+}
+
+/// A set of rows on a value one of whose cases is laid out otherwise.
+fn odd_case(random: &mut Random) -> Streams {
+    let mut streams = rows(random);
+    change_case(random, &mut streams.value);
+    streams
 }
 
 /// Rows with separators whose items are matches: by themselves, in fors, under ifs and in one another,
