@@ -212,6 +212,7 @@ fn titles_and_notes(value: &Value, found: &mut Vec<String>) {
                 }
             }
         }
+        ValueForm::Case(_, content) => titles_and_notes(content, found),
         ValueForm::Text(_) | ValueForm::YesNo(_) => {}
     }
 }

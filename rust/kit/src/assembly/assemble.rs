@@ -4,6 +4,7 @@
 //! breaks one (a literal that is no lexeme, a field of a later type, an escaped class of an escaped one)
 //! is assembled all the same, and the proved check refuses it.
 
+mod arms;
 mod grammar;
 mod paths;
 mod templates;

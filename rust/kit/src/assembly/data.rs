@@ -1,5 +1,7 @@
 //! A value from JSON, by the type that a description declares.
 
+mod cases;
+
 use crate::assembly::assemble::Assembled;
 use crate::assembly::path::DataPath;
 use crate::assembly::sheet::{word, Sheet};
@@ -13,6 +15,7 @@ use crate::reasons::due::text_lines;
 use crate::reasons::paper::{headline, Why};
 use crate::streams::record::{Record, RECORD, STREAM_RECORDS};
 use crate::words::{named, shown};
+use cases::one_key;
 use feed::Refusal;
 use std::collections::{HashMap, HashSet};
 
@@ -72,6 +75,9 @@ impl<'a> Reader<'a> {
             }
             (TypeForm::Record(fields), Form::Object(members)) => {
                 self.record(json, name, fields, members);
+            }
+            (TypeForm::Variant(cases), Form::Object(members)) => {
+                self.variant(json, name, cases, members);
             }
             (form, _) => self.another(json, form),
         }
@@ -162,14 +168,9 @@ impl<'a> Reader<'a> {
                 fields.iter().map(|it| it.name.word.as_str()),
                 self.mistakes.len(),
             );
-            let outside = self.path.field(&key.word);
-            let message = format!(
-                "{}: this key is surplus: type {} has no such field{near}",
-                self.path,
-                named(name)
-            );
-            self.mistakes.push(Mistake::new(key.at, message));
-            self.path.leave(outside);
+            let name = named(name);
+            let why = format!("this key is surplus: type {name} has no such field{near}");
+            self.wrong_key(key, &why);
         }
     }
 
@@ -183,6 +184,7 @@ impl<'a> Reader<'a> {
                 let keys: Vec<&str> = fields.iter().map(|it| it.name.word.as_str()).collect();
                 format!("an object with the keys {}", shown(&keys.join(", "), 100))
             }
+            TypeForm::Variant(cases) => format!("an object with {}", one_key(cases)),
         };
         let hint = match (form, &json.form) {
             (TypeForm::Text(_), Form::Number(_)) => ": write it in quotes",

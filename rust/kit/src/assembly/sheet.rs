@@ -17,27 +17,33 @@ pub enum What {
     Type,
     /// A field of a record.
     Field,
+    /// A case of a variant.
+    Case,
     /// A template.
     Template,
     /// A parameter of a template.
     Parameter,
     /// The variable of a for.
     Loop,
+    /// The variable of an arm: what its case holds.
+    Content,
     /// A path as it is written.
     Path,
 }
 
 impl What {
     /// All of them.
-    pub const ALL: [Self; 9] = [
+    pub const ALL: [Self; 11] = [
         Self::Class,
         Self::Production,
         Self::Nonterminal,
         Self::Type,
         Self::Field,
+        Self::Case,
         Self::Template,
         Self::Parameter,
         Self::Loop,
+        Self::Content,
         Self::Path,
     ];
 }
@@ -50,9 +56,11 @@ impl fmt::Display for What {
             Self::Nonterminal => "nonterminal",
             Self::Type => "type",
             Self::Field => "field",
+            Self::Case => "case",
             Self::Template => "template",
             Self::Parameter => "parameter",
             Self::Loop => "loop variable",
+            Self::Content => "case variable",
             Self::Path => "path",
         })
     }

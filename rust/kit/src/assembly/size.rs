@@ -84,6 +84,13 @@ impl Reader<'_> {
                     self.path.leave(outside);
                 }
             }
+            (Some(TypeForm::Variant(cases)), 5) => {
+                if let Some(case) = cases.get(usize::from(head.a())) {
+                    let outside = self.path.field(&case.name.word);
+                    self.value(at + 1, self.rows.type_named(&case.of));
+                    self.path.leave(outside);
+                }
+            }
             _ => {}
         }
         self.heads.pop();

@@ -115,9 +115,11 @@ pub enum TypeForm {
     List(Name),
     /// A record.
     Record(Vec<Field>),
+    /// One of several cases.
+    Variant(Vec<Field>),
 }
 
-/// A field of a record, or a parameter of a template.
+/// A field of a record, a case of a variant, or a parameter of a template.
 #[derive(Debug)]
 pub struct Field {
     /// Its name.
@@ -175,6 +177,19 @@ pub enum NodeForm {
     For(Name, Path, Box<Node>),
     /// The nodes in their order.
     Sequence(Vec<Node>),
+    /// The node of the arm whose case stands there.
+    Match(Path, Vec<Arm>),
+}
+
+/// An arm of a match.
+#[derive(Debug)]
+pub struct Arm {
+    /// The case that it is for.
+    pub case: Step,
+    /// The name that the case's content has in the node.
+    pub content: Name,
+    /// Its node.
+    pub node: Node,
 }
 
 /// A path: a variable, then field by field.
@@ -195,7 +210,7 @@ impl Path {
     }
 }
 
-/// A variable or a field, by its name or by its number.
+/// A variable, a field or a case, by its name or by its number.
 #[derive(Debug)]
 pub struct Step {
     /// The name or number.
@@ -242,4 +257,6 @@ pub enum ValueForm {
     List(Vec<Value>),
     /// A record of children, each with the label that may stand before it.
     Record(Vec<(Option<Name>, Value)>),
+    /// A case of a variant, with its content.
+    Case(Step, Box<Value>),
 }

@@ -219,19 +219,28 @@ impl Parser {
         }
         if self.sees_word("record") {
             self.take();
-            return Ok(TypeForm::Record(self.bracketed(['{', '}'], |p| {
-                let name = p.key("a field's name")?;
-                p.typed(name)
-            })?));
+            return Ok(TypeForm::Record(self.fields("a field's name")?));
+        }
+        if self.sees_word("variant") {
+            self.take();
+            return Ok(TypeForm::Variant(self.fields("a case's name")?));
         }
         if self.sees_word("yesno") {
             self.take();
             return Ok(TypeForm::YesNo);
         }
-        self.expected("`text`, `yesno`, `list` or `record`")
+        self.expected("`text`, `yesno`, `list`, `record` or `variant`")
     }
 
-    /// `: TYPE` behind the name of a field or a parameter.
+    /// `{ NAME: TYPE .. }`, the fields of a record or the cases of a variant.
+    fn fields(&mut self, what: &str) -> Parsed<Vec<Field>> {
+        self.bracketed(['{', '}'], |parser| {
+            let name = parser.key(what)?;
+            parser.typed(name)
+        })
+    }
+
+    /// `: TYPE` behind the name of a field, a case or a parameter.
     fn typed(&mut self, name: Name) -> Parsed<Field> {
         self.sign(':')?;
         let of = self.name("the name of a type")?;

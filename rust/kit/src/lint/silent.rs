@@ -5,7 +5,7 @@
 //! those that expand one of them. What isn't certain may write.
 
 use super::admits::{Classes, Texts};
-use crate::language::description::{Description, Element, Node, NodeForm, Production};
+use crate::language::description::{Arm, Description, Element, Node, NodeForm, Production};
 use crate::mistake::Mistake;
 use crate::reasons::context::WIDEST;
 use crate::words::{cut, quoted};
@@ -103,6 +103,10 @@ impl<'a> Templates<'a> {
                 let each = |writes, item| writes | self.node(item, due, seen);
                 let separated = items.len() > 1 && separator(due).is_some();
                 items.iter().fold(separated, each)
+            }
+            NodeForm::Match(_, arms) => {
+                let each = |writes, arm: &Arm| writes | self.node(&arm.node, due, seen);
+                arms.iter().fold(false, each)
             }
         }
     }

@@ -59,6 +59,7 @@ impl<'a> Users<'a> {
             }
             NodeForm::For(_, _, body) => self.node(template, body),
             NodeForm::Sequence(items) => items.iter().for_each(|it| self.node(template, it)),
+            NodeForm::Match(_, arms) => arms.iter().for_each(|it| self.node(template, &it.node)),
             NodeForm::Literal(_) | NodeForm::Place(_) => {}
         }
     }
@@ -180,13 +181,15 @@ fn unused_types(tree: &Description) -> Vec<Mistake> {
         let own = declared.name.word.as_str();
         let below: Vec<&Name> = match &declared.form {
             TypeForm::List(of) => vec![of],
-            TypeForm::Record(fields) => fields.iter().map(|field| &field.of).collect(),
+            TypeForm::Record(fields) | TypeForm::Variant(fields) => {
+                fields.iter().map(|field| &field.of).collect()
+            }
             TypeForm::Text(_) | TypeForm::YesNo => Vec::new(),
         };
         let others = below.iter().map(|name| name.word.as_str());
         named.extend(others.filter(|&word| word != own));
     }
-    let why = "no parameter, list or field of another type names it";
+    let why = "no parameter, list, field or case of another type names it";
     let names = tree.types.iter().map(|declared| &declared.name);
     names
         .filter(|name| !named.contains(name.word.as_str()))
@@ -296,11 +299,11 @@ mod tests {
                 "line 7, column 25: class `e` is not used: \
                  no production, type or escaped class names it",
                 "line 7, column 44: type `u` is not used: \
-                 no parameter, list or field of another type names it",
+                 no parameter, list, field or case of another type names it",
                 "line 7, column 60: type `v` is not used: \
-                 no parameter, list or field of another type names it",
+                 no parameter, list, field or case of another type names it",
                 "line 8, column 24: type `x` is not used: \
-                 no parameter, list or field of another type names it",
+                 no parameter, list, field or case of another type names it",
             ]
         );
     }

@@ -6,11 +6,11 @@ use crate::assembly::path::DataPath;
 use crate::reasons::characters::{characters_due, lexeme_rule, text_found};
 use crate::reasons::classes::{classes, Class};
 use crate::reasons::names::Names;
-use crate::reasons::paper::VALUE;
+use crate::reasons::paper::{CASE, VALUE};
 use crate::reasons::types::{Shape, Types};
 use crate::reasons::values::down_to;
 use crate::streams::record::{Record, RECORD};
-use crate::words::{bare, counted, listed};
+use crate::words::{bare, counted, listed, named};
 
 /// The rule that fails at the record `place` of the value, and what is due there, a line for each part of
 /// it.
@@ -32,8 +32,13 @@ pub fn due(
     let mut said = vec![path];
     let shape = types.shape(number)?;
     let Shape::Text(class) = shape else {
-        said.extend([kind_due(shape, names, number), standing(here)]);
-        return Some((VALUE, said));
+        let (rule, none) = match shape {
+            Shape::Variant(_) if here.kind() == 5 => (CASE, ", and there is no such case"),
+            Shape::Variant(_) => (CASE, ""),
+            _ => (VALUE, ""),
+        };
+        said.extend([kind_due(shape, names, number), standing(here) + none]);
+        return Some((rule, said));
     };
     said.extend(text_due(grammar, names, class, text.as_deref()));
     let Some(text) = text else {
@@ -53,6 +58,11 @@ fn kind_due(shape: Shape, names: &Names, number: usize) -> String {
             counted(fields, "field", "fields"),
             fields_named(names, number, fields)
         ),
+        Shape::Variant(cases) => format!(
+            "{own} is due here: a variant of {}{}",
+            counted(cases, "case", "cases"),
+            cases_named(names, number, cases)
+        ),
         _ => format!("{own} is due here: yes or no"),
     }
 }
@@ -65,6 +75,7 @@ fn standing(head: Record) -> String {
         (2, 0) => "no".to_string(),
         (2, _) => "yes".to_string(),
         (3, _) => format!("a list of {}", counted(count, "item", "items")),
+        (5, case) => format!("case {case}"),
         _ => format!("a record of {}", counted(count, "field", "fields")),
     };
     format!("{what} stands here")
@@ -76,8 +87,8 @@ fn declared(templates: &[Record], types: &Types<'_>) -> Option<usize> {
     Some(usize::from(parameter.b()))
 }
 
-/// The type that is due at a place, and the path to it from the whole value downwards: fields by name where
-/// they have one, and items by their numbers from 0.
+/// The type that is due at a place, and the path to it from the whole value downwards: fields and cases by
+/// name where they have one, and items by their numbers from 0.
 fn along(
     types: &Types<'_>,
     names: &Names,
@@ -85,22 +96,30 @@ fn along(
     declared: usize,
     place: usize,
 ) -> Option<(usize, String)> {
-    let (mut number, mut path) = (declared, DataPath::default());
-    for (child, _) in down_to(value, place)? {
+    let (mut number, mut path, mut at) = (declared, DataPath::default(), 0);
+    for (child, below) in down_to(value, place)? {
         number = match types.shape(number)? {
             Shape::List(item) => {
                 path.item(child);
                 item
             }
+            Shape::Variant(_) => {
+                let case = usize::from(value.get(at)?.a());
+                match names.fields.get(number).and_then(|own| own.get(case)) {
+                    Some(name) => path.field(name),
+                    None => path.number(case),
+                };
+                types.case(number, case)?
+            }
             _ => {
-                let named = names.fields.get(number).and_then(|own| own.get(child));
-                match named {
+                match names.fields.get(number).and_then(|own| own.get(child)) {
                     Some(name) => path.field(name),
                     None => path.number(child),
                 };
                 types.field(number, child)?
             }
         };
+        at = below;
     }
     let said = match place {
         0 => "this is the whole value".to_string(),
@@ -118,6 +137,17 @@ fn fields_named(names: &Names, number: usize, fields: usize) -> String {
         }
         false => String::new(),
     }
+}
+
+/// The cases of a variant, each with its number, and with its name where that is known: a value has only the
+/// number.
+fn cases_named(names: &Names, number: usize, cases: usize) -> String {
+    let own = names.fields.get(number).map_or(&[][..], Vec::as_slice);
+    let called = |case: usize| match own.get(case) {
+        Some(name) => format!("{case} {}", named(name)),
+        None => case.to_string(),
+    };
+    format!(": {}", listed(&(0..cases).map(called).collect::<Vec<_>>()))
 }
 
 fn text_due(grammar: &[Record], names: &Names, class: u16, bytes: Option<&[u8]>) -> Vec<String> {

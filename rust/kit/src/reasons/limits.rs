@@ -16,7 +16,7 @@ pub const LEVELS: usize = 200;
 /// The most parameters of a template.
 const PARAMETERS: usize = 8;
 
-/// The most fors around a node.
+/// The most loops around a node, which are fors and arms of matches.
 const LOOPS: usize = 16;
 
 /// Which limit is passed at a record.
@@ -66,19 +66,37 @@ fn template_over(templates: &[Record], names: &Names, record: usize) -> Option<V
         .filter(|_| count > PARAMETERS);
     }
     let way = down_to(templates, template.body, record)?;
-    let is_for =
-        |&&node: &&usize| templates.get(node).copied().and_then(Form::of) == Some(Form::For);
-    let loops = way[..way.len() - 1].iter().filter(is_for).count();
+    let around = |form: Form| {
+        let is_form =
+            |&&node: &&usize| templates.get(node).copied().and_then(Form::of) == Some(form);
+        way[..way.len() - 1].iter().filter(is_form).count()
+    };
+    let (fors, arms) = (around(Form::For), around(Form::Match));
     let mut said = Vec::new();
     if way.len() > LEVELS {
         said.push(deep("node", way.len()));
     }
-    if loops > LOOPS {
+    if fors + arms > LOOPS {
+        let loops = loops(fors, arms);
         said.push(format!(
-            "{loops} fors stand around this node, and {LOOPS} are the most"
+            "{loops} stand around this node, and {LOOPS} are the most"
         ));
     }
     Some(said)
+}
+
+/// The loops around a node, by what they are.
+fn loops(fors: usize, arms: usize) -> String {
+    match (fors, arms) {
+        (fors, 0) => format!("{fors} fors"),
+        (0, arms) => format!("{arms} arms of matches"),
+        (fors, arms) => format!(
+            "{} loops ({} and {})",
+            fors + arms,
+            counted(fors, "for", "fors"),
+            counted(arms, "arm of a match", "arms of matches")
+        ),
+    }
 }
 
 #[cfg(test)]

@@ -5,6 +5,7 @@
 use crate::reasons::names::Names;
 use crate::reasons::nodes::Form;
 use crate::reasons::tables::Tables;
+use crate::reasons::types::Shape;
 use crate::streams::record::Record;
 use feed::Stream;
 
@@ -67,20 +68,23 @@ fn nonterminal(tables: &Tables<'_>, names: &Names, number: u16) -> Option<String
     (!has).then(|| format!("there is no {own}: no production is of it"))
 }
 
-/// A field of a type that doesn't stand earlier.
+/// A field or a case of a type that doesn't stand earlier.
 fn field(tables: &Tables<'_>, names: &Names, record: usize) -> Option<String> {
     let (own, field) = tables.types.holding(record)?;
     let named = usize::from(tables.records.get(record)?.b());
-    let (field, record_type) = (names.field(own, field?), names.type_of(own));
-    let named_type = names.type_of(named);
+    let (field, what, holder) = match tables.types.shape(own)? {
+        Shape::Variant(_) => (names.case(own, field?), "case", "variant"),
+        _ => (names.field(own, field?), "field", "record"),
+    };
+    let (own_type, named_type) = (names.type_of(own), names.type_of(named));
     match named.checked_sub(own)? {
         0 => Some(format!(
-            "{field} of {record_type} is of that very type: \
-             a field's type stands earlier, and only a list may name any type"
+            "{field} of {own_type} is of that very type: \
+             a {what}'s type stands earlier, and only a list may name any type"
         )),
         _ => Some(format!(
-            "{field} of {record_type} is of {named_type}, which comes later: \
-             a field's type stands earlier than its record"
+            "{field} of {own_type} is of {named_type}, which comes later: \
+             a {what}'s type stands earlier than its {holder}"
         )),
     }
 }

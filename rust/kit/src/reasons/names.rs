@@ -16,14 +16,34 @@ pub struct Names {
     pub nonterminals: Vec<String>,
     /// The types, by number.
     pub types: Vec<String>,
-    /// The fields of each type, by number; of a type that is no record there are none.
+    /// The fields or the cases of each type, by number; other types than records and variants have none.
     pub fields: Vec<Vec<String>>,
     /// The templates, by number.
     pub templates: Vec<String>,
     /// The variables, by the record of the parameter or of the for that brings them in.
     pub variables: BTreeMap<usize, String>,
+    /// The arms of matches, by the record of the arm's node.
+    pub arms: BTreeMap<usize, Arm>,
     /// The paths as they are written, by their records.
     pub paths: BTreeMap<usize, String>,
+}
+
+/// The names of an arm.
+#[derive(Clone, Debug, Default, PartialEq, Eq)]
+pub struct Arm {
+    /// The case that it is for.
+    pub case: Option<String>,
+    /// The variable that it brings in.
+    pub content: Option<String>,
+}
+
+/// What brings a variable in, by a record of the templates.
+#[derive(Clone, Copy, Debug, PartialEq, Eq)]
+pub enum Binder {
+    /// The parameter or the for at the record.
+    Own(usize),
+    /// The arm whose node is at the record.
+    Arm(usize),
 }
 
 impl Names {
@@ -55,25 +75,33 @@ impl Names {
         }
     }
 
+    /// A case before the templates is one of a type, and else that of an arm, which may be a for as well.
     fn of_templates(&mut self, origin: &Origin, index: usize) {
-        let [(what, name)] = origin.names.as_slice() else {
-            return;
-        };
-        let name = name.clone();
-        match what {
-            What::Type => {
-                self.types.push(name);
-                self.fields.push(Vec::new());
+        for (what, name) in &origin.names {
+            let name = name.clone();
+            match what {
+                What::Type => {
+                    self.types.push(name);
+                    self.fields.push(Vec::new());
+                }
+                What::Field => self
+                    .fields
+                    .last_mut()
+                    .into_iter()
+                    .for_each(|it| it.push(name.clone())),
+                What::Case if self.templates.is_empty() => {
+                    self.fields
+                        .last_mut()
+                        .into_iter()
+                        .for_each(|it| it.push(name.clone()));
+                }
+                What::Case => self.arms.entry(index).or_default().case = Some(name),
+                What::Content => self.arms.entry(index).or_default().content = Some(name),
+                What::Template => self.templates.push(name),
+                What::Parameter | What::Loop => drop(self.variables.insert(index, name)),
+                What::Path => drop(self.paths.insert(index, name)),
+                What::Class | What::Production | What::Nonterminal => {}
             }
-            What::Field => self
-                .fields
-                .last_mut()
-                .into_iter()
-                .for_each(|it| it.push(name.clone())),
-            What::Template => self.templates.push(name),
-            What::Parameter | What::Loop => drop(self.variables.insert(index, name)),
-            What::Path => drop(self.paths.insert(index, name)),
-            What::Class | What::Production | What::Nonterminal => {}
         }
     }
 
@@ -112,14 +140,34 @@ impl Names {
         called("field", number, name)
     }
 
+    /// A case of a type.
+    pub fn case(&self, of: usize, number: usize) -> String {
+        let name = self.fields.get(of).and_then(|cases| cases.get(number));
+        called("case", number, name)
+    }
+
     /// A template.
     pub fn template(&self, number: usize) -> String {
         called("template", number, self.templates.get(number))
     }
 
-    /// A variable, whose parameter or for is at a record of the templates.
-    pub fn variable(&self, number: usize, binder: usize) -> String {
-        called("variable", number, self.variables.get(&binder))
+    /// A variable, by what brings it in.
+    pub fn variable(&self, number: usize, binder: Binder) -> String {
+        called("variable", number, self.variable_name(binder))
+    }
+
+    /// The name of a variable, if it is known.
+    pub fn variable_name(&self, binder: Binder) -> Option<&String> {
+        match binder {
+            Binder::Own(record) => self.variables.get(&record),
+            Binder::Arm(node) => self.arms.get(&node)?.content.as_ref(),
+        }
+    }
+
+    /// The case of the arm whose node is at a record, which is the arm with this number.
+    pub fn arm(&self, number: usize, node: usize) -> String {
+        let name = self.arms.get(&node).and_then(|arm| arm.case.as_ref());
+        called("case", number, name)
     }
 }
 
@@ -146,6 +194,9 @@ mod tests {
         assert_eq!(names.class(1), "class 1");
         assert_eq!(names.field(1, 0), "field `start`");
         assert_eq!(names.field(0, 0), "field 0");
-        assert_eq!(names.variable(2, 7), "variable 2");
+        assert_eq!(names.variable(2, Binder::Own(7)), "variable 2");
+        assert_eq!(names.variable(2, Binder::Arm(7)), "variable 2");
+        assert_eq!(names.case(1, 0), "case `start`");
+        assert_eq!(names.arm(3, 7), "case 3");
     }
 }

@@ -21,6 +21,8 @@ pub enum Form {
     For,
     /// Form 6.
     Sequence,
+    /// Form 7.
+    Match,
 }
 
 impl Form {
@@ -34,6 +36,7 @@ impl Form {
             (5, 4) => Self::If,
             (5, 5) => Self::For,
             (5, 6) => Self::Sequence,
+            (5, 7) => Self::Match,
             _ => return None,
         })
     }
@@ -49,6 +52,7 @@ impl fmt::Display for Form {
             Self::If => "an if",
             Self::For => "a for",
             Self::Sequence => "a sequence",
+            Self::Match => "a match",
         })
     }
 }
@@ -93,6 +97,7 @@ pub fn children(records: &[Record], node: usize) -> impl Iterator<Item = usize> 
         Some(Form::Build | Form::Sequence) => (node + 1, head.map_or(0, Record::d)),
         Some(Form::If) => (node + 2, 2),
         Some(Form::For) => (node + 2, 1),
+        Some(Form::Match) => (node + 2, head.map_or(0, Record::d)),
         _ => (node, 0),
     };
     let next = |&at: &usize| {
@@ -121,7 +126,7 @@ pub fn down_to(records: &[Record], body: usize, node: usize) -> Option<Vec<usize
 pub fn paths(records: &[Record], node: usize) -> Range<usize> {
     let head = records.get(node).copied();
     let count = match head.and_then(Form::of) {
-        Some(Form::Place | Form::If | Form::For) => 1,
+        Some(Form::Place | Form::If | Form::For | Form::Match) => 1,
         Some(Form::Expand) => head.map_or(0, Record::d),
         _ => 0,
     };

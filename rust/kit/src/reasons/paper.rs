@@ -155,3 +155,13 @@ pub const VALUE: &str =
                      of yes/no if a 2; of a list if a 3 whose children are all of its item type; \
                      of a record if a 4 with one child for each field, in order, \
                      of that field's type.";
+
+/// When a case is of a variant.
+pub const CASE: &str = "Value record 5 is a case: a its number from 0, c size, one child; \
+                    it is of the variant if there is such a case and the child is of that \
+                    case's type.";
+
+/// What a match asks for, and of its arms.
+pub const MATCH: &str = "Node form 7 is match: a path, then d nodes, one for each case in order, \
+                     each seeing one more variable, the case's content. \
+                     A missing or extra arm fails typing.";

@@ -2,7 +2,7 @@
 //!
 //! The streams have a sound layout here, and name what exists.
 
-use crate::reasons::names::Names;
+use crate::reasons::names::{Binder, Names};
 use crate::reasons::nodes::{children, paths, steps, Form};
 use crate::reasons::tables::Tables;
 use crate::reasons::types::Shape;
@@ -29,6 +29,14 @@ impl Position {
             2 => Some(Self::Nonterminal(element.b())),
             3 | 4 => Some(Self::Repetition(element.b())),
             _ => None,
+        }
+    }
+
+    /// What is asked of the body of a for, a branch of an if or an arm of a match that stands here.
+    fn of_branch(self) -> Self {
+        match self {
+            Self::Item(number) => Self::Nonterminal(number),
+            other => other,
         }
     }
 
@@ -69,6 +77,13 @@ pub enum Asker {
         /// Whether it is the first.
         first: bool,
     },
+    /// A match, for the arm of a case.
+    Match {
+        /// The number of the arm, which is that of its case.
+        arm: usize,
+        /// The arm's node.
+        node: usize,
+    },
 }
 
 impl Asker {
@@ -92,6 +107,7 @@ impl Asker {
             Self::For => "as the body of the for".to_string(),
             Self::If { first: true } => "as the first branch of the if".to_string(),
             Self::If { first: false } => "as the second branch of the if".to_string(),
+            Self::Match { arm, node } => format!("as the arm of {}", names.arm(arm, node)),
         }
     }
 }
@@ -99,9 +115,10 @@ impl Asker {
 /// A variable that is known at a node.
 #[derive(Clone, Copy, Debug, PartialEq, Eq)]
 pub struct Variable {
-    /// The record of the parameter or of the for that brings it in.
-    pub binder: usize,
-    /// The number of its type; of a for over something that is no list there is none.
+    /// What brings it in.
+    pub binder: Binder,
+    /// The number of its type; of a for over something that is no list there is none, nor of an arm for
+    /// something that is no case.
     pub type_number: Option<usize>,
 }
 
@@ -114,7 +131,7 @@ pub struct Site {
     pub position: Position,
     /// Who asks for it.
     pub asker: Asker,
-    /// The variables known there, by their numbers: the parameters, then the fors from outside in.
+    /// The variables known there, by their numbers: the parameters, then the fors and arms from outside in.
     pub scope: Vec<Variable>,
 }
 
@@ -122,9 +139,9 @@ pub struct Site {
 pub fn site(tables: &Tables<'_>, node: usize) -> Option<Site> {
     let number = tables.template_around(node)?;
     let template = &tables.templates[number];
-    let typed = |binder: usize| Variable {
-        binder,
-        type_number: tables.records.get(binder).map(|it| usize::from(it.b())),
+    let typed = |record: usize| Variable {
+        binder: Binder::Own(record),
+        type_number: tables.records.get(record).map(|it| usize::from(it.b())),
     };
     let mut site = Site {
         node: template.body,
@@ -149,38 +166,48 @@ impl Site {
             (Form::Sequence, Position::Repetition(number)) => {
                 (Position::Item(number), Asker::Sequence)
             }
-            (Form::For, Position::Item(number)) => (Position::Nonterminal(number), Asker::For),
-            (Form::If, Position::Nonterminal(number) | Position::Item(number)) => {
-                let first = child == 0;
-                (Position::Nonterminal(number), Asker::If { first })
+            (Form::For, position) => (position.of_branch(), Asker::For),
+            (Form::If, position) => (position.of_branch(), Asker::If { first: child == 0 }),
+            (Form::Match, position) => {
+                let (arm, node) = (child, start);
+                (position.of_branch(), Asker::Match { arm, node })
             }
-            (Form::For, position) => (position, Asker::For),
-            (Form::Sequence, position) => (position, Asker::Sequence),
-            (_, position) => (position, Asker::If { first: child == 0 }),
+            (_, position) => (position, Asker::Sequence),
         };
-        if Form::of(head) == Some(Form::For) {
-            let type_number = self.item_type(tables);
-            self.scope.push(Variable {
-                binder: node,
-                type_number,
-            });
-        }
+        self.scope.extend(self.brought(tables, child, start));
         self.node = start;
         Some(self)
     }
 
-    /// The type of the items that the for here goes over.
-    fn item_type(&self, tables: &Tables<'_>) -> Option<usize> {
+    /// The variable that a for here brings in for its body, or a match for one of its arms.
+    fn brought(&self, tables: &Tables<'_>, child: usize, start: usize) -> Option<Variable> {
+        let found = self.found(tables);
+        let shape = found.and_then(|number| tables.types.shape(number));
+        match Form::of(*tables.records.get(self.node)?)? {
+            Form::For => Some(Variable {
+                binder: Binder::Own(self.node),
+                type_number: match shape {
+                    Some(Shape::List(item)) => Some(item),
+                    _ => None,
+                },
+            }),
+            Form::Match => Some(Variable {
+                binder: Binder::Arm(start),
+                type_number: found.and_then(|number| tables.types.case(number, child)),
+            }),
+            _ => None,
+        }
+    }
+
+    /// The type that the path of the for or match here finds.
+    fn found(&self, tables: &Tables<'_>) -> Option<usize> {
         let path = paths(tables.records, self.node).next()?;
         let (variable, fields) = steps(tables.records.get(path)?);
         let start = self.scope.get(variable)?.type_number;
         let along = |number: Option<usize>, &field: &u8| {
             number.and_then(|number| tables.types.field(number, usize::from(field)))
         };
-        match tables.types.shape(fields.iter().fold(start, along)?)? {
-            Shape::List(item) => Some(item),
-            _ => None,
-        }
+        fields.iter().fold(start, along)
     }
 }
 

@@ -1,4 +1,5 @@
-//! How a walk came to the node where it met a limit: the templates entered, and the items of the fors.
+//! How a walk came to the node where it met a limit: the templates entered, the items of the fors, and the
+//! arms of the matches.
 //!
 //! All three streams are accepted here: the library walks only then.
 
@@ -10,7 +11,7 @@ mod tests;
 use crate::reasons::context::WIDEST;
 use crate::reasons::due::text_bytes;
 use crate::reasons::limits::LEVELS;
-use crate::reasons::names::Names;
+use crate::reasons::names::{Binder, Names};
 use crate::reasons::tables::Tables;
 use crate::streams::record::Record;
 use crate::words::{bare, counted, cut, named, quoted};
@@ -26,7 +27,7 @@ const SHOWN: (usize, usize) = (4, 5);
 /// How a walk came to the node where it stopped.
 #[derive(Debug, Default, PartialEq, Eq)]
 pub struct Way {
-    /// The templates and fors, the outermost first.
+    /// The templates, fors and arms, the outermost first.
     pub levels: Vec<String>,
     /// Why it came too deep, if it did.
     pub why: Option<String>,
@@ -94,6 +95,17 @@ fn line(level: &Level, names: &Names) -> String {
             };
             format!("{which}, item {item} of {items}")
         }
+        Level::Match {
+            arm,
+            case,
+            variable,
+        } => {
+            let content = match names.variable_name(Binder::Arm(arm)) {
+                Some(name) => format!("as {}", named(name)),
+                None => format!("(variable {variable})"),
+            };
+            format!("{} {content}", names.arm(case, arm))
+        }
     }
 }
 
@@ -113,7 +125,7 @@ fn deep(levels: &[Level], names: &Names) -> String {
         .iter()
         .filter_map(|level| match level {
             Level::Template(number) => Some(*number),
-            Level::For { .. } => None,
+            Level::For { .. } | Level::Match { .. } => None,
         })
         .collect();
     let why = match cycle(&templates) {

@@ -13,6 +13,8 @@ pub enum Shape {
     List(usize),
     /// A record of so many fields.
     Record(usize),
+    /// A variant of so many cases.
+    Variant(usize),
 }
 
 /// The types of a template stream whose layout is sound.
@@ -32,7 +34,7 @@ impl<'a> Types<'a> {
         while let Some(head) = templates.get(end).filter(|head| head.kind() == 1) {
             heads.push(end);
             end += match head.a() {
-                3 => 1 + usize::from(head.d()),
+                3 | 4 => 1 + usize::from(head.d()),
                 _ => 1,
             };
         }
@@ -55,22 +57,34 @@ impl<'a> Types<'a> {
             0 => Shape::Text(head.b()),
             1 => Shape::YesNo,
             2 => Shape::List(usize::from(head.b())),
-            _ => Shape::Record(usize::from(head.d())),
+            3 => Shape::Record(usize::from(head.d())),
+            _ => Shape::Variant(usize::from(head.d())),
         })
     }
 
     /// The type of a record's field.
     pub fn field(&self, number: usize, field: usize) -> Option<usize> {
         match self.shape(number)? {
-            Shape::Record(fields) if field < fields => {
-                let record = self.templates.get(self.heads[number] + 1 + field)?;
-                Some(usize::from(record.b()))
-            }
+            Shape::Record(fields) if field < fields => self.below(number, field),
             _ => None,
         }
     }
 
-    /// The type whose head or field a record is, and which field.
+    /// The type of a case's content.
+    pub fn case(&self, number: usize, case: usize) -> Option<usize> {
+        match self.shape(number)? {
+            Shape::Variant(cases) if case < cases => self.below(number, case),
+            _ => None,
+        }
+    }
+
+    /// The type that a record below a type's head names.
+    fn below(&self, number: usize, field: usize) -> Option<usize> {
+        let record = self.templates.get(self.heads.get(number)? + 1 + field)?;
+        Some(usize::from(record.b()))
+    }
+
+    /// The type whose head, field or case a record is, and which field or case.
     pub fn holding(&self, record: usize) -> Option<(usize, Option<usize>)> {
         let number = self.heads.iter().rposition(|&head| head <= record)?;
         let field = (record - self.heads[number]).checked_sub(1);

@@ -4,6 +4,7 @@
 //! keep at that place, by the same rules in the same order: a node's position first, then its counts, then
 //! its paths.
 
+mod arms;
 mod class;
 mod nonterminal;
 mod paths;

@@ -2,10 +2,13 @@
 
 use crate::streams::record::Record;
 
-/// The values right below one, in their order: a list's items, or a record's fields.
+/// The values right below one, in their order: a list's items, a record's fields, or a case's content.
 pub fn children(value: &[Record], at: usize) -> impl Iterator<Item = usize> + '_ {
-    let head = value.get(at).filter(|head| head.kind() >= 3);
-    let count = head.map_or(0, |head| usize::from(head.d()));
+    let count = value.get(at).map_or(0, |head| match head.kind() {
+        3 | 4 => usize::from(head.d()),
+        5 => 1,
+        _ => 0,
+    });
     let next = |&at: &usize| value.get(at).map(|&head| at + size(head));
     std::iter::successors(Some(at + 1), next)
         .take(count)

@@ -1,7 +1,7 @@
 //! The meaning of each head, by the kind of its stream.
 
-use crate::reasons::names::Names;
-use crate::streams::record::Record;
+use crate::reasons::names::{Arm, Names};
+use crate::streams::record::{Record, CASES};
 use crate::streams::thing::Thing;
 use crate::words::{counted, named};
 use std::fmt;
@@ -54,6 +54,17 @@ impl Head {
         self
     }
 
+    /// The case and the variable of the arm that begins here, where they are known.
+    fn arm(mut self, arm: Option<&Arm>) -> Self {
+        if let Some(case) = arm.and_then(|arm| arm.case.as_ref()) {
+            self.says.push_str(&format!(", for case {}", named(case)));
+        }
+        if let Some(content) = arm.and_then(|arm| arm.content.as_ref()) {
+            self.says.push_str(&format!(" as {}", named(content)));
+        }
+        self
+    }
+
     fn odd_if(mut self, broken: bool, what: impl Into<String>) -> Self {
         if broken {
             self.odd.push(what.into());
@@ -71,6 +82,8 @@ pub struct Spot<'a> {
     pub index: usize,
     /// The number of the last type before it: the one that a field is in.
     pub holder: usize,
+    /// Whether that type is a variant, whose fields are its cases.
+    pub in_variant: bool,
     /// The names of the set.
     pub names: &'a Names,
 }
@@ -85,12 +98,9 @@ pub fn head(thing: Thing, record: Record, spot: Spot<'_>) -> Head {
         Thing::Type => type_head(record, spot),
         Thing::Field => {
             let fields = spot.names.fields.get(spot.holder);
-            typed(
-                record,
-                spot,
-                fields.and_then(|it| it.get(spot.number)),
-                "field",
-            )
+            let name = fields.and_then(|it| it.get(spot.number));
+            let what = if spot.in_variant { "case" } else { "field" };
+            typed(record, spot, name, what)
         }
         Thing::Template => template(record, spot),
         Thing::Parameter => {
@@ -222,6 +232,17 @@ fn type_head(record: Record, spot: Spot<'_>) -> Head {
                 .unused(&[("b", b), ("c", c)])
                 .below(&[(Thing::Field, fields)])
         }
+        4 => {
+            let cases = usize::from(d);
+            let counts = counted(cases, "case", "cases");
+            Head::new(format!("type {called}: variant of {counts}"))
+                .odd_if(
+                    !(1..=CASES).contains(&cases),
+                    format!("a variant has 1 to {CASES} cases"),
+                )
+                .unused(&[("b", b), ("c", c)])
+                .below(&[(Thing::Field, cases)])
+        }
         other => unknown(format!("type {called}: form {other}")),
     }
 }
@@ -278,9 +299,13 @@ fn node(record: Record, spot: Spot<'_>) -> Head {
         6 => Head::new(format!("sequence of {}", counted(count, "item", "items")))
             .below(&[(Thing::Node, count)])
             .unused(&[("b", b)]),
+        7 => Head::new(format!("match of {}", counted(count, "arm", "arms")))
+            .below(&[(Thing::Path, 1), (Thing::Node, count)])
+            .unused(&[("b", b)]),
         other => unknown(format!("node of form {other}")),
     }
     .sized(record)
+    .arm(names.arms.get(&spot.index))
 }
 
 fn path(record: Record, spot: Spot<'_>) -> Head {
@@ -319,6 +344,10 @@ fn value(record: Record) -> Head {
             .below(&[(Thing::Value, count)])
             .sized(record)
             .unused(&[("a", a), ("b", b)]),
+        5 => Head::new(format!("case {a}"))
+            .below(&[(Thing::Value, 1)])
+            .sized(record)
+            .unused(&[("b", b), ("d", d)]),
         _ => Head::new(format!("record of {}", counted(count, "child", "children")))
             .below(&[(Thing::Value, count)])
             .sized(record)

@@ -61,6 +61,7 @@ pub fn lines_with(kind: Kind, records: &[Record], names: &Names) -> Vec<Line> {
         open: Vec::new(),
         lines: Vec::new(),
         top: [0; Thing::COUNT],
+        in_variant: false,
         lost: false,
     };
     reader.read();
@@ -85,6 +86,8 @@ struct Reader<'a> {
     lines: Vec<Line>,
     /// How many things of each kind stood in no other so far.
     top: [usize; Thing::COUNT],
+    /// Whether the last type was a variant.
+    in_variant: bool,
     /// Whether a break was met, after which nothing is expected until a new thing begins.
     lost: bool,
 }
@@ -162,6 +165,9 @@ impl Reader<'_> {
             return;
         };
         let (number, mut odd) = self.begin(thing);
+        if thing == Thing::Type {
+            self.in_variant = record.a() == 4;
+        }
         let mut head = head(thing, record, self.spot(number));
         odd.append(&mut head.odd);
         let (line, start) = (self.lines.len(), self.at);
@@ -186,6 +192,7 @@ impl Reader<'_> {
             number,
             index: self.at,
             holder: self.top[Thing::Type as usize].saturating_sub(1),
+            in_variant: self.in_variant,
             names: self.names,
         }
     }

@@ -13,6 +13,9 @@ pub const BLOCK_RECORDS: usize = PAYLOAD / RECORD;
 /// The most records of a stream: 128 blocks of 63.
 pub const STREAM_RECORDS: usize = 128 * BLOCK_RECORDS;
 
+/// The most cases of a variant: the number of a value's case is a byte.
+pub const CASES: usize = 256;
+
 /// A record, as its 8 bytes.
 #[derive(Clone, Copy, Debug, PartialEq, Eq)]
 pub struct Record(pub [u8; RECORD]);

@@ -15,7 +15,7 @@ pub enum Thing {
     Element,
     /// A type.
     Type,
-    /// A field of a record type.
+    /// A field of a record type, or a case of a variant.
     Field,
     /// A template.
     Template,
@@ -68,7 +68,7 @@ impl Thing {
                 Self::Node,
                 Self::Path,
             ],
-            Kind::Value => &[Self::Value; 4],
+            Kind::Value => &[Self::Value; 5],
         };
         usize::from(record.kind())
             .checked_sub(1)

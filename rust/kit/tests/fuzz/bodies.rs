@@ -54,6 +54,7 @@ impl<'a> Bodies<'a> {
         match self.random.below(8) {
             0 | 1 if !small || self.plan.cyclic => self.expand(of, depth),
             2 if !small => self.branch(of, depth),
+            3 | 4 if !small => self.matched(of, depth),
             _ => self.build(of, depth, small),
         }
     }
@@ -91,8 +92,9 @@ impl<'a> Bodies<'a> {
     fn anything(&mut self, depth: usize) -> String {
         let nonterminal = self.random.below(self.plan.nonterminals.len());
         let class = self.random.below(self.plan.classes.len());
-        match self.random.below(4) {
+        match self.random.below(5) {
             0 => self.lexeme(class),
+            4 => format!("match {} (0 as w then literal \"a\")", self.any_path()),
             1 if depth < 8 => self.sequence(nonterminal, depth),
             2 => format!("for w in {} do literal \"a\"", self.any_path()),
             _ => "literal \"\\xC0 & \\u{B}\"".to_string(),
@@ -162,6 +164,40 @@ impl<'a> Bodies<'a> {
         };
         let (yes, no) = (self.node(of, depth + 1), self.node(of, depth + 1));
         format!("if {path} then {yes} else {no}")
+    }
+
+    /// A match, its arms by name in any order, or by number and then not always as many as the cases.
+    fn matched(&mut self, of: usize, depth: usize) -> String {
+        let Some(path) = self.path_to(|it| matches!(it, Type::Variant(_))) else {
+            return self.build(of, depth, true);
+        };
+        let cases: &[usize] = match self.found(&path) {
+            Some(Type::Variant(cases)) => cases,
+            _ => &[],
+        };
+        let by_number = self.slip();
+        let count = match by_number {
+            true => self.random.below(cases.len() + 3),
+            false => cases.len(),
+        };
+        let mut arms = Vec::new();
+        for number in 0..count {
+            let case = match by_number {
+                true => number.min(255).to_string(),
+                false => self.plan.name('k', number),
+            };
+            let content = self.plan.name('i', self.scope.len());
+            let known = cases.get(number).copied();
+            self.scope.extend(known.map(|it| (content.clone(), it)));
+            let node = self.node(of, depth + 1);
+            self.scope
+                .truncate(self.scope.len() - usize::from(known.is_some()));
+            arms.push(format!("{case} as {content} then {node}"));
+        }
+        if self.random.one_in(2) {
+            arms.reverse();
+        }
+        format!("match {path} ({})", arms.join("\n "))
     }
 
     /// A template of the nonterminal whose parameters can be had here.

@@ -9,6 +9,7 @@ pub enum Data {
     YesNo(bool),
     List(Vec<Data>),
     Record(Vec<(String, Data)>),
+    Case(String, Box<Data>),
 }
 
 /// Texts that are refused by most classes, or need escapes.
@@ -88,12 +89,19 @@ impl Maker<'_> {
                 };
                 Data::Record(fields.iter().map(of).collect())
             }
+            TypeForm::Variant(cases) if cases.is_empty() => self.anything(),
+            TypeForm::Variant(cases) => {
+                let case = self.random.pick(cases);
+                let content = self.of_type(&case.of.word, depth + 1);
+                Data::Case(case.name.word.clone(), Box::new(content))
+            }
         }
     }
 
     fn anything(&mut self) -> Data {
-        match self.random.below(5) {
+        match self.random.below(6) {
             0 => Data::YesNo(true),
+            5 => Data::Case("k0".to_string(), Box::new(Data::YesNo(true))),
             1 => Data::List(vec![Data::Text("a".to_string())]),
             2 => Data::Record(vec![("f0".to_string(), Data::YesNo(false))]),
             _ => Data::Text(self.random.pick(&TEXTS).to_string()),
@@ -149,6 +157,9 @@ impl Data {
                 let children: Vec<String> = children.iter().map(|(_, it)| it.as_value()).collect();
                 format!("{{ {} }}", children.join("\n"))
             }
+            Self::Case(case, content) => {
+                format!("case {} {}", described(case), content.as_value())
+            }
         }
     }
 
@@ -170,6 +181,10 @@ impl Data {
                     members.reverse();
                 }
                 ('{', '}', members)
+            }
+            Self::Case(case, content) => {
+                let (key, content) = (quoted(random, case), content.as_json(random));
+                ('{', '}', vec![format!("{key}: {content}")])
             }
         };
         let between = *random.pick(&[",", ", ", ",\n  ", "\r\n,\t"]);

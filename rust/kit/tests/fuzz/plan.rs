@@ -25,6 +25,7 @@ pub enum Type {
     YesNo,
     List(usize),
     Record(Vec<usize>),
+    Variant(Vec<usize>),
 }
 
 pub struct Template {
@@ -194,7 +195,7 @@ impl Plan {
     fn new_type(&self, random: &mut Random, number: usize, count: usize) -> Type {
         let is_plain = |it: &usize| matches!(self.classes[*it], Class::Plain { .. });
         let plain: Vec<usize> = (0..self.classes.len()).filter(is_plain).collect();
-        let form = if number == 0 { 0 } else { random.below(6) };
+        let form = if number == 0 { 0 } else { random.below(7) };
         match form {
             0 | 1 if self.slip(random) || plain.is_empty() => {
                 Type::Text(random.below(self.classes.len()))
@@ -204,18 +205,27 @@ impl Plan {
             // A list may be of a later type, and of its own.
             3 if random.one_in(4) => Type::List(random.below(count)),
             3 => Type::List(random.below(number)),
-            _ => {
-                let earlier = |random: &mut Random| match self.slip(random) {
-                    true => random.below(count),
-                    false => random.below(number),
+            4 => {
+                let cases = match self.slip(random) {
+                    true => *random.pick(&[0, 200, 255, 256, 257]),
+                    false => random.between(1, 4),
                 };
-                Type::Record(
-                    (0..random.mostly_small(7))
-                        .map(|_| earlier(random))
-                        .collect(),
-                )
+                Type::Variant(self.earlier(random, cases, number, count))
+            }
+            _ => {
+                let fields = random.mostly_small(7);
+                Type::Record(self.earlier(random, fields, number, count))
             }
         }
+    }
+
+    /// So many types that mostly stand before the type with a number.
+    fn earlier(&self, random: &mut Random, many: usize, number: usize, count: usize) -> Vec<usize> {
+        let one = |random: &mut Random| match self.slip(random) {
+            true => random.below(count),
+            false => random.below(number),
+        };
+        (0..many).map(|_| one(random)).collect()
     }
 
     /// The description, without a value.
@@ -291,11 +301,12 @@ impl Plan {
             Type::YesNo => "yesno".to_string(),
             Type::List(of) => format!("list {}", self.name('t', *of)),
             Type::Record(fields) => format!("record {{ {} }}", self.typed('f', fields)),
+            Type::Variant(cases) => format!("variant {{ {} }}", self.typed('k', cases)),
         };
         format!("type {} = {form}", self.name('t', number))
     }
 
-    /// Fields or parameters with their types.
+    /// Fields, cases or parameters with their types.
     fn typed(&self, row: char, types: &[usize]) -> String {
         let each = types.iter().enumerate();
         let words = each.map(|(at, of)| format!("{}: {}", self.name(row, at), self.name('t', *of)));

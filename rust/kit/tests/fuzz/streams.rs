@@ -187,6 +187,8 @@ pub fn map_changed(random: &mut Random, map: &[u8], other: &[u8]) -> Vec<u8> {
                 "\"template\": \"",
                 "\"field\": \"",
                 "\"loop variable\": \"",
+                "\"case\": \"",
+                "\"case variable\": \"",
                 "\"description\": \"",
                 "\"nonterminal\": \"",
                 "\"type\": \"",

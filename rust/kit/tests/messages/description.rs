@@ -20,7 +20,7 @@ feed.txt:1:22: `@@` begins nothing here
 feed.txt:2:21: a keyword, a class or a nonterminal is expected here, not `(`
     production p of n = (
                         ^
-feed.txt:3:10: `text`, `yesno`, `list` or `record` is expected here, not `set`
+feed.txt:3:10: `text`, `yesno`, `list`, `record` or `variant` is expected here, not `set`
     type t = set c
              ^
 feed.txt:4:7: this text has no closing quote on its line

@@ -108,9 +108,14 @@ impl Assembler<'_> {
                     format!("the type {holder} has no field {word}{near}"),
                 );
             }
-            Some((name, _)) => {
+            Some((name, form)) => {
                 let holder = named(name);
-                let message = format!("the type {holder} is no record, and has no field {word}");
+                let hint = match form {
+                    TypeForm::Variant(_) => ": a `match` leads to what its cases hold",
+                    _ => "",
+                };
+                let message =
+                    format!("the type {holder} is no record, and has no field {word}{hint}");
                 self.mistake(step.at, message);
             }
             None if self.mistakes.is_empty() => self.mistake(

@@ -41,7 +41,7 @@ impl Assembler<'_> {
         sheet.close(head);
     }
 
-    fn node(&mut self, node: &Node, scope: &mut Scope, sheet: &mut Sheet) {
+    pub(super) fn node(&mut self, node: &Node, scope: &mut Scope, sheet: &mut Sheet) {
         let (form, b, d) = self.node_fields(&node.form);
         let head = sheet.push(Record::new(5, form, [b, 0, d]), node.at);
         match &node.form {
@@ -67,6 +67,7 @@ impl Assembler<'_> {
                 names.push((What::Loop, item.word.clone()));
                 self.for_body(item, path, body, scope, sheet);
             }
+            NodeForm::Match(path, arms) => self.arms(node.at, path, arms, scope, sheet),
         }
         sheet.close(head);
     }
@@ -88,6 +89,7 @@ impl Assembler<'_> {
             NodeForm::If(..) => (4, 0, 0),
             NodeForm::For(..) => (5, 0, 0),
             NodeForm::Sequence(items) => (6, 0, word(items.len())),
+            NodeForm::Match(_, arms) => (7, 0, word(arms.len())),
         }
     }
 

@@ -1,10 +1,10 @@
-//! The records of types, their fields, and parameters.
+//! The records of types, their fields and cases, and parameters.
 
 use super::Assembler;
 use crate::assembly::sheet::{word, Sheet, What};
 use crate::language::description::{Field, Type, TypeForm};
 use crate::language::rows::{numbered, row};
-use crate::streams::record::{Record, STREAM_RECORDS};
+use crate::streams::record::{Record, CASES, STREAM_RECORDS};
 
 impl Assembler<'_> {
     pub(super) fn type_records(&mut self, declared: &Type, sheet: &mut Sheet) {
@@ -20,22 +20,29 @@ impl Assembler<'_> {
                 Record::new(1, 2, [of, 0, 0])
             }
             TypeForm::Record(fields) => Record::new(1, 3, [0, 0, word(fields.len())]),
+            TypeForm::Variant(cases) => Record::new(1, 4, [0, 0, word(cases.len())]),
         };
         sheet.push_named(head, declared.name.at, What::Type, &declared.name.word);
-        if let TypeForm::Record(fields) = &declared.form {
-            self.typed(fields, 2, What::Field, sheet);
+        match &declared.form {
+            TypeForm::Record(fields) => self.typed(fields, 2, What::Field, sheet),
+            TypeForm::Variant(cases) => {
+                if cases.is_empty() {
+                    self.mistake(declared.name.at, "a variant has at least one case");
+                }
+                self.typed(cases, 2, What::Case, sheet);
+            }
+            TypeForm::Text(_) | TypeForm::YesNo | TypeForm::List(_) => {}
         }
     }
 
-    /// The records of fields or of parameters, whose names must differ.
+    /// The records of fields, of cases or of parameters, whose names must differ.
     pub(super) fn typed(&mut self, fields: &[Field], kind: u8, what: What, sheet: &mut Sheet) {
         let names = fields.iter().map(|field| &field.name);
-        row(
-            names,
-            &format!("a {what}"),
-            STREAM_RECORDS,
-            &mut self.mistakes,
-        );
+        let most = match what {
+            What::Case => CASES,
+            _ => STREAM_RECORDS,
+        };
+        row(names, &format!("a {what}"), most, &mut self.mistakes);
         for field in fields {
             let of = numbered(&self.rows.types, &field.of, "type", &mut self.mistakes);
             let record = Record::new(kind, 0, [of, 0, 0]);

@@ -3,7 +3,7 @@
 use super::paths::Known;
 use super::Assembler;
 use crate::assembly::sheet::{word, Sheet};
-use crate::language::description::{Field, Name, TypeForm, Value, ValueForm};
+use crate::language::description::{Field, Name, Step, TypeForm, Value, ValueForm};
 use crate::streams::record::Record;
 use crate::words::named;
 
@@ -42,7 +42,26 @@ impl Assembler<'_> {
                 self.children(children, known, sheet);
                 sheet.close(head);
             }
+            ValueForm::Case(case, content) => self.case(value, case, content, known, sheet),
         }
+    }
+
+    /// A case, and its content, which is of the case's type.
+    fn case(
+        &mut self,
+        value: &Value,
+        case: &Step,
+        content: &Value,
+        known: Known,
+        sheet: &mut Sheet,
+    ) {
+        let number = self.case_number(case, known).unwrap_or_default();
+        let of = self.case_type(number, known);
+        // More cases than a byte counts are a mistake of their variant.
+        let number = u8::try_from(number).unwrap_or(u8::MAX);
+        let head = sheet.push(Record::new(5, number, [0; 3]), value.at);
+        self.value_records(content, of, sheet);
+        sheet.close(head);
     }
 
     fn children(&mut self, children: &[(Option<Name>, Value)], known: Known, sheet: &mut Sheet) {

@@ -53,12 +53,13 @@ impl Parser {
         open == '{' && self.is_labelled()
     }
 
-    /// The name of a field: one, a word that begins a part, or any text in quotes, as a key of JSON is.
+    /// The name of a field or a case: a name, a word that begins a part, or any text in quotes, as a key of
+    /// JSON is.
     pub(super) fn key(&mut self, what: &str) -> Parsed<Name> {
         let at = self.at();
         let word = match self.peek() {
             Token::Text(bytes) => String::from_utf8(bytes.clone())
-                .map_err(|_| Mistake::new(at, "a field's name is UTF-8"))?,
+                .map_err(|_| Mistake::new(at, format!("{what} is UTF-8")))?,
             Token::Word(word) => word.clone(),
             _ => return self.expected(what),
         };

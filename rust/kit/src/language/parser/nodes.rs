@@ -1,7 +1,7 @@
 //! Nodes of templates and their paths.
 
 use super::{Parsed, Parser};
-use crate::language::description::{By, Node, NodeForm, Path, Step};
+use crate::language::description::{Arm, By, Node, NodeForm, Path, Step};
 use crate::language::lexer::Token;
 use crate::mistake::Mistake;
 
@@ -20,20 +20,21 @@ impl Parser {
             Token::Text(_) => return self.expected("a node (`literal` writes a text)"),
             _ => return self.expected("a node"),
         };
-        let form: fn(&mut Self) -> Parsed<NodeForm> = match word.as_str() {
-            "build" => Self::build,
-            "literal" => |parser| Ok(NodeForm::Literal(parser.text()?)),
-            "place" => |parser| Ok(NodeForm::Place(parser.path()?)),
-            "expand" => Self::expand,
-            "if" => Self::if_node,
-            "for" => Self::for_node,
-            "sequence" => Self::sequence,
-            _ => {
-                return self.expected(
-                    "a node (`build`, `literal`, `place`, `expand`, `if`, `for` or `sequence`)",
-                )
-            }
-        };
+        let form: fn(&mut Self) -> Parsed<NodeForm> =
+            match word.as_str() {
+                "build" => Self::build,
+                "literal" => |parser| Ok(NodeForm::Literal(parser.text()?)),
+                "place" => |parser| Ok(NodeForm::Place(parser.path()?)),
+                "expand" => Self::expand,
+                "if" => Self::if_node,
+                "for" => Self::for_node,
+                "sequence" => Self::sequence,
+                "match" => Self::match_node,
+                _ => return self.expected(
+                    "a node (`build`, `literal`, `place`, `expand`, `if`, `for`, `sequence` or \
+                     `match`)",
+                ),
+            };
         self.take();
         form(self)
     }
@@ -80,6 +81,39 @@ impl Parser {
     fn sequence(&mut self) -> Parsed<NodeForm> {
         let items = self.bracketed(['(', ')'], Self::node)?;
         Ok(NodeForm::Sequence(items))
+    }
+
+    /// `match PATH (ARM..)`
+    fn match_node(&mut self) -> Parsed<NodeForm> {
+        let path = self.path()?;
+        let arms = self.bracketed(['(', ')'], Self::arm)?;
+        Ok(NodeForm::Match(path, arms))
+    }
+
+    /// `CASE as NAME then NODE`
+    fn arm(&mut self) -> Parsed<Arm> {
+        let case = self.case()?;
+        self.word("as")?;
+        let content = self.name("a name for the case's content")?;
+        self.word("then")?;
+        let node = self.node()?;
+        Ok(Arm {
+            case,
+            content,
+            node,
+        })
+    }
+
+    /// A case, by its name or by its number.
+    pub(super) fn case(&mut self) -> Parsed<Step> {
+        let at = self.at();
+        match self.peek() {
+            Token::Number(_) => self.step("a case"),
+            _ => {
+                let by = By::Name(self.key("a case's name")?.word);
+                Ok(Step { by, at })
+            }
+        }
     }
 
     /// `VARIABLE` or `VARIABLE.FIELD..`

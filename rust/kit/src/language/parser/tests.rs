@@ -74,7 +74,7 @@ fn a_mistake_says_what_is_expected_and_where() {
     );
     assert_eq!(
         mistake("type t = set t"),
-        "line 1, column 10: `text`, `yesno`, `list` or `record` is expected here, not `set`"
+        "line 1, column 10: `text`, `yesno`, `list`, `record` or `variant` is expected here, not `set`"
     );
     assert_eq!(
         mistake("value [\n \"a\"\n"),

@@ -19,6 +19,11 @@ impl Parser {
                 self.take() == Token::Word("yes".to_string()),
             ));
         }
+        if self.sees_word("case") {
+            self.take();
+            let case = self.case()?;
+            return Ok(ValueForm::Case(case, Box::new(self.value()?)));
+        }
         if self.sees_sign('[') {
             let items = self.bracketed(['[', ']'], Self::value)?;
             return Ok(ValueForm::List(items));
@@ -29,7 +34,9 @@ impl Parser {
         }
         match self.peek() {
             Token::Text(_) => Ok(ValueForm::Text(self.text()?)),
-            _ => self.expected("a value (a text, `yes`, `no`, a list in [ ] or a record in { })"),
+            _ => self.expected(
+                "a value (a text, `yes`, `no`, a list in [ ], a record in { } or a `case`)",
+            ),
         }
     }
 

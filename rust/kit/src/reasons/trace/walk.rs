@@ -20,7 +20,7 @@ use crate::streams::record::Record;
 use feed::Answer;
 use std::ops::ControlFlow;
 
-/// A template that was entered, or a for at one of its items.
+/// A template that was entered, a for at one of its items, or a match at one of its arms.
 #[derive(Clone, Copy, Debug, PartialEq, Eq)]
 pub(super) enum Level {
     /// The template with this number.
@@ -35,6 +35,15 @@ pub(super) enum Level {
         item: usize,
         /// How many items there are.
         items: usize,
+    },
+    /// A match.
+    Match {
+        /// The node of the arm that is taken.
+        arm: usize,
+        /// The number of its case.
+        case: usize,
+        /// The number of the variable that it brings in.
+        variable: usize,
     },
 }
 
@@ -53,7 +62,7 @@ pub(super) enum Text {
 
 /// Where a walk stopped.
 pub(super) struct Stop {
-    /// The templates and fors that it was in, the outermost first.
+    /// The templates, fors and arms that it was in, the outermost first.
     pub(super) levels: Vec<Level>,
     /// The text that didn't fit, and how many bytes it takes.
     pub(super) unfit: Option<(Text, usize)>,
@@ -155,6 +164,7 @@ impl Walk<'_> {
             Some(Form::Place) => self.place(at),
             Some(Form::Expand) => self.expand(at, usize::from(head.b())),
             Some(Form::If) => self.branch(at),
+            Some(Form::Match) => self.arm(at),
             Some(Form::Sequence) => self.sequence(at),
             // A for stands in a sequence, which visits it itself.
             Some(Form::For) | None => STOP,
@@ -240,6 +250,30 @@ impl Walk<'_> {
             Some(node) => self.visit(at.below(node, None)),
             None => STOP,
         }
+    }
+
+    /// Takes the arm of the case that the path finds, the case's content being one variable more.
+    fn arm(&mut self, at: Visit) -> Walked {
+        let path = paths(self.tables.records, at.node).next();
+        let Some(found) = path.and_then(|path| self.find(path, at.base)) else {
+            return STOP;
+        };
+        let case = usize::from(self.value[found].a());
+        let arm = children(self.tables.records, at.node).nth(case);
+        let (Some(arm), Some(content)) = (arm, values::children(self.value, found).next()) else {
+            return STOP;
+        };
+        let variable = self.variables.len() - at.base;
+        self.levels.push(Level::Match {
+            arm,
+            case,
+            variable,
+        });
+        self.variables.push(content);
+        self.visit(at.below(arm, None))?;
+        self.variables.pop();
+        self.levels.pop();
+        ON
     }
 
     /// Enters a body with a fresh set of variables, those that the paths find.

@@ -1,6 +1,7 @@
-//! What stands where a nonterminal is asked for: a build, an expand or an if.
+//! What stands where a nonterminal is asked for: a build, an expand, an if or a match.
 
 use super::{Fault, Here};
+use crate::reasons::names::Binder;
 use crate::reasons::nodes::{children, Form, Template};
 use crate::reasons::paper::{COUNTS, NONTERMINAL};
 use crate::reasons::position::Position;
@@ -17,6 +18,7 @@ impl Here<'_> {
                 let due = ("an if asks for yes or no", NONTERMINAL);
                 self.path_due(due, |shape| shape == Shape::YesNo)
             }
+            Form::Match => self.matched(),
             _ => {
                 let where_it_may = match form {
                     Form::For => "as an item of a sequence",
@@ -131,7 +133,7 @@ impl Here<'_> {
     /// What a template takes.
     fn takes(&self, number: usize, template: &Template) -> String {
         let parameter = |(place, binder): (usize, usize)| {
-            let name = bare(&self.names.variable(place, binder));
+            let name = bare(&self.names.variable(place, Binder::Own(binder)));
             let type_number = usize::from(self.tables.records.get(binder)?.b());
             Some(format!("{name}: {}", self.names.type_of(type_number)))
         };
@@ -158,7 +160,7 @@ impl Here<'_> {
         if found == due {
             return None;
         }
-        let name = bare(&self.names.variable(argument, parameter));
+        let name = bare(&self.names.variable(argument, Binder::Own(parameter)));
         let template = self.names.template(usize::from(self.head.b()));
         let (found_type, due_type) = (self.names.type_of(found), self.names.type_of(due));
         let mut said = vec![format!(
@@ -166,7 +168,8 @@ impl Here<'_> {
             argument + 1,
         )];
         let shape = |number| self.tables.types.shape(number);
-        if shape(found) == shape(due) && !matches!(shape(due), Some(Shape::Record(_))) {
+        let has_fields = matches!(shape(due), Some(Shape::Record(_) | Shape::Variant(_)));
+        if shape(found) == shape(due) && !has_fields {
             said.push(format!(
                 "both are {}, but types are equal by their numbers only",
                 self.what(due)
@@ -180,7 +183,7 @@ impl Here<'_> {
 }
 
 /// How many stand here.
-fn standing(count: usize, what: &str) -> String {
+pub(super) fn standing(count: usize, what: &str) -> String {
     match count {
         0 => "none stands here".to_string(),
         1 => format!("1 {what} stands here"),

@@ -94,6 +94,7 @@ impl Here<'_> {
             Some(Shape::Text(_)) => "text",
             Some(Shape::YesNo) => "yes/no",
             Some(Shape::List(_)) => "list",
+            Some(Shape::Variant(_)) => "variant",
             None => return format!("{own} isn't there"),
         };
         format!("the path goes on behind {own}: a {kind} has no fields")
@@ -109,7 +110,7 @@ impl Here<'_> {
         };
         let (variable, fields) = steps(record);
         let known = self.site.scope.get(variable);
-        let name = known.and_then(|known| self.names.variables.get(&known.binder));
+        let name = known.and_then(|known| self.names.variable_name(known.binder));
         let mut number = known.and_then(|known| known.type_number);
         let mut words = vec![name.map_or_else(|| format!("variable {variable}"), String::clone)];
         for field in fields.iter().map(|&field| usize::from(field)) {
@@ -133,6 +134,7 @@ impl Here<'_> {
             Some(Shape::Text(class)) => format!("a text of {}", self.names.class(class)),
             Some(Shape::YesNo) => format!("yes or no ({})", self.names.type_of(number)),
             Some(Shape::List(_)) => format!("a list ({})", self.names.type_of(number)),
+            Some(Shape::Variant(_)) => format!("a variant ({})", self.names.type_of(number)),
             _ => format!("a record ({})", self.names.type_of(number)),
         }
     }
@@ -145,6 +147,9 @@ impl Here<'_> {
             Some(Shape::List(item)) => format!("lists of {}", self.names.type_of(item)),
             Some(Shape::Record(fields)) => {
                 format!("records of {}", counted(fields, "field", "fields"))
+            }
+            Some(Shape::Variant(cases)) => {
+                format!("variants of {}", counted(cases, "case", "cases"))
             }
             None => "unknown".to_string(),
         }
