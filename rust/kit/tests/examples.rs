@@ -1,11 +1,14 @@
 //! The examples: their descriptions give their streams, and their streams their texts.
 
 use kit::assembly::assemble::Assembled;
+use kit::assembly::data;
 use kit::assembly::map::Map;
+use kit::json;
 use kit::language::description::{ClassForm, Value, ValueForm};
 use kit::language::parser::parse;
 use kit::mistake::end_of;
 use kit::reasons::characters::is_admitted;
+use kit::streams::record::{packed, Kind};
 use kit::{assemble, Streams};
 use std::fs;
 use std::io::Write;
@@ -161,10 +164,27 @@ fn the_podcast_description_gives_its_streams() {
     assert_eq!(assembled("podcast"), streams("podcast"));
 }
 
+#[test]
+fn the_media_description_gives_its_streams() {
+    assert_eq!(assembled("media"), streams("media"));
+}
+
+/// The media example has its data as JSON, too.
+#[test]
+fn the_media_data_gives_its_value() {
+    let text = description("media");
+    let tree = parse(&text).expect("a tree");
+    let set = Assembled::of(&tree, end_of(&text)).expect("streams");
+    let json = json::parse(&read("examples/media/data.json")).expect("JSON");
+    let sheet = data::value(&tree, &set, &json).expect("data of the declared type");
+    let value = packed(Kind::Value, &sheet.records).expect("a stream");
+    assert_eq!(value, streams("media").value);
+}
+
 /// `explain` and `dump` of an example go by its map.
 #[test]
 fn the_examples_have_their_maps() {
-    for example in ["harbour", "podcast"] {
+    for example in ["harbour", "podcast", "media"] {
         let map = Map::read(&read(&format!("examples/{example}/map.json"))).expect("a map");
         assert_eq!(map.description, "feed.txt");
         let tree = parse(&description(example)).expect("a tree");
@@ -178,19 +198,24 @@ fn the_podcast_text() {
     assert_eq!(rendered("podcast").1, read("examples/podcast/feed.xml"));
 }
 
-/// What an XML parser that is not ours reads in the rendered podcast.
-fn parsed_podcast() -> String {
+#[test]
+fn the_media_text() {
+    assert_eq!(rendered("media").1, read("examples/media/feed.xml"));
+}
+
+/// What an XML parser that is not ours reads in a rendered feed.
+fn parsed(example: &str) -> String {
     let mut parser = Command::new("python3")
         .arg(file("rust/kit/tests/feed_texts.py"))
         .stdin(Stdio::piped())
         .stdout(Stdio::piped())
         .spawn()
-        .expect("python3, whose XML parser reads the podcast's text, can be run");
+        .expect("python3, whose XML parser reads the feed, can be run");
     parser
         .stdin
         .take()
         .expect("its input")
-        .write_all(&rendered("podcast").1)
+        .write_all(&rendered(example).1)
         .expect("written");
     let output = parser.wait_with_output().expect("its end");
     assert!(output.status.success());
@@ -218,16 +243,25 @@ fn titles_and_notes(value: &Value, found: &mut Vec<String>) {
 }
 
 /// The parser gives back exactly what was typed: the plain titles and notes of the description.
-#[test]
-fn the_podcast_says_what_was_typed() {
-    let tree = parse(&description("podcast")).expect("a tree");
+fn says_what_was_typed(example: &str, parts: &[&str]) {
+    let tree = parse(&description(example)).expect("a tree");
     let value = tree.value.expect("a value");
     let mut typed = Vec::new();
     titles_and_notes(&value, &mut typed);
-    assert_eq!(parsed_podcast(), typed.join("\n") + "\n");
-    for part in ["Salt & Rope", "<b>", "\"", "'", "Φωνές"] {
+    assert_eq!(parsed(example), typed.join("\n") + "\n");
+    for part in parts {
         assert!(typed.iter().any(|text| text.contains(part)), "{part}");
     }
+}
+
+#[test]
+fn the_podcast_says_what_was_typed() {
+    says_what_was_typed("podcast", &["Salt & Rope", "<b>", "\"", "'", "Φωνές"]);
+}
+
+#[test]
+fn the_media_feed_says_what_was_typed() {
+    says_what_was_typed("media", &["Salt & Rope", "<by", "\"", "'", "Φωνές"]);
 }
 
 /// The characters in the ranges of an example's classes.
@@ -251,7 +285,7 @@ fn the_podcasts_classes_hold_no_control_character() {
 /// What the examples' ranges hold, they let in.
 #[test]
 fn the_examples_classes_hold_only_characters_that_xml_admits() {
-    for example in ["harbour", "podcast"] {
+    for example in ["harbour", "podcast", "media"] {
         assert_eq!(ranged(example).find(|&it| !is_admitted(it)), None);
     }
 }

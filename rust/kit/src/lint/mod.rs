@@ -60,12 +60,14 @@ mod tests {
 
     const PODCAST: &str = include_str!("../../../../examples/podcast/feed.txt");
     const HARBOUR: &str = include_str!("../../../../examples/harbour/feed.txt");
+    const MEDIA: &str = include_str!("../../../../examples/media/feed.txt");
     const STARTER: &str = include_str!("../starter/feed.txt");
 
     #[test]
     fn the_examples_are_meant() {
         assert_eq!(said(PODCAST), NONE);
         assert_eq!(said(HARBOUR), NONE);
+        assert_eq!(said(MEDIA), NONE);
         assert_eq!(said(STARTER), NONE);
     }
 
@@ -78,6 +80,23 @@ mod tests {
                 "title: class `title` admits `&` and `<` here, where production `some_chapters` has it \
                  between `<itunes:summary>..` and `</itunes:summary>`, where they would be read as \
                  markup: ask for its escaped form `xml_title`"
+            ]
+        );
+    }
+
+    #[test]
+    fn a_case_that_is_taken_out_of_use() {
+        let slip = MEDIA
+            .replacen("video as video then expand film (video)", "video as video then build sound (literal \"a\" literal \"1\" literal \"a/b\" literal \"0:00\")", 1);
+        assert_eq!(
+            said_of(&slip),
+            [
+                "film: production `film` is not used: only template `film` builds it, which is not used itself",
+                "subtitles: production `subtitles` is not used: only template `film` builds it, \
+                 which is not used itself",
+                "no_subtitles: production `no_subtitles` is not used: only template `film` builds it, \
+                 which is not used itself",
+                "film: template `film` is not used: no template expands it",
             ]
         );
     }

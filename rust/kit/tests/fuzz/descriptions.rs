@@ -10,6 +10,7 @@ use kit::language::parser::parse;
 const STARTER: &str = include_str!("../../src/starter/feed.txt");
 const HARBOUR: &str = include_str!("../../../../examples/harbour/feed.txt");
 const PODCAST: &str = include_str!("../../../../examples/podcast/feed.txt");
+const MEDIA: &str = include_str!("../../../../examples/media/feed.txt");
 
 /// What is put into descriptions.
 pub const TOKENS: &[&str] = &[
@@ -103,9 +104,9 @@ pub const TOKENS: &[&str] = &[
 
 /// A description that is right, without a value: one of the known, or a new one.
 pub fn right(random: &mut Random) -> String {
-    let known = [STARTER, HARBOUR, PODCAST];
-    match random.below(5) {
-        at @ 0..=2 => without_value(known[at]).to_string(),
+    let known = [STARTER, HARBOUR, PODCAST, MEDIA];
+    match random.below(6) {
+        at @ 0..=3 => without_value(known[at]).to_string(),
         _ => {
             let mut plan = Plan::new(random);
             plan.slips = 0;
@@ -143,7 +144,7 @@ pub fn any(random: &mut Random) -> Vec<u8> {
     let text = match random.below(12) {
         0 => STARTER.to_string(),
         1 | 2 => HARBOUR.to_string(),
-        3 => PODCAST.to_string(),
+        3 => random.pick(&[PODCAST, MEDIA]).to_string(),
         4 | 5 => extreme(random),
         _ => new(random),
     };

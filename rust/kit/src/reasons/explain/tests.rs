@@ -167,7 +167,7 @@ fn every_changed_byte_is_explained() {
     let folder = std::path::Path::new(env!("CARGO_MANIFEST_DIR")).join("../../examples");
     let changes: [fn(u8) -> u8; 3] = [|b| b ^ 1, |b| b.wrapping_add(7), |b| b ^ 0x80];
     let mut refused = [0; 10];
-    for name in ["harbour", "podcast"] {
+    for name in ["harbour", "podcast", "media"] {
         let file = folder.join(name).join("feed.txt");
         let description = std::fs::read_to_string(file).expect("a description");
         let streams = crate::assemble(&description).expect("streams");
