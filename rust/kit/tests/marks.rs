@@ -83,6 +83,37 @@ fn marks_and_refusals_agree_on_the_podcast_example() {
     agree("podcast", &[|b| b.wrapping_add(1)]);
 }
 
+/// The numbers of forms and kinds are tried as well: what is a record or a sequence may be a variant or a
+/// match with the same fields.
+#[test]
+fn marks_and_refusals_agree_on_the_media_example() {
+    agree(
+        "media",
+        &[
+            |b| b ^ 1,
+            |b| b.wrapping_add(1),
+            |b| b.wrapping_sub(1),
+            |_| 4,
+            |_| 5,
+            |_| 7,
+        ],
+    );
+}
+
+/// A variant of so many cases, each of a yes/no: 1 to 256 keep the layout.
+#[test]
+fn marks_and_refusals_agree_on_the_count_of_cases() {
+    for count in [0, 1, 2, 255, 256, 257, 300] {
+        let head = Record::new(1, 4, [0, 0, count]).0;
+        let cases = (0..count).map(|_| Record::new(2, 0, [0; 3]).0);
+        let records = [Record::new(1, 1, [0; 3]).0, head].into_iter().chain(cases);
+        let payload: Vec<u8> = records.flatten().collect();
+        let kept = (1..=256).contains(&count);
+        assert_eq!(is_marked(Kind::Templates, &payload), !kept, "{count}");
+        assert_eq!(is_refused(Kind::Templates, &payload), !kept, "{count}");
+    }
+}
+
 /// The numbers of productions around the 256th, and of the first and the last: each byte that a and c have
 /// takes every value.
 #[test]

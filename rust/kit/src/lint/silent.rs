@@ -201,6 +201,8 @@ mod tests {
             "build deep (build commas (sequence (build none)))",
             "build deep (build commas (sequence ()))",
             "build text (if x then literal \"\" else literal \"\")",
+            "match x (a as y then build none b as z then build blank)",
+            "match x ()",
         ] {
             assert_eq!(said(body), [NOTHING], "{body}");
             assert_eq!(said_in("nothing", body, ""), [NOTHING], "{body}");
@@ -226,6 +228,8 @@ mod tests {
             "build text (place x)",
             "if x then build none else build a",
             "if x then build a else build none",
+            "match x (a as y then build none b as z then build a)",
+            "match x (a as y then build text (place y) b as z then build none)",
             "build deep (build list (sequence (build none build a)))",
             "build deep (build commas (sequence (build none build none)))",
             "build text (if x then literal \"\" else place x)",

@@ -309,6 +309,23 @@ mod tests {
     }
 
     #[test]
+    fn cases_name_types_and_arms_use_what_they_build() {
+        assert_eq!(
+            said("type u = yesno type v = variant { a: u b: v }"),
+            ["line 7, column 21: type `v` is not used: \
+              no parameter, list, field or case of another type names it"]
+        );
+        let arms = SMALL.replacen(
+            "if x then build q (place x) else build q (place x)",
+            "match x (a as y then build q2 b as z then expand two (z))",
+            1,
+        );
+        let more = "template two (x: t) of m = build q (place x) production q2 of m = ";
+        let tree = parse(&format!("{arms}{more}")).expect("a description");
+        assert_eq!(unused(&tree).len(), 0);
+    }
+
+    #[test]
     fn long_chains() {
         let chain = |first: usize, last: usize| -> String {
             let link = |n| format!("template t{n} (x: t) of m = expand t{} (x)\n", n + 1);

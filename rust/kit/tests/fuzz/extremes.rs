@@ -51,7 +51,18 @@ fn of_body(body: &str) -> String {
 /// Depth, loops, parameters, steps and items about as many as the library takes.
 fn deep(random: &mut Random) -> String {
     let many = random.mostly_small(12_000);
-    match random.below(7) {
+    match random.below(9) {
+        7 => of_body(&nested(
+            random.between(12, 20),
+            "match x (0 as y then ",
+            "build r",
+            ")",
+        )),
+        8 => small(
+            "",
+            "build r",
+            &nested(random.between(190, 310), "case 0 ", "yes", ""),
+        ),
         0 => of_body(&nested(
             random.between(90, 155),
             "build p (sequence (",

@@ -1,3 +1,5 @@
+mod arms;
+
 use super::*;
 use crate::streams::record::Found;
 

@@ -19,6 +19,57 @@ fn every_form_of_node_is_read() {
 }
 
 #[test]
+fn a_match_has_its_arms_as_they_are_written() {
+    let found = parse(
+        "template t (a: b) of n = match a.f (video as v then build p, \"a-b\" as x then place x \
+         7 as template_ then match x ())",
+    )
+    .expect("a description");
+    let NodeForm::Match(path, arms) = &found.templates[0].body.form else {
+        panic!("a match")
+    };
+    assert_eq!(path.written(), "a.f");
+    let said: Vec<String> = arms
+        .iter()
+        .map(|arm| format!("{} as {}", arm.case.by, arm.content.word))
+        .collect();
+    assert_eq!(said, ["video as v", "\"a-b\" as x", "7 as template_"]);
+    assert!(matches!(&arms[2].node.form, NodeForm::Match(_, none) if none.is_empty()));
+}
+
+#[test]
+fn a_variant_has_named_cases() {
+    let found = parse("type t = variant { audio: a, \"a-b\": b value: c }").expect("a type");
+    let TypeForm::Variant(cases) = &found.types[0].form else {
+        panic!("a variant")
+    };
+    let names: Vec<&str> = cases.iter().map(|it| it.name.word.as_str()).collect();
+    assert_eq!(names, ["audio", "a-b", "value"]);
+}
+
+#[test]
+fn cases_of_a_value() {
+    let found = parse("value [ case audio yes case \"a-b\" [] case 3 { case: case x no } ]");
+    let Some(ValueForm::List(items)) = found.expect("a value").value.map(|it| it.form) else {
+        panic!("a list")
+    };
+    let case = |value: &Value| match &value.form {
+        ValueForm::Case(case, _) => case.by.to_string(),
+        _ => panic!("a case"),
+    };
+    let cases: Vec<String> = items.iter().map(case).collect();
+    assert_eq!(cases, ["audio", "\"a-b\"", "3"]);
+    assert_eq!(
+        mistake("value case [] yes"),
+        "line 1, column 12: a case's name is expected here, not `[`"
+    );
+    assert_eq!(
+        mistake("value case 256 yes"),
+        "line 1, column 12: a case has a number of at most 255"
+    );
+}
+
+#[test]
 fn every_form_of_element_is_read() {
     let found = parse(r#"production p of n = "x" a b* c*(", ") "y" d* ("") e"#);
     let elements = &found.expect("a description").productions[0].elements;

@@ -195,8 +195,9 @@ fn the_build_of_many_open_ones_that_did_not_fit() {
 #[test]
 fn every_fuel_and_every_output_has_its_way() {
     let folder = std::path::Path::new(env!("CARGO_MANIFEST_DIR")).join("../../examples");
-    let podcast = std::fs::read_to_string(folder.join("podcast/feed.txt")).expect("a description");
-    for description in [ROWS, &podcast] {
+    let read = |name| std::fs::read_to_string(folder.join(name)).expect("a description");
+    let [podcast, media] = ["podcast/feed.txt", "media/feed.txt"].map(read);
+    for description in [ROWS, &podcast, &media] {
         let set = Set::of(description);
         let finished = set.answer(100_000, 65_536);
         assert_eq!(finished.number, 0);
@@ -207,6 +208,42 @@ fn every_fuel_and_every_output_has_its_way() {
         for output in 0..bytes {
             assert!(!set.way(12, 100_000, output).is_empty(), "output {output}");
         }
+    }
+}
+
+/// Each arm brings one variable in, and behind the match it is gone.
+#[test]
+fn arms_on_the_way() {
+    let set = Set::of(
+        "class c 1 to 4 { 'a'-'z' } production p of n = m* production q of m = c m* production r of m = c
+         type t = text c type v = variant { a: t b: t } type l = list v
+         template main (l: l) of n = build p (sequence (for v in l do match v (
+           a as a then build q (place a sequence (
+             match v (a as x then build r (place x) b as y then build r (place y))
+             for w in l do match w (a as x then build r (place x) b as y then build r (place y))))
+           b as b then build r (place b))))
+         value [ case b \"k\" case a \"g\" ]",
+    );
+    let text = "kggkg";
+    assert_eq!(set.answer(1_000, text.len()).number, 0);
+    let second = "template 0|for (variable 1), item 2 of 2|case 0 (variable 2)";
+    for (output, way) in [
+        (
+            0,
+            "template 0|for (variable 1), item 1 of 2|case 1 (variable 2)",
+        ),
+        (1, second),
+        (2, &format!("{second}|case 0 (variable 3)")),
+        (
+            3,
+            &format!("{second}|for (variable 3), item 1 of 2|case 1 (variable 4)"),
+        ),
+        (
+            4,
+            &format!("{second}|for (variable 3), item 2 of 2|case 0 (variable 4)"),
+        ),
+    ] {
+        assert_eq!(set.way(12, 1_000, output).join("|"), way, "{output}");
     }
 }
 

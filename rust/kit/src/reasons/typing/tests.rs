@@ -8,7 +8,7 @@ mod others;
 use super::*;
 use crate::reasons::explain::words;
 use crate::reasons::nodes::{children, Form};
-use crate::reasons::paper::{ADMITTED, CLASS, COUNTS, ESCAPED, LEXEME, NONTERMINAL};
+use crate::reasons::paper::{ADMITTED, CLASS, COUNTS, ESCAPED, LEXEME, MATCH, NONTERMINAL};
 use crate::streams::record::{Found, Kind};
 
 const SMALL: &str = r#"

@@ -87,13 +87,59 @@ const CHANGES: &[fn(u8) -> u8] = &[
 
 #[test]
 fn faults_are_where_the_library_refuses() {
-    for streams in [example("harbour"), example("podcast")] {
+    for streams in ["harbour", "podcast", "media"].map(example) {
         let failed = failed(&streams, CHANGES);
         assert!(failed.values().sum::<usize>() > 40, "{failed:?}");
     }
     let failed = failed(&crate::assemble(SMALL).expect("streams"), CHANGES);
     let rules = [CLASS, LEXEME, ADMITTED, ESCAPED, NONTERMINAL, TYPING];
     for rule in rules {
+        assert!(failed.contains_key(rule), "{rule}: {failed:?}");
+    }
+}
+
+/// A set with matches: as an item, in a for, in an arm, and as a body.
+const MEDIA: &str = r#"
+class title 1 to 4 { 'a'-'z' } class number 1 to 4 { '0'-'9' }
+production feed of rss = item*(", ") "." production sound of item = "a" title
+production film of item = "v" title number flag production yes of flag = "y" production no of flag =
+type title = text title type number = text number type flag = yesno
+type audio = record { title: title, loud: flag }
+type size = variant { wide: number, other: flag }
+type video = record { title: title, size: size, note: title }
+type medium = variant { audio: audio, video: video, text: title }
+type media = list medium
+type page = record { first: medium, media: media }
+template main (page: page) of rss =
+  build feed (sequence (
+    match page.first (
+      audio as audio then build sound (place audio.title)
+      video as video then expand film (video)
+      text as text then build sound (place text))
+    for medium in page.media do match medium (
+      audio as audio then if audio.loud then build sound (place audio.title) else build sound (literal "a")
+      video as video then match video.size (
+        wide as wide then build film (place video.title place wide build yes)
+        other as other then expand film (video))
+      text as text then build sound (place text))))
+template film (video: video) of item =
+  match video.size (
+    wide as wide then build film (place video.note place wide build no)
+    other as loud then build film (place video.note literal "1" if loud then build yes else build no))
+value { case text "a" [] }"#;
+
+#[test]
+fn faults_are_where_the_library_refuses_with_matches() {
+    let failed = failed(&crate::assemble(MEDIA).expect("streams"), CHANGES);
+    for rule in [
+        CLASS,
+        LEXEME,
+        COUNTS,
+        NONTERMINAL,
+        REPETITION,
+        MATCH,
+        TYPING,
+    ] {
         assert!(failed.contains_key(rule), "{rule}: {failed:?}");
     }
 }
@@ -115,7 +161,19 @@ fn faults_are_where_the_library_refuses_above_255_productions() {
 /// node in turn stands where each other stood, whole, and its neighbours' sizes are kept right.
 #[test]
 fn nodes_that_change_their_places() {
-    let streams = crate::assemble(SMALL).expect("streams");
+    let failed = exchanged(SMALL);
+    for rule in [CLASS, NONTERMINAL, REPETITION, TYPING] {
+        assert!(failed.contains_key(rule), "{rule}: {failed:?}");
+    }
+    let failed = exchanged(MEDIA);
+    for rule in [CLASS, NONTERMINAL, REPETITION, MATCH, TYPING] {
+        assert!(failed.contains_key(rule), "{rule}: {failed:?}");
+    }
+}
+
+/// The rules that fail where nodes of a set stand for others, and how often.
+fn exchanged(description: &str) -> BTreeMap<&'static str, usize> {
+    let streams = crate::assemble(description).expect("streams");
     let grammar = Found::read(&streams.grammar, Some(Kind::Grammar)).records;
     let templates = Found::read(&streams.templates, Some(Kind::Templates)).records;
     let all = nodes(&templates);
@@ -128,9 +186,7 @@ fn nodes_that_change_their_places() {
             }
         }
     }
-    for rule in [CLASS, NONTERMINAL, REPETITION, TYPING] {
-        assert!(failed.contains_key(rule), "{rule}: {failed:?}");
-    }
+    failed
 }
 
 /// The payload of a template stream in which the node `from` also stands in the place of the node `to`.
