@@ -49,7 +49,7 @@ fn the_block_shown_is_the_whole_file() {
 #[test]
 fn the_checks_shown_are_those_of_the_streams() {
     let rows = table("## An example, byte by byte", "| stream | bytes 0-3 |");
-    assert_eq!(rows.len(), 6);
+    assert_eq!(rows.len(), 9);
     for (at, row) in rows.iter().enumerate() {
         let (example, stream) = (EXAMPLES[at / 3], at % 3);
         assert_eq!(row[0], format!("{example}/{}.blk", STREAMS[stream]));
@@ -118,10 +118,11 @@ fn the_visits_are_where_the_page_has_them() {
 }
 
 /// Where the page changes its examples, each with the one that is changed.
-const CHANGES: [(&str, &str); 3] = [
+const CHANGES: [(&str, &str); 4] = [
     ("### Changes of it, and their answers", EXAMPLES[0]),
     ("### Productions above 255", EXAMPLES[0]),
     ("### Changes of the second example", EXAMPLES[1]),
+    ("### Changes of the third example", EXAMPLES[2]),
 ];
 
 /// The refusals are 1 to 12, in order; each is met by some change, with a kind that its row has.
@@ -153,8 +154,8 @@ const HEADINGS: [&str; 3] = ["## The grammar", "## The templates", "## The value
 fn every_kind_and_form_has_its_row() {
     let due = [
         "1 2 3 4:0 4:1 4:2 4:3 4:4 5",
-        "1:0 1:1 1:2 1:3 2 3 4 5:0 5:1 5:2 5:3 5:4 5:5 5:6 6",
-        "1 2 3 4",
+        "1:0 1:1 1:2 1:3 1:4 2 3 4 5:0 5:1 5:2 5:3 5:4 5:5 5:6 5:7 6",
+        "1 2 3 4 5",
     ];
     let row = |row: &Vec<String>| match row[2].parse::<u8>() {
         Ok(form) => format!("{}:{form}", row[0]),
@@ -232,8 +233,10 @@ fn the_entities_stand_for_their_characters() {
 }
 
 #[test]
-fn the_second_example_has_its_answer_and_text() {
-    let (answer, text) = Run::of(EXAMPLES[1]).answer();
-    let shown = fenced(&fields(answer));
-    assert_eq!(text, shown.concat().as_bytes());
+fn the_other_examples_have_their_answers_and_texts() {
+    for example in &EXAMPLES[1..] {
+        let (answer, text) = Run::of(example).answer();
+        let shown = fenced(&fields(answer));
+        assert_eq!(text, shown.concat().as_bytes());
+    }
 }
