@@ -305,6 +305,39 @@ fn the_formats_escaped_title_is_written() {
     );
 }
 
+/// So does the one with a variant, and its data as JSON is that of the page's table.
+#[test]
+fn the_formats_media_are_written() {
+    let format = String::from_utf8(read("rust/kit/FORMAT.md")).expect("UTF-8");
+    let fenced = format
+        .split("```")
+        .find(|part| part.contains("= variant {"));
+    let description = fenced.expect("a description with a variant");
+    let (_, promised) = description.split_once("# ").expect("a comment");
+    let streams = assemble(description).expect("streams");
+    let row = format
+        .lines()
+        .find(|line| line.starts_with("| `variant {") && line.contains("an object"));
+    let row = row.expect("a row");
+    let (start, end) = (
+        row.find("{ \"").expect("JSON"),
+        row.rfind('`').expect("its end"),
+    );
+    let data = format!(
+        "[ {{ \"audio\": {{ \"title\": \"salt\" }} }}, {} ]",
+        &row[start..end]
+    );
+    let tree = parse(description).expect("a tree");
+    let set = Assembled::of(&tree, end_of(description)).expect("streams");
+    let json = json::parse(data.as_bytes()).expect("JSON");
+    let sheet = data::value(&tree, &set, &json).expect("data of the declared type");
+    assert_eq!(
+        packed(Kind::Value, &sheet.records).expect("a stream"),
+        streams.value
+    );
+    assert_eq!(text_of(streams).1, promised.trim().as_bytes());
+}
+
 #[test]
 fn the_format_has_the_papers_description() {
     let format = String::from_utf8(read("rust/kit/FORMAT.md")).expect("UTF-8");
