@@ -128,9 +128,9 @@ for whose body writes nothing. Exit status 1 if there is a warning.
         summary: "make a value stream from JSON",
         page: "\
 Makes the value stream of the data in DATA.json, by the type that the description in FILE
-declares: an object for a record, by the names of its fields, an array for a list, a string for
-a text, true or false for yes or no. All mistakes are shown at once, each with its path in the
-data, as episodes[3].title.
+declares: an object for a record, by the names of its fields, an object with one key for a
+variant, by the name of its case, an array for a list, a string for a text, true or false for yes
+or no. All mistakes are shown at once, each with its path in the data, as episodes[3].title.
 ",
         run: value::run,
     },

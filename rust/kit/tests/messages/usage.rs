@@ -264,9 +264,9 @@ kit value FILE DATA.json OUT.blk
 make a value stream from JSON
 
 Makes the value stream of the data in DATA.json, by the type that the description in FILE
-declares: an object for a record, by the names of its fields, an array for a list, a string for
-a text, true or false for yes or no. All mistakes are shown at once, each with its path in the
-data, as episodes[3].title.
+declares: an object for a record, by the names of its fields, an object with one key for a
+variant, by the name of its case, an array for a list, a string for a text, true or false for yes
+or no. All mistakes are shown at once, each with its path in the data, as episodes[3].title.
 
 Exit status: 0 done; 1 refused; 2 bad use, or a file that can't be read or written.
 "#,
