@@ -3,7 +3,7 @@
 use crate::language::description::{Description, Name, Production, TypeForm};
 use crate::mistake::{Mistake, Position};
 use crate::streams::record::STREAM_RECORDS;
-use crate::words::named;
+use crate::words::{listed, named};
 use std::collections::HashMap;
 
 /// The numbers of a row of names, by the order of the description.
@@ -160,6 +160,24 @@ pub fn meant<'a>(word: &str, known: impl Iterator<Item = &'a str>, before: usize
     }
 }
 
+/// The same, or else the known names, behind a few words.
+pub fn meant_or_known<'a>(
+    word: &str,
+    known: impl Iterator<Item = &'a str> + Clone,
+    before: usize,
+    are: &str,
+) -> String {
+    let near = meant(word, known.clone(), before);
+    if !near.is_empty() || before >= MOST_OFFERED {
+        return near;
+    }
+    let names: Vec<String> = known.map(named).collect();
+    match names.is_empty() {
+        true => near,
+        false => format!(": {are} {}", listed(&names)),
+    }
+}
+
 /// The longest word for which a near one is looked for.
 const LONGEST_MISSPELT: usize = 40;
 
@@ -207,5 +225,11 @@ mod tests {
         assert_eq!(offer("noet"), ": did you mean `note`?");
         assert_eq!(offer("x"), "");
         assert_eq!(meant("titel", known.into_iter(), MOST_OFFERED), "");
+        let else_known =
+            |word, before| meant_or_known(word, known.into_iter(), before, "there are");
+        assert_eq!(else_known("titel", 0), ": did you mean `title`?");
+        let all = ": there are `title`, `note`, `episode`";
+        assert_eq!(else_known("sound", 0), all);
+        assert_eq!(else_known("sound", MOST_OFFERED), "");
     }
 }

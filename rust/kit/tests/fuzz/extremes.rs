@@ -29,6 +29,7 @@ pub fn extreme(random: &mut Random) -> String {
             "build r ".repeat(few * 30)
         )),
         13 => small(&ranges(few * 30), "build r", "[]"),
+        14 if random.one_in(2) => many_cases(random),
         14 => wide(few),
         15 => small(
             "",
@@ -228,6 +229,21 @@ fn mistakes(random: &mut Random) -> String {
     let name = "name".repeat(random.mostly_small(200));
     let part = format!("production {name} of {name} = {name} {name}* {name}*(\"\")\n");
     small(&part.repeat(random.mostly_small(300)), "build r", "[]")
+}
+
+/// A variant of about as many cases as there may be, or of very many, a match on it, and a list of its cases.
+fn many_cases(random: &mut Random) -> String {
+    let count = match random.below(3) {
+        0 => random.mostly_small(20_000),
+        _ => random.between(250, 260),
+    };
+    let row = |part: fn(usize) -> String| -> String { (0..count).map(part).collect() };
+    let cases = row(|it| format!("k{it}: w "));
+    let arms = row(|it| format!("k{it} as y then build r "));
+    let values = row(|it| format!("case k{it} \"a\" "));
+    let more = format!("type v = variant {{ {cases} }}\ntype l = list v");
+    let body = format!("build p (sequence (for x in x do match x ({arms})))");
+    small(&more, &body, &format!("[ {values} ]")).replacen("(x: t)", "(x: l)", 1)
 }
 
 /// Very many names that stand for nothing, among very many that stand for something.

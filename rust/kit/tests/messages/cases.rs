@@ -125,7 +125,7 @@ fn mistakes_of_cases_are_told_at_once() {
 data.json:2:4: `[0].vidoe`: this key names no case of type `medium`: did you mean `video`?
       {"vidoe": {"title": "ab"}},
        ^
-data.json:3:4: `[1].text`: this key names no case of type `medium`: one of the keys `audio, video` is due
+data.json:3:4: `[1].text`: this key names no case of type `medium`: it has `audio`, `video`
       {"text": {"title": "ab"}},
        ^
 data.json:4:3: `[2]`: this object has no key: type `medium` asks for one of the keys `audio, video`
@@ -134,7 +134,7 @@ data.json:4:3: `[2]`: this object has no key: type `medium` asks for one of the 
 data.json:5:3: `[3]`: an object with one of the keys `audio, video` is due here, not a text
       "audio",
       ^
-data.json:6:4: `[4].title`: this key names no case of type `medium`: one of the keys `audio, video` is due
+data.json:6:4: `[4].title`: this key names no case of type `medium`: it has `audio`, `video`
       {"title": "ab"},
        ^
 data.json:7:23: `[5].audio.title`: the value isn't of its declared type (refusal 8)
@@ -189,7 +189,7 @@ data.json:1:3: `[0]`: this object has no key: type `medium` asks for the key `au
 data.json:1:7: `[1]`: an object with the key `audio` is due here, not a number
     [ {}, 1, {"x": 1} ]
           ^
-data.json:1:11: `[2].x`: this key names no case of type `medium`: the key `audio` is due
+data.json:1:11: `[2].x`: this key names no case of type `medium`: it has `audio`
     [ {}, 1, {"x": 1} ]
               ^
 "#,

@@ -4,9 +4,9 @@ use super::paths::{Known, Scope};
 use super::Assembler;
 use crate::assembly::sheet::{Sheet, What};
 use crate::language::description::{Arm, By, Field, Path, Step, TypeForm};
-use crate::language::rows::meant;
+use crate::language::rows::meant_or_known;
 use crate::mistake::Position;
-use crate::streams::record::STREAM_RECORDS;
+use crate::streams::record::{CASES, STREAM_RECORDS};
 use crate::words::{listed, named};
 use std::collections::BTreeMap;
 
@@ -59,10 +59,11 @@ impl Assembler<'_> {
         is_variant
     }
 
-    /// The cases of a type; one that is no variant has none.
+    /// The cases of a type; one that is no variant has none. Where there are more than a variant may have,
+    /// the others are a mistake, and to look names up among all of them may take long.
     fn cases(&self, known: Known) -> &[Field] {
         match self.rows.form(known) {
-            Some(TypeForm::Variant(cases)) => cases,
+            Some(TypeForm::Variant(cases)) => &cases[..cases.len().min(CASES)],
             _ => &[],
         }
     }
@@ -94,7 +95,7 @@ impl Assembler<'_> {
             }
         }
         ordered.sort_by_key(|&(number, _)| number);
-        // A case that seems to have no arm may be one whose name is misspelt.
+        // A case that seems to have no arm may be one whose name is misspelt in another.
         if ordered.iter().all(|&(number, _)| number != usize::MAX) {
             self.missing(at, &found, known);
         }
@@ -140,16 +141,18 @@ impl Assembler<'_> {
         };
         let cases = self.cases(known);
         let number = cases.iter().position(|it| it.name.word == *word);
-        if number.is_none() {
+        if number.is_none() && !self.is_too_wide(known) {
             let names = cases.iter().map(|it| it.name.word.as_str());
-            let mut near = meant(word, names, self.mistakes.len());
-            if near.is_empty() && !cases.is_empty() {
-                let names = cases.iter().map(|it| named(&it.name.word));
-                near = format!(": it has {}", listed(&names.collect::<Vec<_>>()));
-            }
+            let near = meant_or_known(word, names, self.mistakes.len(), "it has");
             self.no_case(word, case, known, &near);
         }
         number
+    }
+
+    /// Whether a type is a variant of more cases than one may have: then a case of it may be one of those.
+    fn is_too_wide(&self, known: Known) -> bool {
+        let form = self.rows.form(known);
+        matches!(form, Some(TypeForm::Variant(cases)) if cases.len() > CASES)
     }
 
     /// The mistake of a case that isn't there, unless what stands before it has a mistake already.

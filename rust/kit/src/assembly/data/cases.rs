@@ -3,7 +3,7 @@
 use super::Reader;
 use crate::json::{Json, Key};
 use crate::language::description::Field;
-use crate::language::rows::meant;
+use crate::language::rows::meant_or_known;
 use crate::mistake::{Mistake, MOST_FOUND};
 use crate::streams::record::Record;
 use crate::words::{named, shown};
@@ -65,10 +65,7 @@ impl Reader<'_> {
     /// A key that is the name of no case.
     fn no_case(&mut self, name: &str, cases: &[Field], key: &Key) {
         let names = cases.iter().map(|it| it.name.word.as_str());
-        let mut near = meant(&key.word, names, self.mistakes.len());
-        if near.is_empty() {
-            near = format!(": {} is due", one_key(cases));
-        }
+        let near = meant_or_known(&key.word, names, self.mistakes.len(), "it has");
         let why = format!("this key names no case of type {}{near}", named(name));
         self.wrong_key(key, &why);
     }
