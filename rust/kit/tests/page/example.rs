@@ -3,7 +3,7 @@
 use super::{bytes, fenced, number};
 
 /// The examples of the page.
-pub const EXAMPLES: [&str; 3] = ["examples/harbour", "every form", "audio or video"];
+pub const EXAMPLES: [&str; 3] = ["examples/harbour", "more forms", "audio or video"];
 /// The streams of an example, as their files are called.
 pub const STREAMS: [&str; 3] = ["grammar", "template", "value"];
 
