@@ -119,6 +119,34 @@ pub fn evaluate(
     streams: [&[u8]; 3],
     call: Call,
 ) -> Result<Fields, Difference> {
+    agreed(one, two, streams, call).map(|outcome| outcome.fields)
+}
+
+/// Compares an evaluate call with enough of all; answers its fields, and the text that is left.
+///
+/// # Errors
+/// The first difference.
+pub fn rendered(
+    one: &dyn Machine,
+    two: &dyn Machine,
+    streams: [&[u8]; 3],
+) -> Result<(Fields, Vec<u8>), Difference> {
+    let enough = Call {
+        fuel: 100_000,
+        out: 65_536,
+        scratch: 4_800,
+    };
+    let outcome = agreed(one, two, streams, enough)?;
+    let written = outcome.fields[4] as usize;
+    Ok((outcome.fields, outcome.out.lent()[..written].to_vec()))
+}
+
+fn agreed(
+    one: &dyn Machine,
+    two: &dyn Machine,
+    streams: [&[u8]; 3],
+    call: Call,
+) -> Result<Evaluated, Difference> {
     let (first, second) = (evaluated(one, streams, call), evaluated(two, streams, call));
     for (machine, outcome) in [(one, &first), (two, &second)] {
         if let Some(what) = outcome.broken_promise() {
@@ -137,7 +165,7 @@ pub fn evaluate(
             first.fields
         )));
     }
-    Ok(first.fields)
+    Ok(first)
 }
 
 /// Compares a check call; answers its fields where they agree.

@@ -4,9 +4,9 @@
 use build::{blocks, escaped, Record, GRAMMAR, TEMPLATES};
 use build::{Element, Grammar, Node, Path, Templates, Value};
 use recogniser::{start, BUDGET};
-use trials::compare::{self, Call};
+use trials::compare;
 use trials::generate::Streams;
-use trials::{Fields, Machine, Reference, SECOND};
+use trials::{Fields, Reference, SECOND};
 
 /// The parts of the page: each has a whole and a brief form, and a link.
 const PARTS: u16 = 233;
@@ -129,20 +129,12 @@ fn checked(grammar: &[u8], templates: &[u8]) -> Fields {
         .unwrap_or_else(|difference| panic!("{difference}"))
 }
 
-/// What both machines answer to an evaluate call with enough of all, and the text that one leaves.
+/// What both machines answer to an evaluate call with enough of all, and the text that is left.
 #[track_caller]
 fn rendered(streams: &Streams) -> (Fields, String) {
-    let call = Call {
-        fuel: 100_000,
-        out: 65_536,
-        scratch: 4_800,
-    };
-    let fields = compare::evaluate(&Reference, &SECOND, streams.parts(), call)
+    let (fields, text) = compare::rendered(&Reference, &SECOND, streams.parts())
         .unwrap_or_else(|difference| panic!("{difference}"));
-    let mut out = vec![0; 65_536];
-    SECOND.evaluate(streams.parts(), 100_000, &mut out, &mut [0; 4_800]);
-    out.truncate(fields[4] as usize);
-    (fields, String::from_utf8(out).expect("a text"))
+    (fields, String::from_utf8(text).expect("a text"))
 }
 
 #[test]

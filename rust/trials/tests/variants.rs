@@ -7,7 +7,7 @@ use build::{Element, Grammar, Node, Path, Templates, Value};
 use recogniser::{start, BUDGET};
 use trials::compare::{self, Call};
 use trials::generate::Streams;
-use trials::{Fields, Machine, Reference, SECOND};
+use trials::{Fields, Reference, SECOND};
 
 /// The nonterminals.
 const FEED: u16 = 0;
@@ -218,17 +218,9 @@ fn rendered(templates: &Templates, value: Vec<u8>) -> (Fields, String) {
 
 #[track_caller]
 fn run(streams: &Streams) -> (Fields, String) {
-    let call = Call {
-        fuel: 100_000,
-        out: 65_536,
-        scratch: 4_800,
-    };
-    let fields = compare::evaluate(&Reference, &SECOND, streams.parts(), call)
+    let (fields, text) = compare::rendered(&Reference, &SECOND, streams.parts())
         .unwrap_or_else(|difference| panic!("{difference}"));
-    let mut out = vec![0; 65_536];
-    SECOND.evaluate(streams.parts(), 100_000, &mut out, &mut [0; 4_800]);
-    out.truncate(fields[4] as usize);
-    (fields, String::from_utf8(out).expect("a text"))
+    (fields, String::from_utf8(text).expect("a text"))
 }
 
 #[test]
