@@ -33,9 +33,8 @@
  *
  * THE REFUSALS
  *
- * They are tried in this order, which has 13 between 6 and 7, each over grammar,
- * templates and value before the next; of 10 to 12 the first that the walk meets
- * applies.
+ * They are tried in this order, each over grammar, templates and value before
+ * the next; of 10 to 12 the first that the walk meets applies.
  *
  *    n   what is wrong                                       kind     place
  *   --   -------------------------------------------------   ------   ------------
@@ -58,10 +57,6 @@
  *        class
  *    6   a class has least above most, or a range has        1        the class or
  *        lowest above highest or passes U+10FFFF                      the range
- *   13   a nonterminal derives no text: each of its          1        the first
- *        productions contains a nonterminal that derives              production of
- *        none (itself or another) or a class without a                the first such
- *        lexeme; a repetition may always be empty                     nonterminal
  *    7   a typing rule fails (such as: a match has one arm   2        the node; 0
  *        for each case), or a path names a variable or                for template
  *        field that isn't there; or template 0 is missing             0
@@ -89,8 +84,7 @@
  *   U+0009, U+000A, U+000D, U+0020-U+D7FF, U+E000-U+FFFD, U+10000-U+10FFFF
  *
  * A range may hold others, such as the vertical tab U+000B, and lets none of them
- * in. So a class may have no lexeme, and a nonterminal that can't do without it is
- * 13. A lexeme of an escaped class is the escaped form of a plain one, and it is
+ * in. A lexeme of an escaped class is the escaped form of a plain one, and it is
  * the plain characters that are judged. Keywords and separators are no lexemes:
  * they may hold any bytes.
  */
@@ -135,7 +129,7 @@ extern "C" {
  *
  * Lent:      the grammar's stream and the templates' stream, both only read.
  * Comes back: five zeros if they are accepted; else the first of the refusals
- *            1 to 6, 13 and 7, with its kind and place, steps 0 and bytes 0.
+ *            1 to 7, with its kind and place, steps 0 and bytes 0.
  * Afterwards: every lent byte is as it was; only `answer` is written.
  */
 void feed_check(const uint8_t *grammar, size_t grammar_length,
@@ -149,9 +143,9 @@ void feed_check(const uint8_t *grammar, size_t grammar_length,
  *            visited; the output; and the scratch, of at least FEED_SCRATCH
  *            16-bit numbers, whatever they hold.
  * Comes back: 0 with the steps taken and the length of the text; or the first of
- *            the refusals 1 to 13. For 1 to 9 and 13 steps and bytes are 0. For
- *            10 to 12 they are the steps taken and the bytes written until then.
- * Afterwards, for 1 to 9 and 13:
+ *            the refusals 1 to 12. For 1 to 9 steps and bytes are 0. For 10 to
+ *            12 they are the steps taken and the bytes written until then.
+ * Afterwards, for 1 to 9:
  *            output and scratch keep their bytes.
  * Afterwards, for 0 and 10 to 12:
  *            the first `bytes` bytes of the output are what the walk produced,

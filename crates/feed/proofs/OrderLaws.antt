@@ -1,4 +1,4 @@
--- The order of the checks, in the parts that the code makes of it: 1 to 3, then 4 to 6 and 13, then 7 and 8, then 9.
+-- The order of the checks, in the parts that the code makes of it: 1 to 3, then 4 to 7, then 8 and 9.
 use Prim.Native.Nat.{ℕ, ◌≤◌, ◌<◌}
 use mathlib.Core.Path.{◌≡◌, refl, sym, ap, ◌∙◌}
 use mathlib.Core.List.{List, [], ◌∷◌}
@@ -16,7 +16,7 @@ use Rattle.rules.specs.Typing.{templates_typing, value_typing}
 use Rattle.rules.specs.Answers
 use Rattle.rules.specs.Answers.{answer, Stream, stream_kind, bytes_of, layout_of, limits_of, placed, over, try, accept, set_refusal, check_refusal, scratch_needed, evaluate_refusal, check, kept, unless_refused, evaluate}
 use Rattle.rules.specs.declared.Answer.{Answer}
-use Rattle.laws.specs.Faults.{need_none, both_nil, both_iff, placed_iff, try_iff}
+use Rattle.laws.specs.Faults.{need_none, both_nil, both_iff, on_some, on_none, placed_iff, try_iff}
 use Rattle.records.specs.Children.{Children}
 use Rattle.layout.specs.Heads.{LaidGrammar, LaidTemplates}
 use Rattle.feed.specs.declared.verdict.Offence.{Offence}
@@ -24,7 +24,7 @@ use Rattle.feed.specs.declared.verdict.Offence.TheVariants.{In, Nowhere}
 use Rattle.feed.specs.declared.verdict.Verdict.{Verdict}
 use Rattle.feed.specs.declared.verdict.Verdict.TheVariants.{Refused, Passed}
 use Rattle.feed.specs.Asks.{AllJudged}
-use Rattle.feed.specs.Verdict.{offence_of, verdict_of, first_of, streams_refusal, rules_judgement, types_judgement, judgement, outcome}
+use Rattle.feed.specs.Verdict.{offence_of, verdict_of, first_of, streams_refusal, set_judgement, judgement, outcome}
 
 -- What an offence and a verdict say
 pub offends : (o : Offence) (x : Option (ℕ × ℕ)) (kind place : ℕ) → offence_of o ≡ x → o ≡ In kind place → x ≡ some (kind, place)
@@ -112,26 +112,15 @@ streams_then : (ss : List Stream) → Then (streams_refusal ss)
 unfolding streams_refusal
 streams_then ss = try_then 1 _ _ (try_then 2 _ _ (try_last 3 _))
 
-rules_then : (g t v : List ℕ) (valued : Bool) → Then (rules_judgement g t v valued)
-unfolding rules_judgement
-rules_then g t v valued = try_then 4 _ _ (try_then 5 _ _ (try_then 6 _ _ (try_last 13 _)))
+judgement_then : (g t : List ℕ) (value : Option ℕ) → Then (set_judgement g t value)
+unfolding set_judgement
+judgement_then g t value = try_then 4 _ _ (try_then 5 _ _ (try_then 6 _ _ (try_last 7 _)))
 
--- 4 to 8 and 13, and what is tried next
-judgement_then : List ℕ → List ℕ → List ℕ → Bool → (Unit {0} → Option Answer) → Option Answer
-judgement_then g t v valued next =
-    rules_judgement g t v valued λ _. try 7 (placed 2 (templates_typing g t)) λ _. cond valued (try 8 (placed 3 (value_typing g t v)) next) (next tt)
-
-judgement_then_lem : (g t v : List ℕ) (valued : Bool) → Then (judgement_then g t v valued)
-unfolding judgement_then rules_judgement accept on_found
-judgement_then_lem g t v valued = try_then 4 _ _ (try_then 5 _ _ (try_then 6 _ _ (try_then 13 _ _ (try_then 7 _ _ (value-last valued)))))
-  where
-    value-last : (valued : Bool) → Then (λ next. cond valued (try 8 (placed 3 (value_typing g t v)) next) (next tt))
-    value-last true = try_last 8 _
-    value-last false = λ next. refl
-
-judgement_is : (g t v : List ℕ) (valued : Bool) → judgement_then g t v valued accept ≡ judgement g t v valued
-unfolding judgement_then judgement types_judgement accept
-judgement_is g t v valued = refl
+-- and a part that goes on with another
+judgement_then_then : (g t : List ℕ) (value : Option ℕ) (part : (Unit {0} → Option Answer) → Option Answer) → Then part → (next : Unit {0} → Option Answer)
+    → set_judgement g t value (λ _. part next) ≡ on_found (set_judgement g t value (λ _. part accept)) (next tt) some
+unfolding set_judgement
+judgement_then_then g t value part h next = try_then 4 _ (λ n. try 5 _ (λ _. try 6 _ (λ _. try 7 _ (λ _. part n)))) (try_then 5 _ (λ n. try 6 _ (λ _. try 7 _ (λ _. part n))) (try_then 6 _ (λ n. try 7 _ (λ _. part n)) (try_then 7 _ part h))) next
 
 limits_two : (g t : List ℕ) → over limits_of (two g t) ≡ first_of none (templates_limits t) none
 unfolding limits_of
@@ -145,14 +134,14 @@ first_two : (a b : Option ℕ) → both (placed 1 a) (placed 2 b) ≡ first_of a
 unfolding first_of placed
 first_two a b = ap (both (placed 1 a)) (sym (both_nil (placed 2 b)))
 
-split_two : (g t v : List ℕ) (next : Unit {0} → Option Answer)
-    → set_refusal g t [] next ≡ streams_refusal (two g t) (λ _. judgement_then g t v false next)
-unfolding set_refusal streams_refusal judgement_then rules_judgement
-split_two g t v next = rw (limits_two g t, first_two (grammar_names g) (templates_names g t))
+split_two : (g t : List ℕ) (next : Unit {0} → Option Answer)
+    → set_refusal g t [] next ≡ streams_refusal (two g t) (λ _. set_judgement g t none next)
+unfolding set_refusal streams_refusal set_judgement
+split_two g t next = rw (limits_two g t, first_two (grammar_names g) (templates_names g t))
 
 split_three : (g t v : List ℕ) (next : Unit {0} → Option Answer)
-    → set_refusal g t (Answers.value v ∷ []) (λ _. try 8 (placed 3 (value_typing g t v)) next) ≡ streams_refusal (three g t v) (λ _. judgement_then g t v true next)
-unfolding set_refusal streams_refusal judgement_then rules_judgement
+    → set_refusal g t (Answers.value v ∷ []) next ≡ streams_refusal (three g t v) (λ _. set_judgement g t (value_limits v) next)
+unfolding set_refusal streams_refusal set_judgement
 split_three g t v next = rw (limits_three g t v, first_two (grammar_names g) (templates_names g t))
 
 pub firsts : (a b c x y z : Option ℕ) → a ≡ x → b ≡ y → c ≡ z → first_of a b c ≡ first_of x y z
@@ -219,72 +208,84 @@ laid_children g t v firsts places e {right} h =
     let m = first_none _ _ _ (over_three layout_of g t v ∙ e) in
     h.1 (need_none right 0 (h.0 ∙ m.2))
 
--- 4 to 8 and 13: what refuses, and what is left for the next
-module _ (g t v : List ℕ) (valued : Bool) where
-  by_rules : judgement g t v valued ≡ on_found (rules_judgement g t v valued accept) (types_judgement g t v valued) some
+pub set_passed : (g t : List ℕ) (value : Option ℕ) → set_judgement g t value accept ≡ none → (templates_limits t ≡ none) × (templates_typing g t ≡ none)
+unfolding set_judgement
+set_passed g t value e =
+    let a = (try_iff 4 _ _).0 e in
+    let b = (try_iff 5 _ _).0 a.1 in
+    let c = (try_iff 6 _ _).0 b.1 in
+    let d = (try_iff 7 _ _).0 c.1 in
+    ((first_none _ _ _ a.0).1, (placed_iff 2 _).0 d.0)
+
+-- 4 to 8, with a value or without
+module _ (g t v : List ℕ) where
+  judgement_is : (valued : Bool) → judgement g t v valued
+      ≡ on_found (set_judgement g t (cond valued (value_limits v) none) accept) (cond valued (try 8 (placed 3 (value_typing g t v)) accept) none) some
   unfolding judgement
-  by_rules = rules_then g t v valued _
+  judgement_is valued = judgement_then g t (cond valued (value_limits v) none) _
 
-  pub rules_refuse : (a : Answer) → rules_judgement g t v valued accept ≡ some a → some a ≡ judgement g t v valued
+  pub set_refuses : (valued : Bool) (a : Answer) → set_judgement g t (cond valued (value_limits v) none) accept ≡ some a → judgement g t v valued ≡ some a
   unfolding on_found
-  rules_refuse a e = sym (rw (by_rules, e))
+  set_refuses valued a e = rw (judgement_is valued, e)
 
-  pub rules_pass : (o : Option Answer) → rules_judgement g t v valued accept ≡ none → o ≡ types_judgement g t v valued → o ≡ judgement g t v valued
+  pub set_alone : set_judgement g t none accept ≡ none → judgement g t v false ≡ none
   unfolding on_found
-  rules_pass o e h = h ∙ sym (rw (by_rules, e))
+  set_alone e = rw (judgement_is false, e)
 
-  pub rules_limits : rules_judgement g t v valued accept ≡ none → templates_limits t ≡ none
-  unfolding rules_judgement
-  rules_limits e = (first_none _ _ _ ((try_iff 4 _ _).0 e).0).1
+  pub value_refused : (place : ℕ) → set_judgement g t (value_limits v) accept ≡ none → value_typing g t v ≡ some place → judgement g t v true ≡ some (answer 8 3 place 0 0)
+  unfolding on_found placed try
+  value_refused place e h = rw (judgement_is true, e, h)
 
-  pub judged_set : judgement g t v valued ≡ none → (templates_limits t ≡ none) × (templates_typing g t ≡ none)
-  unfolding judgement types_judgement rules_judgement
-  judged_set e =
-      let a = (try_iff 4 _ _).0 e in
-      let b = (try_iff 13 _ _).0 ((try_iff 6 _ _).0 ((try_iff 5 _ _).0 a.1).1).1 in
-      ((first_none _ _ _ a.0).1, (placed_iff 2 _).0 ((try_iff 7 _ _).0 b.1).0)
+  pub value_passed : set_judgement g t (value_limits v) accept ≡ none → value_typing g t v ≡ none → judgement g t v true ≡ none
+  unfolding on_found placed try accept
+  value_passed e h = rw (judgement_is true, e, h)
 
--- 8, if a value comes
-module _ (g t v : List ℕ) (valued : Bool) where
-  pub unvalued : valued ≡ false → none ≡ cond valued (try 8 (placed 3 (value_typing g t v)) accept) none
-  unvalued e = sym (rw e)
+  set_within : (o last : Option Answer) → on_found o last some ≡ none → (o ≡ none) × (last ≡ none)
+  unfolding on_found
+  set_within none last e = (refl, e)
+  set_within (some a) last e = absurd (some-ne-none a e)
 
-  pub valued_refused : valued ≡ true → (place : ℕ) → value_typing g t v ≡ some place
-      → some (answer 8 3 place 0 0) ≡ cond valued (try 8 (placed 3 (value_typing g t v)) accept) none
-  valued_refused e place h = tried 8 _ _ _ accept (placed_some 3 _ _ h) ∙ sym (rw e)
-
-  pub valued_passed : valued ≡ true → value_typing g t v ≡ none → none ≡ cond valued (try 8 (placed 3 (value_typing g t v)) accept) none
-  unfolding accept
-  valued_passed e h = went_on 8 _ accept (placed_none 3 _ h) ∙ sym (rw e)
+  pub judged_set : judgement g t v true ≡ none → (templates_limits t ≡ none) × (templates_typing g t ≡ none)
+  judged_set e = set_passed g t (value_limits v) (set_within _ _ (sym (judgement_is true) ∙ e)).0
 
 -- the check call
 module _ (g t : List ℕ) where
-  check_is : (v : List ℕ) → check g t ≡ on_found (on_found (streams_refusal (two g t) accept) (judgement g t v false) some) (answer 0 0 0 0 0) (λ a. a)
+  check_is : check g t ≡ on_found (on_found (streams_refusal (two g t) accept) (set_judgement g t none accept) some) (answer 0 0 0 0 0) (λ a. a)
   unfolding check check_refusal
-  check_is v = rw (split_two g t v accept, streams_then (two g t) (λ _. judgement_then g t v false accept), judgement_is g t v false)
+  check_is = rw (split_two g t accept, streams_then (two g t) (λ _. set_judgement g t none accept))
+
+  alone : (v : List ℕ) → judgement g t v false ≡ set_judgement g t none accept
+  alone v = judgement_is g t v false ∙ go (set_judgement g t none accept)
+    where
+      go : (o : Option Answer) → on_found o none some ≡ o
+      go none = on_none none some refl
+      go (some a) = on_some none some refl
 
   pub check_streams : (a : Answer) → streams_refusal (two g t) accept ≡ some a → a ≡ check g t
   unfolding on_found
-  check_streams a e = rw (check_is g, e)
+  check_streams a e = rw (check_is, e)
 
   pub check_refused : (v : List ℕ) (a : Answer) → streams_refusal (two g t) accept ≡ none → judgement g t v false ≡ some a → a ≡ check g t
   unfolding on_found
-  check_refused v a e h = rw (check_is v, e, h)
+  check_refused v a e h = rw (check_is, e, ← alone v, h)
 
   pub check_accepts : (v : List ℕ) → streams_refusal (two g t) accept ≡ none → judgement g t v false ≡ none → answer 0 0 0 0 0 ≡ check g t
   unfolding on_found
-  check_accepts v e h = rw (check_is v, e, h)
+  check_accepts v e h = rw (check_is, e, ← alone v, h)
 
 -- the evaluate call
 module _ (g t v scratch : List ℕ) where
   last : Option Answer
   last = try 9 (placed 0 (need (leb scratch_needed (length scratch)) 0)) accept
 
+  value_then : (next : Unit {0} → Option Answer) → set_judgement g t (value_limits v) (λ _. try 8 (placed 3 (value_typing g t v)) next)
+      ≡ on_found (judgement g t v true) (next tt) some
+  unfolding judgement
+  value_then next = judgement_then_then g t (value_limits v) (try 8 (placed 3 (value_typing g t v))) (try_last 8 _) next
+
   refusal_is : evaluate_refusal g t v scratch ≡ on_found (streams_refusal (three g t v) accept) (on_found (judgement g t v true) last some) some
   unfolding evaluate_refusal last
-  refusal_is =
-      split_three g t v _ ∙ streams_then (three g t v) _
-      ∙ ap (λ (x : Option Answer). on_found (streams_refusal (three g t v) accept) x some) (judgement_then_lem g t v true _ ∙ rw (judgement_is g t v true))
+  refusal_is = split_three g t v _ ∙ streams_then (three g t v) _ ∙ ap (λ (x : Option Answer). on_found (streams_refusal (three g t v) accept) x some) (value_then _)
 
   pub none_refuses : streams_refusal (three g t v) accept ≡ none → judgement g t v true ≡ none → 4800 ≤ length scratch → evaluate_refusal g t v scratch ≡ none
   unfolding on_found last placed try need scratch_needed deepest accept

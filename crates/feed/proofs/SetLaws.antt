@@ -1,34 +1,33 @@
--- What refusals 4 to 8 and 13 and the walk ask of what came before them, and of the tables of heads.
+-- What refusals 4 to 8 and the walk ask of what came before them, and of the tables of heads.
 use Prim.Native.Nat.{ℕ, ◌+◌, ◌-◌, ◌*◌, ◌≤◌}
-use mathlib.Core.Path.{◌≡◌}
+use mathlib.Core.Path.{◌≡◌, sym, ap, ◌∙◌}
 use mathlib.Core.List.{List, [], ◌∷◌}
-use mathlib.Core.Bool.{Bool}
-use mathlib.Core.Option.{none}
+use mathlib.Core.Bool.{Bool, true, false, cond}
+use mathlib.Core.Option.{Option, none, some, some-ne-none}
 use native.Mathlib.Omega.{arith}
 use lib.ListN.{length, take, drop, length-take}
 use Rattle.rules.specs.Blocks.{stream_length}
 use Rattle.rules.specs.Records.{record_count}
 use Rattle.rules.specs.Grammar.{classes, productions}
 use Rattle.rules.specs.Templates.{types, templates}
-use Rattle.rules.specs.Limits.{deepest, templates_limits}
-use Rattle.rules.specs.Names.{grammar_names, templates_names}
-use Rattle.rules.specs.Typing.{templates_typing}
+use Rattle.rules.specs.Limits.{deepest, templates_limits, value_limits}
+use Rattle.rules.specs.Typing.{templates_typing, value_typing}
 use Rattle.rules.specs.Answers
-use Rattle.rules.specs.Answers.{accept, scratch_needed}
+use Rattle.rules.specs.Answers.{answer, accept, scratch_needed}
+use Rattle.rules.specs.declared.Answer.{Answer}
 use Rattle.laws.specs.Reads.{few_records}
 use Rattle.records.specs.Children.{Children}
 use Rattle.lexeme.specs.Sets.{SetsLent, Compiled, LexemesReady}
-use Rattle.finite.specs.Found.{FiniteAsks}
 use Rattle.layout.specs.Heads.{most_classes, LaidGrammar, LaidTemplates, Tables}
 use Rattle.layout.specs.declared.heads.Counts.{Counts}
 use Rattle.typing.specs.Asks.{TemplatesAsk, ValueAsks}
 use Rattle.walk.specs.Marks.{ProductionHeads}
 use Rattle.walk.specs.Asks.{sources, Walkable}
 use Rattle.feed.specs.declared.verdict.Verdict.{Verdict}
-use Rattle.feed.specs.declared.verdict.Verdict.TheVariants.{Passed}
-use Rattle.feed.specs.Verdict.{verdict_of, first_of, streams_refusal, judgement}
-use Rattle.feed.specs.Asks.{ChildRoom, AllJudged, Tabled, Judgeable, TypesAsk, HeadsAsk, HeadsJudged, GrammarRoom, CheckAsks, StreamsLaid, EvaluateAsks}
-use Rattle.feed.proofs.OrderLaws.{passes, first_none, two_laid, three_laid}
+use Rattle.feed.specs.declared.verdict.Verdict.TheVariants.{Refused, Passed}
+use Rattle.feed.specs.Verdict.{verdict_of, streams_refusal, set_judgement, judgement}
+use Rattle.feed.specs.Asks.{ChildRoom, AllJudged, Tabled, Judgeable, SetAsks, SetJudged, JudgeAsks, HeadsAsk, HeadsJudged, GrammarRoom, CheckAsks, StreamsLaid, EvaluateAsks}
+use Rattle.feed.proofs.OrderLaws.{passes, two_laid, three_laid, set_alone, value_refused, value_passed}
 use Rattle.feed.proofs.EndLaws.{paths_fit}
 
 -- rows for the children of a value: a small one for a stream of at most 8 blocks, a large one for any that refusal 1 lets through
@@ -109,35 +108,33 @@ module _ (g t of-g of-t of-g₀ of-t₀ : List ℕ) (m n : Counts) (lg : LaidGra
     in_templates = b.fit;
   }
 
+-- the sets
+pub judged_refused : (g t : List ℕ) (value : Option ℕ) (cs sets : List ℕ) (number kind place : ℕ)
+    → some (answer number kind place 0 0) ≡ set_judgement g t value accept → SetJudged g t value cs sets (Refused number kind place)
+judged_refused g t value cs sets number kind place e =
+    record { is = e; compiled = λ h. absurd (some-ne-none (answer number kind place 0 0) (ap verdict_of h)) }
+
+pub judged_passed : (g t : List ℕ) (value : Option ℕ) (cs sets : List ℕ) → none ≡ set_judgement g t value accept → LexemesReady g cs sets
+    → SetJudged g t value cs sets Passed
+judged_passed g t value cs sets e r = record { is = e; compiled = λ h. r }
+
 pub small_room : (a b n : ℕ) → a + b ≤ n → a ≤ n
 small_room a b n l = omega arith
 
-module _ (g t v cs ps us ts sets : List ℕ) (a : Judgeable g t v cs ps us ts) (l : templates_limits t ≡ none) where
-  pub large_asks : length sets ≡ 40832 → TypesAsk g t v cs ps us ts sets
-  large_asks r = let f = a.tabled.few_classes in record { judgeable = a; room = omega arith; limits = l }
+module _ (g t v cs ps us ts sets : List ℕ) (a : Judgeable g t v cs ps us ts) where
+  pub large_asks : length sets ≡ 40832 → JudgeAsks g t v cs ps us ts sets
+  large_asks r = let f = a.tabled.few_classes in record { set = record { tabled = a.tabled; room = omega arith }; value_sized = a.value_sized }
 
-  pub small_asks : length sets ≡ 4096 → 128 * length cs ≤ 4096 → TypesAsk g t v cs ps us ts sets
-  small_asks r f = record { judgeable = a; room = omega arith; limits = l }
+  pub small_asks : length sets ≡ 4096 → 128 * length cs ≤ 4096 → JudgeAsks g t v cs ps us ts sets
+  small_asks r f = record { set = record { tabled = a.tabled; room = omega arith }; value_sized = a.value_sized }
 
-pub sets_lent : (g t v cs ps us ts sets : List ℕ) → TypesAsk g t v cs ps us ts sets → SetsLent g cs sets
-sets_lent g t v cs ps us ts sets a =
-    let b = a.judgeable.tabled in
-    record { grammar_sized = b.grammar_sized; heads = b.classes_are; room = a.room }
-
-pub sets_ready : (g t cs ps us ts sets : List ℕ) → Tabled g t cs ps us ts → Compiled g sets → LexemesReady g cs sets
-sets_ready g t cs ps us ts sets a c = record { grammar_sized = a.grammar_sized; heads = a.classes_are; sets = c }
-
--- what 13 asks, where 5 let both streams through
-pub names_passed : (g t cs ps us ts : List ℕ) → Tabled g t cs ps us ts → first_of (grammar_names g) (templates_names g t) none ≡ none → FiniteAsks g cs ps
-names_passed g t cs ps us ts a e = record {
-  of_classes = record { sized = a.grammar_sized; classes_are = a.classes_are; few_classes = a.few_classes; named = (first_none _ _ _ e).0 };
-  productions_are = a.productions_are;
-}
+pub sets_lent : (g t cs ps us ts sets : List ℕ) → SetAsks g t cs ps us ts sets → SetsLent g cs sets
+sets_lent g t cs ps us ts sets a = record { grammar_sized = a.tabled.grammar_sized; heads = a.tabled.classes_are; room = a.room }
 
 -- what 7, 8 and the walk ask
 pub typing_asks : (g t cs ps us ts sets : List ℕ) → Tabled g t cs ps us ts → Compiled g sets → templates_limits t ≡ none → TemplatesAsk g t cs sets ps us ts
 typing_asks g t cs ps us ts sets a c e = record {
-  lexemes = sets_ready g t cs ps us ts sets a c;
+  lexemes = record { grammar_sized = a.grammar_sized; heads = a.classes_are; sets = c };
   productions_are = a.productions_are;
   types_are = a.types_are;
   templates_are = a.templates_are;
@@ -155,6 +152,20 @@ value_asks g t v cs ps us ts sets a l r = record {
   sized_t = a.templates_sized;
   sized_v = l;
 }
+
+pub judged_limits : (g t : List ℕ) (a b : Option ℕ) (o : Option Answer) → o ≡ set_judgement g t a accept → a ≡ b → o ≡ set_judgement g t b accept
+judged_limits g t a b o e h = e ∙ ap (λ (x : Option ℕ). set_judgement g t x accept) h
+
+-- the verdict of the set, with the value's depth as the code has it
+module _ (g t v : List ℕ) (valued : Bool) (deep : Option ℕ) where
+  pub unvalued_limits : valued ≡ false → deep ≡ cond valued (value_limits v) none → set_judgement g t deep accept ≡ none → none ≡ judgement g t v valued
+  unvalued_limits b e h = sym (rw b (set_alone g t v (ap (λ (x : Option ℕ). set_judgement g t x accept) (sym (e ∙ rw b)) ∙ h)))
+
+  pub valued_limits : valued ≡ true → deep ≡ cond valued (value_limits v) none → set_judgement g t deep accept ≡ none
+      → ((place : ℕ) → value_typing g t v ≡ some place → judgement g t v valued ≡ some (answer 8 3 place 0 0)) × (value_typing g t v ≡ none → judgement g t v valued ≡ none)
+  valued_limits b e h =
+      let k : set_judgement g t (value_limits v) accept ≡ none = ap (λ (x : Option ℕ). set_judgement g t x accept) (sym (e ∙ rw b)) ∙ h in
+      (λ place z. rw b (value_refused g t v place k z), λ z. rw b (value_passed g t v k z))
 
 pub walk_asks : (g t v cs ps us ts heads firsts places scratch : List ℕ) → Tabled g t cs ps us ts → ProductionHeads g heads → templates_limits t ≡ none → templates_typing g t ≡ none
     → stream_length v ≡ none → Children v firsts places → 4800 ≤ length scratch → Walkable (sources g t v heads ts firsts places) scratch

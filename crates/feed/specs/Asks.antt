@@ -1,20 +1,20 @@
 -- What the parts of a call are lent, and what they promise.
 use Rattle.std.specs.Prelude.{ℕ, ◌+◌, ◌*◌, ◌≤◌, ◌<◌, ◌≡◌, Bool, List, [], ◌∷◌, length}
-use Rattle.std.proofs.Math.Option.{none}
+use Rattle.std.proofs.Math.Option.{Option, none}
 use Rattle.rules.specs.Blocks.{stream_length}
 use Rattle.rules.specs.Records.{record_count}
 use Rattle.rules.specs.Grammar.{classes, productions}
 use Rattle.rules.specs.Templates.{types, templates}
-use Rattle.rules.specs.Limits.{templates_limits}
 use Rattle.rules.specs.Answers
 use Rattle.rules.specs.Answers.{grammar, value, accept}
 use Rattle.records.specs.Children.{Children}
+use Rattle.lexeme.specs.Sets.{LexemesReady}
 use Rattle.layout.specs.Heads.{part, LaidGrammar, LaidTemplates}
 use Rattle.walk.specs.Marks.{ProductionHeads}
 use Rattle.feed.specs.declared.set.Judged.{Judged}
 use Rattle.feed.specs.declared.verdict.Verdict.{Verdict}
 use Rattle.feed.specs.declared.verdict.Verdict.TheVariants.{Passed}
-use Rattle.feed.specs.Verdict.{verdict_of, streams_refusal, judgement}
+use Rattle.feed.specs.Verdict.{verdict_of, streams_refusal, set_judgement, judgement}
 
 -- the two rows of a table have room for the children of a value of right length
 pub record ChildRoom (v firsts places : List ℕ) : Type 0 where
@@ -41,16 +41,19 @@ pub record Judgeable (g t v cs ps us ts : List ℕ) : Type 0 where
   pub tabled : Tabled g t cs ps us ts
   pub value_sized : stream_length v ≡ none
 
--- and classes whose sets a small table has room for
-pub record SmallSets (g t v cs ps us ts : List ℕ) : Type 0 where
-  pub judgeable : Judgeable g t v cs ps us ts
-  pub small : 128 * length cs ≤ 4096
-
--- and room for a set of each class, of a template set that 4 let through
-pub record TypesAsk (g t v cs ps us ts sets : List ℕ) : Type 0 where
-  pub judgeable : Judgeable g t v cs ps us ts
+-- and room for a set of each class
+pub record SetAsks (g t cs ps us ts sets : List ℕ) : Type 0 where
+  pub tabled : Tabled g t cs ps us ts
   pub room : 128 * length cs ≤ length sets
-  pub limits : templates_limits t ≡ none
+
+pub record JudgeAsks (g t v cs ps us ts sets : List ℕ) : Type 0 where
+  pub set : SetAsks g t cs ps us ts sets
+  pub value_sized : stream_length v ≡ none
+
+-- the verdict is that of 4 to 7; if all passed, the sets are those of the classes
+pub record SetJudged (g t : List ℕ) (value : Option ℕ) (cs sets : List ℕ) (r : Verdict) : Type 0 where
+  pub is : verdict_of r ≡ set_judgement g t value accept
+  pub compiled : r ≡ Passed → LexemesReady g cs sets
 
 -- streams that are laid out, with a value of right length, and tables with room for the heads of all four kinds
 pub record HeadsAsk (g t v of-g of-t : List ℕ) : Type 0 where
@@ -60,7 +63,7 @@ pub record HeadsAsk (g t v of-g of-t : List ℕ) : Type 0 where
   pub grammar_room : record_count g ≤ length of-g
   pub templates_room : record_count t ≤ length of-t
 
--- the verdict is that of 4 to 8 and 13, and the heads of each kind stand in their table, up to its end
+-- the verdict is that of 4 to 8, and the heads of each kind stand in their table, up to its end
 pub record HeadsJudged (g t v : List ℕ) (valued : Bool) (of-g of-t : List ℕ) (r : Judged) : Type 0 where
   pub is : verdict_of r.verdict ≡ judgement g t v valued
   pub tabled : Tabled g t (part 0 r.classes of-g) (part r.classes r.productions of-g) (part 0 r.types of-t) (part r.types r.templates of-t)

@@ -6,7 +6,6 @@ use Rattle.rules.specs.Blocks.{stream_length, stream_blocks}
 use Rattle.rules.specs.Limits.{templates_limits, value_limits}
 use Rattle.rules.specs.Names.{grammar_names, templates_names}
 use Rattle.rules.specs.Classes.{grammar_classes}
-use Rattle.rules.specs.Finite.{grammar_finite}
 use Rattle.rules.specs.Typing.{templates_typing, value_typing}
 use Rattle.rules.specs.Answers.{answer, Stream, stream_kind, bytes_of, layout_of, placed, over, try, accept, Outcome, Written}
 use Rattle.rules.specs.declared.Answer.{Answer}
@@ -35,21 +34,19 @@ streams_refusal streams next =
     try 2 (over (λ s. stream_blocks (stream_kind s) (bytes_of s)) streams) λ _.
     try 3 (over layout_of streams) next
 
--- refusals 4 to 6 and 13 of a set, with 4 of a value if one comes, and what is tried next
-unfoldable pub rules_judgement : List ℕ → List ℕ → List ℕ → Bool → (Unit {0} → Option Answer) → Option Answer
-rules_judgement g t v valued next =
-    try 4 (first_of none (templates_limits t) (cond valued (value_limits v) none)) λ _.
+-- refusals 4 to 7 of a set that comes with a value of which refusal 4 says this, and what is tried next
+unfoldable pub set_judgement : List ℕ → List ℕ → Option ℕ → (Unit {0} → Option Answer) → Option Answer
+set_judgement g t value next =
+    try 4 (first_of none (templates_limits t) value) λ _.
     try 5 (first_of (grammar_names g) (templates_names g t) none) λ _.
     try 6 (placed 1 (grammar_classes g)) λ _.
-    try 13 (placed 1 (grammar_finite g)) next
+    try 7 (placed 2 (templates_typing g t)) next
 
--- refusal 7 of a set, and 8 of a value if one comes
-unfoldable pub types_judgement : List ℕ → List ℕ → List ℕ → Bool → Option Answer
-types_judgement g t v valued = try 7 (placed 2 (templates_typing g t)) λ _. cond valued (try 8 (placed 3 (value_typing g t v)) accept) none
-
--- all of these
+-- refusals 4 to 7 of a set, and 4 and 8 of a value if one comes with it
 unfoldable pub judgement : List ℕ → List ℕ → List ℕ → Bool → Option Answer
-judgement g t v valued = rules_judgement g t v valued λ _. types_judgement g t v valued
+judgement g t v valued =
+    set_judgement g t (cond valued (value_limits v) none) λ _.
+    cond valued (try 8 (placed 3 (value_typing g t v)) accept) none
 
 -- the answer of a run: "kind and place are 0 when finished"
 unfoldable pub run_answer : Run → Answer

@@ -36,7 +36,7 @@ const SMALL_GRAMMAR_HEADS: usize = 505;
 // Refusal 9: "fewer than 4,800 16-bit numbers, 24 for each depth".
 const SCRATCH: usize = 4800;
 
-// 4 to 7 and 13 of a grammar and a template set that 1 to 3 let through. Their heads go into tables that are lent.
+// 4 to 7 of a grammar and a template set that 1 to 3 let through. Their heads go into tables that are lent.
 fn check_set(g: &[u8], t: &[u8], gheads: &mut [u16], theads: &mut [u16]) -> Answer
     requires check_asks { CheckAsks g.now t.now theads.old }
     requires grammar_room { GrammarRoom g.now gheads.old }
@@ -63,7 +63,7 @@ fn check_tabled(g: &[u8], t: &[u8], theads: &mut [u16]) -> Answer
     check_set(g, t, &mut gheads, theads)
 }
 
-// The check call: 1 to 7 and 13 of a grammar and a template set. Five zeros mean accepted. Small streams, which are most, take small tables of heads,
+// The check call: 1 to 7 of a grammar and a template set. Five zeros mean accepted. Small streams, which are most, take small tables of heads,
 // which are sooner cleared.
 pub fn check(g: &[u8], t: &[u8]) -> Answer
     ensures { result ≡ check g.now t.now }
@@ -90,7 +90,7 @@ fn mark_heads(g: &[u8], heads: &mut [u16], classes: usize, productions: usize) -
     classes - marks
 }
 
-// 4 to 9 and 13 of a set and a value that 1 to 3 let through, and the walk. The heads go into tables that are lent.
+// 4 to 9 of a set and a value that 1 to 3 let through, and the walk. The heads go into tables that are lent.
 fn evaluate_set(
     g: &[u8],
     t: &[u8],
@@ -192,7 +192,7 @@ fn evaluate_laid(
     evaluate_tabled(g, t, v, firsts, places, &mut theads, fuel, out, scratch)
 }
 
-// The evaluate call: 1 to 9 and 13, and then the walk. Refused by these it leaves the output and the scratch as they were. A small value takes a small
+// The evaluate call: 1 to 9, and then the walk. Refused by 1 to 9 it leaves the output and the scratch as they were. A small value takes a small
 // table of children; one of no right length needs none, as 1 refuses it. (1 to 3 are judged in each branch: called from two places, the scan of
 // the value stays a function of its own in the machine code, and keeps its registers to itself.)
 pub fn evaluate(

@@ -1,16 +1,14 @@
-// Refusals 4 to 8 and 13, and the tables of heads that they go by.
+// Refusals 4 to 8, and the tables of heads that they go by.
 ghost use Rattle.std.specs.Prelude.{◌≡◌, true, cond, ◌*◌, ◌≤◌};
 ghost use Rattle.std.proofs.Math.Option.{none};
 ghost use Rattle.rules.specs.Blocks.{stream_length};
 ghost use Rattle.rules.specs.Limits.{value_limits};
 ghost use Rattle.rules.specs.Names.{grammar_names, templates_names};
-ghost use Rattle.rules.specs.Answers.{accept};
 ghost use Rattle.stream.specs.Fault.{fault_of};
-ghost use Rattle.feed.specs.Asks.{Tabled, Judgeable, SmallSets, TypesAsk, HeadsAsk, HeadsJudged};
-ghost use Rattle.feed.specs.Verdict.{offence_of, verdict_of, first_of, rules_judgement, types_judgement, judgement};
+ghost use Rattle.feed.specs.Asks.{Tabled, Judgeable, SetAsks, SetJudged, JudgeAsks, HeadsAsk, HeadsJudged};
+ghost use Rattle.feed.specs.Verdict.{offence_of, verdict_of, first_of, judgement};
 
 use crate::verdict::{Offence, Verdict, first};
-use finite::grammar_finite;
 use layout::heads::{grammar_heads, templates_heads};
 use lexeme::sets::{SMALL_TABLE, TABLE, class_sets};
 use limits::classes::grammar_classes;
@@ -23,7 +21,7 @@ use stream::Fault;
 use typing::templates::templates_typing;
 use typing::value::value_typing;
 
-// What refusals 4 to 8 and 13 say, and where the heads of each kind end in their table: productions stand behind classes, templates behind types.
+// What refusals 4 to 8 say, and where the heads of each kind end in their table: productions stand behind classes, templates behind types.
 #[derive(Drop)]
 pub(crate) struct Judged {
     pub verdict: Verdict,
@@ -33,7 +31,7 @@ pub(crate) struct Judged {
     pub templates: usize,
 }
 
-// Refusal 5 of both streams.
+// Refusal 5 of both streams. (The nonterminals are marked on this function's own stack, which is free again for the typing.)
 fn judge_names(
     g: &[u8],
     t: &[u8],
@@ -49,6 +47,37 @@ fn judge_names(
     let of_g = grammar_names(g, classes, productions, &marked);
     let of_t = templates_names(g, t, classes, productions, types, templates, &marked);
     first(of_g, of_t, Fault::Nowhere)
+}
+
+// `value` is what refusal 4 says of the value that comes with them. The class sets are compiled on the way, for the texts of the templates and
+// of the value.
+fn judge_set(
+    g: &[u8],
+    t: &[u8],
+    value: Fault,
+    classes: &[u16],
+    productions: &[u16],
+    types: &[u16],
+    templates: &[u16],
+    sets: &mut [u16],
+) -> Verdict
+    requires { SetAsks g.now t.now classes.now productions.now types.now templates.now sets.old }
+    ensures { SetJudged g.now t.now (fault_of value) classes.now sets.new result }
+{
+    if let Offence::In(kind, place) = first(Fault::Nowhere, templates_limits(t, templates), value) {
+        return Verdict::Refused(4, kind, place);
+    }
+    if let Offence::In(kind, place) = judge_names(g, t, classes, productions, types, templates) {
+        return Verdict::Refused(5, kind, place);
+    }
+    if let Fault::At(place) = grammar_classes(g, classes) {
+        return Verdict::Refused(6, 1, place);
+    }
+    class_sets(g, classes, sets);
+    if let Fault::At(place) = templates_typing(g, t, classes, sets, productions, types, templates) {
+        return Verdict::Refused(7, 2, place);
+    }
+    Verdict::Passed
 }
 
 // Whether a small table has room for the sets of so many classes, and for hints to all ranges that the grammar could have.
@@ -70,41 +99,8 @@ fn value_depth(v: &[u8], valued: bool) -> Fault
     Fault::Nowhere
 }
 
-// 4 to 6 and 13, with 4 of a value if one comes. (It is called from two places, and is too large for the compiler to put it into either: so what it
-// takes of the stack, for the nonterminals that exist and for those that derive a text, is free again for the typing.)
-fn judge_rules(
-    g: &[u8],
-    t: &[u8],
-    v: &[u8],
-    valued: bool,
-    classes: &[u16],
-    productions: &[u16],
-    types: &[u16],
-    templates: &[u16],
-) -> Verdict
-    requires { Judgeable g.now t.now v.now classes.now productions.now types.now templates.now }
-    ensures { verdict_of result ≡ rules_judgement g.now t.now v.now valued accept }
-{
-    let of_t = templates_limits(t, templates);
-    let of_v = value_depth(v, valued);
-    if let Offence::In(kind, place) = first(Fault::Nowhere, of_t, of_v) {
-        return Verdict::Refused(4, kind, place);
-    }
-    if let Offence::In(kind, place) = judge_names(g, t, classes, productions, types, templates) {
-        return Verdict::Refused(5, kind, place);
-    }
-    if let Fault::At(place) = grammar_classes(g, classes) {
-        return Verdict::Refused(6, 1, place);
-    }
-    if let Fault::At(place) = grammar_finite(g, classes, productions) {
-        return Verdict::Refused(13, 1, place);
-    }
-    Verdict::Passed
-}
-
-// 7 of a set that 4 to 6 and 13 let through, and 8 of a value if one comes, over a table of class sets. These are compiled first, for the texts of the
-// templates and of the value.
-fn judge_types(
+// 4 to 8 over a table of class sets.
+fn judge_over(
     g: &[u8],
     t: &[u8],
     v: &[u8],
@@ -115,12 +111,13 @@ fn judge_types(
     templates: &[u16],
     sets: &mut [u16],
 ) -> Verdict
-    requires { TypesAsk g.now t.now v.now classes.now productions.now types.now templates.now sets.old }
-    ensures { verdict_of result ≡ types_judgement g.now t.now v.now valued }
+    requires { JudgeAsks g.now t.now v.now classes.now productions.now types.now templates.now sets.old }
+    ensures { verdict_of result ≡ judgement g.now t.now v.now valued }
 {
-    class_sets(g, classes, sets);
-    if let Fault::At(place) = templates_typing(g, t, classes, sets, productions, types, templates) {
-        return Verdict::Refused(7, 2, place);
+    let deep = value_depth(v, valued);
+    let of_set = judge_set(g, t, deep, classes, productions, types, templates, sets);
+    if let Verdict::Refused(number, kind, place) = of_set {
+        return Verdict::Refused(number, kind, place);
     }
     if !valued {
         return Verdict::Passed;
@@ -131,70 +128,7 @@ fn judge_types(
     Verdict::Passed
 }
 
-// 4 to 8 and 13, with a small table of class sets, and with a large one.
-fn judge_small(
-    g: &[u8],
-    t: &[u8],
-    v: &[u8],
-    valued: bool,
-    classes: &[u16],
-    productions: &[u16],
-    types: &[u16],
-    templates: &[u16],
-) -> Verdict
-    requires { SmallSets g.now t.now v.now classes.now productions.now types.now templates.now }
-    ensures { verdict_of result ≡ judgement g.now t.now v.now valued }
-{
-    let ruled = judge_rules(g, t, v, valued, classes, productions, types, templates);
-    if let Verdict::Refused(number, kind, place) = ruled {
-        return Verdict::Refused(number, kind, place);
-    }
-    let mut sets = [0u16; SMALL_TABLE];
-    judge_types(
-        g,
-        t,
-        v,
-        valued,
-        classes,
-        productions,
-        types,
-        templates,
-        &mut sets,
-    )
-}
-
-fn judge_large(
-    g: &[u8],
-    t: &[u8],
-    v: &[u8],
-    valued: bool,
-    classes: &[u16],
-    productions: &[u16],
-    types: &[u16],
-    templates: &[u16],
-) -> Verdict
-    requires { Judgeable g.now t.now v.now classes.now productions.now types.now templates.now }
-    ensures { verdict_of result ≡ judgement g.now t.now v.now valued }
-{
-    let ruled = judge_rules(g, t, v, valued, classes, productions, types, templates);
-    if let Verdict::Refused(number, kind, place) = ruled {
-        return Verdict::Refused(number, kind, place);
-    }
-    let mut sets = [0u16; TABLE];
-    judge_types(
-        g,
-        t,
-        v,
-        valued,
-        classes,
-        productions,
-        types,
-        templates,
-        &mut sets,
-    )
-}
-
-// Small grammars, which are most, take the small table, which is sooner cleared.
+// The same with a table of class sets of its own. Small grammars, which are most, take a small one, which is sooner cleared.
 fn judge_tabled(
     g: &[u8],
     t: &[u8],
@@ -209,14 +143,36 @@ fn judge_tabled(
     ensures { verdict_of result ≡ judgement g.now t.now v.now valued }
 {
     if fits_small(g, classes.len()) {
-        return judge_small(g, t, v, valued, classes, productions, types, templates);
+        let mut sets = [0u16; SMALL_TABLE];
+        return judge_over(
+            g,
+            t,
+            v,
+            valued,
+            classes,
+            productions,
+            types,
+            templates,
+            &mut sets,
+        );
     }
-    judge_large(g, t, v, valued, classes, productions, types, templates)
+    let mut sets = [0u16; TABLE];
+    judge_over(
+        g,
+        t,
+        v,
+        valued,
+        classes,
+        productions,
+        types,
+        templates,
+        &mut sets,
+    )
 }
 
-// 4 to 7 and 13 of a grammar and a template set that 1 to 3 let through, and 4 and 8 of a value if one comes with them. The heads go into tables that
-// are lent. The class sets lie on this function's stack, and are gone when the walk starts: check and evaluate both judge by it, and it is too
-// large for the compiler to put it into either.
+// 4 to 7 of a grammar and a template set that 1 to 3 let through, and 4 and 8 of a value if one comes with them. The heads go into tables that are
+// lent. The class sets lie on this function's stack, and are gone when the walk starts: check and evaluate both judge by it, and it is too large
+// for the compiler to put it into either.
 pub(crate) fn judge(
     g: &[u8],
     t: &[u8],

@@ -46,7 +46,7 @@ pub(crate) fn first(g: Fault, t: Fault, v: Fault) -> Offence
     Offence::Nowhere
 }
 
-// A refusal by 1 to 9 or 13: steps and bytes are 0.
+// A refusal by 1 to 9: steps and bytes are 0.
 pub(crate) fn refused(number: u8, kind: u8, place: usize) -> Answer
     ensures { result ≡ answer number kind place 0 0 }
 {

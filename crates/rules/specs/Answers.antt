@@ -7,7 +7,6 @@ use Rattle.rules.specs.Layout.{grammar_layout, templates_layout, value_layout}
 use Rattle.rules.specs.Limits.{deepest, templates_limits, value_limits}
 use Rattle.rules.specs.Names.{grammar_names, templates_names}
 use Rattle.rules.specs.Classes.{grammar_classes}
-use Rattle.rules.specs.Finite.{grammar_finite}
 use Rattle.rules.specs.Escape.{unescaped}
 use Rattle.rules.specs.Lexeme.{characters_of}
 use Rattle.rules.specs.Typing.{templates_typing, value_typing}
@@ -59,8 +58,7 @@ try number (some (kind, place)) next = some (answer number kind place 0 0)
 unfoldable pub accept : Unit {0} → Option Answer
 accept _ = none
 
--- The order of the checks. 1 to 7, of a grammar and a template set; 1 to 4 also of the streams that come with them. 02 h: "13, tried after 6 and before
--- 7"; 01: "A refusal numbered 13 or more returns and leaves what 1 to 9 do".
+-- The order of the checks. 1 to 7, of a grammar and a template set; 1 to 4 also of the streams that come with them:
 unfoldable pub set_refusal : List ℕ → List ℕ → List Stream → (Unit {0} → Option Answer) → Option Answer
 set_refusal g t more next =
     let streams = grammar g ∷ templates t ∷ more in
@@ -70,7 +68,6 @@ set_refusal g t more next =
     try 4 (over limits_of streams) λ _.
     try 5 (both (placed 1 (grammar_names g)) (placed 2 (templates_names g t))) λ _.
     try 6 (placed 1 (grammar_classes g)) λ _.
-    try 13 (placed 1 (grammar_finite g)) λ _.
     try 7 (placed 2 (templates_typing g t)) next
 
 -- "The check call tries 1 to 7 on grammar and templates"

@@ -15,7 +15,6 @@ use Rattle.rules.specs.Layout
 use Rattle.rules.specs.Limits
 use Rattle.rules.specs.Names
 use Rattle.rules.specs.Classes
-use Rattle.rules.specs.Finite
 use Rattle.rules.specs.Typing
 use Rattle.rules.specs.Walk
 use Rattle.rules.specs.Answers
@@ -212,8 +211,6 @@ unfolding flatten head size utf8 in_units class range production keyword lexeme 
     Limits.deepest Limits.looped Limits.loops_below Limits.looped_below Limits.few_loops Limits.template_limits Limits.templates_limits Limits.value_limits
     Names.element_named Names.class_named Names.grammar_names Names.type_named Names.type_names Names.form_named Names.node_named Names.template_names Names.templates_names
     Classes.range_right Classes.class_bounds Classes.bounds_right Classes.grammar_classes
-    Finite.overlap Finite.overlap_some Finite.xml_intervals Finite.has_character Finite.some_character Finite.plain_has_lexeme Finite.has_lexeme Finite.derivable
-    Finite.all_derivable Finite.is_one_of Finite.round Finite.rounds Finite.finite Finite.all_among Finite.grammar_finite
     Typing.asks_class Typing.asks_nonterminal Typing.asks_repetition Typing.asks_item Typing.positions Typing.text_class Typing.item_type Typing.type_along
     Typing.path_type Typing.arguments_fit Typing.site Typing.suits_form Typing.suits Typing.sites Typing.sites_of Typing.sites_below Typing.misfit
     Typing.body_site Typing.only Typing.declared_type Typing.templates_typing Typing.typed Typing.has_form Typing.has_type Typing.typed_of Typing.typed_below

@@ -1,5 +1,4 @@
--- The check call accepts a grammar and template set exactly when the written rules of blocks, layout, limits, names, classes and typing hold, "with those
--- that a request adds to the check": 02 h, that every nonterminal derives a text.
+-- The check call accepts a grammar and template set exactly when the written rules of blocks, layout, limits, names, classes and typing hold.
 use Rattle.std.specs.Prelude.{◌≡◌, refl, ◌↔◌, ℕ, ◌+◌, ◌/◌, ◌<◌, ◌≤◌, List, [], ◌∷◌, length}
 use Rattle.std.proofs.Common.{ap, arith}
 use Rattle.std.proofs.Math.Option.{Option, none, some, some-ne-none}
@@ -12,20 +11,18 @@ use Rattle.rules.specs.Layout.{value_layout}
 use Rattle.rules.specs.Limits.{deepest, value_limits}
 use Rattle.rules.specs.Names.{grammar_names, templates_names}
 use Rattle.rules.specs.Classes.{grammar_classes}
-use Rattle.rules.specs.Finite.{grammar_finite}
 use Rattle.rules.specs.Typing.{templates_typing}
 use Rattle.rules.specs.Value.{values_below}
 use Rattle.rules.specs.Answers
 use Rattle.rules.specs.Answers.{answer, Stream, stream_kind, bytes_of, layout_of, limits_of, over, accept, set_refusal, check_refusal, scratch_needed, evaluate_refusal, check}
 use Rattle.rules.specs.declared.Answer.{Answer}
 use Rattle.laws.specs.Faults.{need_iff, both_none, both_iff, In, placed_iff, try_iff, leb_iff, Below}
-use Rattle.theorems.specs.Refusals.{not_zero, Refuses, check_refuses}
+use Rattle.theorems.specs.Refusals.{Refuses, check_refuses}
 use Rattle.theorems.specs.Streams.{WellSized, length_exactly, RightBlock, blocks_exactly}
 use Rattle.theorems.specs.LaidOut.{GrammarLaid, TemplatesLaid, ValueLaid}
 use Rattle.theorems.specs.LayoutExactly.{grammar_laid_exactly, templates_laid_exactly, value_laid_exactly}
-use Rattle.theorems.specs.LimitsExactly.{TemplateWithin, limits_exactly, value_limits_exactly, HasProduction, GrammarNamed, grammar_names_exactly, TemplatesNamed, templates_names_exactly}
+use Rattle.theorems.specs.LimitsExactly.{TemplateWithin, limits_exactly, value_limits_exactly, GrammarNamed, grammar_names_exactly, TemplatesNamed, templates_names_exactly}
 use Rattle.theorems.specs.ClassesExactly.{ClassRight, classes_exactly}
-use Rattle.theorems.specs.FiniteExactly.{DerivesSome, finite_exactly}
 use Rattle.theorems.specs.TypingExactly.{SetTyped, typing_exactly}
 use Rattle.theorems.specs.ValueExactly.{ValueTyped, value_typed_exactly}
 
@@ -33,7 +30,7 @@ use Rattle.theorems.specs.ValueExactly.{ValueTyped, value_typed_exactly}
 abbrev pub RightBlocks : ℕ → List ℕ → Type 0
 RightBlocks kind s = (n : ℕ) → n < length s / 512 → RightBlock kind s n
 
--- 1 to 7 and 13, of a grammar and a template set
+-- 1 to 7, of a grammar and a template set
 pub record Accepted (g t : List ℕ) : Type 0 where
   pub grammar_sized : WellSized g
   pub templates_sized : WellSized t
@@ -45,7 +42,6 @@ pub record Accepted (g t : List ℕ) : Type 0 where
   pub grammar_named : GrammarNamed g
   pub templates_named : TemplatesNamed g t
   pub classes_right : (p : ℕ) → In p (classes g) → kind_of g p ≡ 1 → ClassRight g p
-  pub finite : (n : ℕ) → HasProduction g n → DerivesSome g n
   pub typed : SetTyped g t
 
 -- "It is well-formed if its stream meets none of 1 to 3"; and at most 200 deep
@@ -57,7 +53,7 @@ pub record WellFormed (v : List ℕ) : Type 0 where
 abbrev pub AtMost200Deep : List ℕ → Type 0
 AtMost200Deep v = (d w : ℕ) → Below (values_below v) 0 d w → d + 1 ≤ 200
 
--- The order of the checks, undone: no refusal of 1 to 7 or 13 over these streams
+-- The order of the checks, undone: no refusal of 1 to 7 over these streams
 over_none : (fault : Stream → Option ℕ) (s : Stream) (ss : List Stream) → (over fault (s ∷ ss) ≡ none) ↔ ((fault s ≡ none) × (over fault ss ≡ none))
 unfolding over every
 over_none fault s ss =
@@ -87,14 +83,13 @@ pub record NoRefusal (g t : List ℕ) (more : List Stream) : Type 0 where
   pub names_g : grammar_names g ≡ none
   pub names_t : templates_names g t ≡ none
   pub class_tables : grammar_classes g ≡ none
-  pub none_underivable : grammar_finite g ≡ none
   pub typing : templates_typing g t ≡ none
 
 pub set_none : (g t : List ℕ) (more : List Stream) (next : Unit {0} → Option Answer) → (set_refusal g t more next ≡ none) ↔ (NoRefusal g t more × (next tt ≡ none))
 unfolding set_refusal
 set_none g t more next = (
   λ e. let a = (try_iff 1 _ _).0 e in let b = (try_iff 2 _ _).0 a.1 in let c = (try_iff 3 _ _).0 b.1 in let d = (try_iff 4 _ _).0 c.1 in
-      let f = (try_iff 5 _ _).0 d.1 in let h = (try_iff 6 _ _).0 f.1 in let j = (try_iff 13 _ _).0 h.1 in let k = (try_iff 7 _ _).0 j.1 in let n = both_none _ _ f.0 in (
+      let f = (try_iff 5 _ _).0 d.1 in let h = (try_iff 6 _ _).0 f.1 in let k = (try_iff 7 _ _).0 h.1 in let n = both_none _ _ f.0 in (
         record {
           lengths = a.0;
           blocks = b.0;
@@ -103,7 +98,6 @@ set_none g t more next = (
           names_g = (placed_iff _ _).0 n.0;
           names_t = (placed_iff _ _).0 n.1;
           class_tables = (placed_iff _ _).0 h.0;
-          none_underivable = (placed_iff _ _).0 j.0;
           typing = (placed_iff _ _).0 k.0;
         },
         k.1,
@@ -119,10 +113,7 @@ set_none g t more next = (
               n.limits,
               (try_iff 5 _ _).1 (
                 (both_iff _ _).1 ((placed_iff _ _).1 n.names_g, (placed_iff _ _).1 n.names_t),
-                (try_iff 6 _ _).1 (
-                  (placed_iff _ _).1 n.class_tables,
-                  (try_iff 13 _ _).1 ((placed_iff _ _).1 n.none_underivable, (try_iff 7 _ _).1 ((placed_iff _ _).1 n.typing, r.1)),
-                ),
+                (try_iff 6 _ _).1 ((placed_iff _ _).1 n.class_tables, (try_iff 7 _ _).1 ((placed_iff _ _).1 n.typing, r.1)),
               ),
             ),
           ),
@@ -149,7 +140,6 @@ accepted_rules g t = (to, from)
           grammar_named = (grammar_names_exactly g).0 n.names_g;
           templates_named = (templates_names_exactly g t w).0 n.names_t;
           classes_right = (classes_exactly g).0 n.class_tables;
-          finite = (finite_exactly g).0 n.none_underivable;
           typed = (typing_exactly g t w).0 n.typing;
         }
 
@@ -164,7 +154,6 @@ accepted_rules g t = (to, from)
           names_g = (grammar_names_exactly g).1 h.grammar_named;
           names_t = (templates_names_exactly g t w).1 h.templates_named;
           class_tables = (classes_exactly g).1 h.classes_right;
-          none_underivable = (finite_exactly g).1 h.finite;
           typing = (typing_exactly g t w).1 h.typed;
         }
 
@@ -173,7 +162,7 @@ pub zeros_none : (o : Option Answer) → Refuses o → (on_found o (answer 0 0 0
 unfolding on_found answer
 zeros_none none r = (λ e. refl, λ e. refl)
 zeros_none (some a) r =
-    (λ e. absurd (let z : a.number ≡ 0 = ap (λ (x : Answer). x.number) e in let l = not_zero (r a refl).numbered in omega arith), λ e. absurd (some-ne-none a e))
+    (λ e. absurd (let z : a.number ≡ 0 = ap (λ (x : Answer). x.number) e in let l = (r a refl).from_1 in omega arith), λ e. absurd (some-ne-none a e))
 
 pub accepted_exactly : (g t : List ℕ) → (check g t ≡ answer 0 0 0 0 0) ↔ Accepted g t
 unfolding check check_refusal accept
@@ -182,7 +171,7 @@ accepted_exactly g t = (
   λ h. (zeros_none _ (check_refuses g t)).1 ((set_none g t _ accept).1 ((accepted_rules g t).1 h, refl)),
 )
 
--- 1 to 9 and 13: an evaluate call comes to its walk exactly when the set is accepted, the value is well-formed, at most 200 deep and of the declared type, and the scratch is long enough
+-- 1 to 9: an evaluate call comes to its walk exactly when the set is accepted, the value is well-formed, at most 200 deep and of the declared type, and the scratch is long enough
 pub record Admitted (g t v scratch : List ℕ) : Type 0 where
   pub accepted : Accepted g t
   pub well_formed : WellFormed v
@@ -196,7 +185,7 @@ with_value : (g t v : List ℕ) → NoRefusal g t (Answers.value v ∷ [])
 unfolding bytes_of stream_kind layout_of limits_of
 with_value g t v = (
   λ n. let a = (over_three _ _ _ _).0 n.lengths in let b = (over_three _ _ _ _).0 n.blocks in let c = (over_three _ _ _ _).0 n.layouts in let d = (over_three _ _ _ _).0 n.limits in (
-    record { lengths = a.0; blocks = b.0; layouts = c.0; limits = d.0; names_g = n.names_g; names_t = n.names_t; class_tables = n.class_tables; none_underivable = n.none_underivable; typing = n.typing },
+    record { lengths = a.0; blocks = b.0; layouts = c.0; limits = d.0; names_g = n.names_g; names_t = n.names_t; class_tables = n.class_tables; typing = n.typing },
     a.1,
     b.1,
     c.1,
@@ -211,7 +200,6 @@ with_value g t v = (
         names_g = n.names_g;
         names_t = n.names_t;
         class_tables = n.class_tables;
-        none_underivable = n.none_underivable;
         typing = n.typing;
       },
 )

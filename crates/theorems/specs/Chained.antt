@@ -223,7 +223,7 @@ handed_right b start w e = go (payload_answers b start) e
     go : {x : List ℕ} → Payload b start x → x ≡ take 504 (drop 4 b) → RightAlone b start
     go (bytes_4_to_507 a) e = a
     go (empty_part wrong) e = absurd (
-        let none_there : length (take 504 (drop 4 b)) ≡ 0 = ap length (sym e) in
+        let none-there : length (take 504 (drop 4 b)) ≡ 0 = ap length (sym e) in
         let all_there : length (take 504 (drop 4 b)) ≡ 504 = simp (length-take, length-drop) (omega arith) in
         omega arith
         )

@@ -3,7 +3,6 @@
 use Rattle.std.specs.Prelude.{◌≡◌, ◌↔◌, ℕ, ◌*◌, ◌≤◌, ◌<◌, List, length}
 use Rattle.rules.specs.Answers.{answer, check, evaluate, pack}
 use Rattle.theorems.specs.Streams.{WellSized}
-use Rattle.theorems.specs.Refusals.{LimitNumber}
 use Rattle.theorems.specs.Accepted.{Accepted, accepted_exactly, WellFormed, AtMost200Deep}
 use Rattle.theorems.specs.ValueExactly.{ValueTyped}
 use Rattle.theorems.specs.Evaluation.{EvaluatesSet}
@@ -23,15 +22,14 @@ pub record Demand1 : Type 0 where
 pub demand_1 : Demand1
 demand_1 = record { finished_or_refused = refusals_keep; check_in_order = check_in_order; evaluate_in_order = evaluate_in_order }
 
--- 2. "The checker accepts a grammar and template set exactly when the written rules of blocks, layout, limits, names, classes and typing hold, with those that a
--- request adds to the check, and the text is byte for byte what the written evaluation rules give; blocks packed and unpacked return the same records, with
--- zero fill at most after them."
+-- 2. "The checker accepts a grammar and template set exactly when the written rules of blocks, layout, limits, names, classes and typing hold, .. and the text is
+-- byte for byte what the written evaluation rules give; blocks packed and unpacked return the same records, with zero fill at most after them."
 pub record Demand2 : Type 0 where
   pub accepts_exactly : (g t : List ℕ) → (check g t ≡ answer 0 0 0 0 0) ↔ Accepted g t
   -- a finished text, with its steps; and what was written of one that a limit ended
   pub text_exactly : (g t v : List ℕ) (fuel : ℕ) (out scratch : List ℕ) → (evaluate g t v fuel out scratch).result.number ≡ 0 → (x : List ℕ) (n : ℕ)
       → EvaluatesSet g t v x n ↔ ((x ≡ text_left (evaluate g t v fuel out scratch)) × (n ≡ (evaluate g t v fuel out scratch).result.steps))
-  pub text_begun : (g t v : List ℕ) (fuel : ℕ) (out scratch : List ℕ) → LimitNumber (evaluate g t v fuel out scratch).result.number
+  pub text_begun : (g t v : List ℕ) (fuel : ℕ) (out scratch : List ℕ) → 10 ≤ (evaluate g t v fuel out scratch).result.number
       → (x : List ℕ) (n : ℕ) → EvaluatesSet g t v x n → Begun fuel (length out) x n (evaluate g t v fuel out scratch)
   pub same_records : (kind : ℕ) (payload out out' : List ℕ) → (pack kind payload out).result.number ≡ 0 → 504 * block_count payload ≤ length out'
       → RoundTrip kind payload out out'

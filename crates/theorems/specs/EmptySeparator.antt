@@ -1,26 +1,24 @@
 -- An empty separator is none: two grammars that differ only in element 3 against element 4 with an empty separator derive, evaluate and answer alike.
 use Rattle.std.specs.Prelude.{◌≡◌, ◌↔◌, ℕ, ◌/◌, ◌%◌, ◌<◌, Bool, ◌&&◌, length, ltb}
 use Rattle.std.proofs.Math.Path.{refl, ap, ap₂}
-use Rattle.std.proofs.Common.{sym, ◌∙◌, subst}
+use Rattle.std.proofs.Common.{sym, ◌∙◌}
 use mathlib.Core.List.{List, [], ◌∷◌}
 use Rattle.std.proofs.Math.Bool.{true, cond}
 use Rattle.std.proofs.Math.Option.{Option, none}
 use Rattle.std.proofs.Math.Dec.{eqb, leb}
 use Rattle.rules.specs.Faults.{need, both, every, on_found, exists}
-use Rattle.rules.specs.Records.{field_b, numbered}
+use Rattle.rules.specs.Records.{numbered}
 use Rattle.rules.specs.Blocks.{stream_length, stream_blocks}
 use Rattle.rules.specs.Grammar.{classes, productions, Element, keyword, lexeme, nonterminal, repetition, unknown, element_at, element_heads, elements}
 use Rattle.rules.specs.Lexeme.{ranges}
 use Rattle.rules.specs.Names.{element_named, class_named, grammar_names}
 use Rattle.rules.specs.Classes.{range_right, class_bounds, bounds_right, grammar_classes}
-use Rattle.rules.specs.Finite.{is_one_of, finite, all_among, grammar_finite}
 use Rattle.rules.specs.Derivation.{Derives}
 use Rattle.rules.specs.Answers.{Stream, grammar, templates, value, stream_kind, bytes_of, layout_of, limits_of, placed, over, try, accept, set_refusal, check_refusal}
 use Rattle.rules.specs.Answers.{scratch_needed, evaluate_refusal, answer, check, unless_refused, evaluate}
 use Rattle.rules.specs.declared.Answer.{Answer}
-use Rattle.laws.specs.Faults.{In, here, later, need_none, need_iff, need_alike}
+use Rattle.laws.specs.Faults.{In, here, later}
 use Rattle.theorems.specs.Streams.{WellSized, RightBlock, blocks_exactly}
-use Rattle.theorems.specs.FiniteExactly.{DerivesSome, found_exactly}
 use Rattle.theorems.specs.Evaluation.{EvaluatesSet}
 use Rattle.theorems.specs.ReadAlike.{ReadAlike, plain_alike, derives_alike, evaluates-set-alike, names-alike, typing-alike, value-alike, walk-alike}
 use Rattle.theorems.specs.Unseparated.{DifferInForm, the_other_way, read_alike, same_element, same_elements}
@@ -79,23 +77,6 @@ module _ (g g' : List ℕ) (d : DifferInForm g g') where
   unfolding grammar_classes
   grammar_classes_alike = every_same (classes g) bounds_alike ∙ ap (every (bounds_right g')) (same_classes g g' d)
 
-  -- 13: the same nonterminals derive a text
-  derives_some_alike : (n : ℕ) → DerivesSome g n ↔ DerivesSome g' n
-  derives_some_alike n =
-      (λ (x, t). (x, derives_alike g g' alike t), λ (x, t). (x, derives_alike g' g (read_alike g' g (the_other_way g g' d)) t))
-
-  underivable_alike : (p : ℕ) → need (is_one_of (finite g) (field_b g p)) p ≡ need (is_one_of (finite g') (field_b g' p)) p
-  underivable_alike p =
-      let e = same_b g g' d p in
-      need_alike p _ _
-      (λ h. (need_iff _ p).1 ((found_exactly g' (field_b g' p)).1 (subst (DerivesSome g') e ((derives_some_alike (field_b g p)).0 ((found_exactly g _).0 (need_none _ p h))))))
-      (λ h. (need_iff _ p).1 ((found_exactly g (field_b g p)).1 ((derives_some_alike (field_b g p)).1 (subst (DerivesSome g') (sym e) ((found_exactly g' _).0 (need_none _ p h))))))
-
-  finite_alike : grammar_finite g ≡ grammar_finite g'
-  unfolding grammar_finite all_among
-  finite_alike =
-      every_same (productions g) (λ p i. underivable_alike p) ∙ ap (every (λ p. need (is_one_of (finite g') (field_b g' p)) p)) (same_productions g g' d)
-
 -- "right by 2": neither 1 nor 2 meets the grammar
 pub record RightBy2 (g : List ℕ) : Type 0 where
   pub well_sized : WellSized g
@@ -123,7 +104,6 @@ module _ (g g' : List ℕ) (right : RightBy2 g) (right' : RightBy2 g') (d : Diff
       try 4 (over_alike limits_of (templates t ∷ more) refl j) λ _.
       try 5 (both (placed 1 (grammar_names_alike g g' d j)) (placed 2 (names-alike g g' (read_alike g g' d) t j))) λ _.
       try 6 (placed 1 (grammar_classes_alike g g' d j)) λ _.
-      try 13 (placed 1 (finite_alike g g' d j)) λ _.
       try 7 (placed 2 (typing-alike g g' (read_alike g g' d) t j)) (e j)
 
   check_alike : (t : List ℕ) → check g t ≡ check g' t

@@ -12,7 +12,7 @@ use Rattle.rules.specs.Derivation.{Derives}
 use Rattle.rules.specs.Walk.{Input, State, Limit, fuel_spent, too_deep, output_full, End, done, ended, walk}
 use Rattle.rules.specs.Answers.{answer, limit_number, Outcome, evaluate_refusal, unless_refused, kept, input, evaluate}
 use Rattle.rules.specs.declared.Answer.{Answer}
-use Rattle.theorems.specs.Refusals.{LimitNumber, not_zero, no_limit, Refusal, evaluate_refuses}
+use Rattle.theorems.specs.Refusals.{Refusal, evaluate_refuses}
 use Rattle.theorems.specs.Accepted.{Admitted, admitted_exactly}
 use Rattle.theorems.specs.Sound.{finished_derived}
 use Rattle.theorems.specs.Evaluation.{EvaluatesSet}
@@ -53,11 +53,11 @@ same_limit output_full fuel_spent e = absurd (omega arith)
 same_limit output_full too_deep e = absurd (omega arith)
 same_limit output_full output_full e = refl
 
-of_limit : (l : Limit) → LimitNumber (limit_number l)
+from_10 : (l : Limit) → 10 ≤ limit_number l
 unfolding limit_number
-of_limit fuel_spent = (omega arith, omega arith)
-of_limit too_deep = (omega arith, omega arith)
-of_limit output_full = (omega arith, omega arith)
+from_10 fuel_spent = omega arith
+from_10 too_deep = omega arith
+from_10 output_full = omega arith
 
 done_ended : {l : Limit} {p : ℕ} {s s' : State} → done s ≡ ended l p s' → ⊥
 done_ended e = let z : ◌≡◌ {A = ℕ} 0 1 = cc in omega arith
@@ -70,21 +70,21 @@ numbered r = ap (λ (x : Answer). x.number) r
 
 -- an outcome's number says how the walk ended
 module _ {e : End} {out scratch : List ℕ} {o : Outcome} where
-  pub walked_number : AsWalked e out scratch o → (o.result.number ≡ 0) ⊎ LimitNumber o.result.number
+  pub walked_number : AsWalked e out scratch o → (o.result.number ≡ 0) ⊎ (10 ≤ o.result.number)
   unfolding answer
   walked_number (finished s h r p) = inl (numbered r)
-  walked_number (limited l p s h r q) = inr (subst LimitNumber (sym (numbered r)) (of_limit l))
+  walked_number (limited l p s h r q) = inr (let a : o.result.number ≡ limit_number l = numbered r in let b = from_10 l in omega arith)
 
   unlimited_exactly : AsWalked e out scratch o → (o.result.number ≡ 0) ↔ ((l : Limit) → Meets e l → ⊥)
   unfolding answer
   unlimited_exactly (finished s h r p) = (λ z l m. done_ended (sym h ∙ m.2), λ n. numbered r)
   unlimited_exactly (limited l p s h r q) =
-      (λ z. absurd (let a : o.result.number ≡ limit_number l = numbered r in let b = (of_limit l).0 in omega arith), λ n. absurd (n l (p, s, h)))
+      (λ z. absurd (let a : o.result.number ≡ limit_number l = numbered r in let b = from_10 l in omega arith), λ n. absurd (n l (p, s, h)))
 
   limit_exactly : AsWalked e out scratch o → (l : Limit) → (o.result.number ≡ limit_number l) ↔ Meets e l
   unfolding answer
   limit_exactly (finished s h r p) l =
-      (λ z. absurd (let a : o.result.number ≡ 0 = numbered r in let b = (of_limit l).0 in omega arith), λ m. absurd (done_ended (sym h ∙ m.2)))
+      (λ z. absurd (let a : o.result.number ≡ 0 = numbered r in let b = from_10 l in omega arith), λ m. absurd (done_ended (sym h ∙ m.2)))
   limit_exactly (limited m p s h r q) l = (
     λ z. subst (Meets e) (same_limit m l (sym (numbered r) ∙ z)) (p, s, h),
     λ k. numbered r ∙ ap limit_number (ended_limit (sym h ∙ k.2)),
@@ -94,7 +94,7 @@ module _ {e : End} {out scratch : List ℕ} {o : Outcome} where
   finished_text : AsWalked e out scratch o → o.result.number ≡ 0 → (s : State) × (e ≡ done s) × (text_left o ≡ s.text) × (o.result.steps ≡ s.steps)
   unfolding answer
   finished_text (finished s h r p) z = (s, h, text_produced (ap (λ (x : Answer). x.bytes) r) p, ap (λ (x : Answer). x.steps) r)
-  finished_text (limited l p s h r q) z = absurd (let a : o.result.number ≡ limit_number l = numbered r in let b = (of_limit l).0 in omega arith)
+  finished_text (limited l p s h r q) z = absurd (let a : o.result.number ≡ limit_number l = numbered r in let b = from_10 l in omega arith)
 
 -- what a call has done that a limit ended, on the way to the text x with n steps
 pub record Begun (fuel room : ℕ) (x : List ℕ) (n : ℕ) (o : Outcome) : Type 0 where
@@ -111,10 +111,10 @@ short (fuel_short p s b used less) = (b, λ e. omega arith, λ e. absurd (omega 
 short (levels_short p s b) = (b, λ e. absurd (omega arith), λ e. absurd (omega arith))
 short (room_short p s b full) = (b, λ e. absurd (omega arith), λ e. full)
 
-limited_begun : {i : Input} {e : End} {x out scratch : List ℕ} {n : ℕ} {o : Outcome} → AsWalked e out scratch o → LimitNumber o.result.number
+limited_begun : {i : Input} {e : End} {x out scratch : List ℕ} {n : ℕ} {o : Outcome} → AsWalked e out scratch o → 10 ≤ o.result.number
     → Gives i (record { steps = n; text = x }) e → Begun i.fuel i.room x n o
 unfolding answer
-limited_begun {o = o} (finished s h r p) z w = absurd (let a : o.result.number ≡ 0 = numbered r in omega (arith, z.0))
+limited_begun {o = o} (finished s h r p) z w = absurd (let a : o.result.number ≡ 0 = numbered r in omega arith)
 limited_begun {i} {x = x} {n = n} {o} (limited l p s h r q) z w =
     let (b, f, c) = short (subst (Gives i _) h w) in
     let e : text_left o ≡ s.text = text_produced (ap (λ (a : Answer). a.bytes) r) q in
@@ -128,7 +128,7 @@ limited_begun {i} {x = x} {n = n} {o} (limited l p s h r q) z w =
       room_short = λ j. c (sym (numbered r) ∙ j);
     }
 
--- a call that is not refused by 1 to 9 or 13 goes as its walk goes
+-- a call that is not refused by 1 to 9 goes as its walk goes
 kept_walked : {g t v : List ℕ} {fuel : ℕ} {out scratch : List ℕ} {o : Outcome} → (Refusal o.result → ⊥) → Kept g t v fuel out scratch o
     → AsWalked (walk (input g t v fuel out)) out scratch o
 kept_walked n (refused r u) = absurd (n r)
@@ -156,7 +156,7 @@ module _ (g t v : List ℕ) (fuel : ℕ) (out scratch : List ℕ) where
   unfolding evaluate unless_refused kept
   refused_not_finished a e z =
       let n : a.number ≡ 0 = (rw e at z) in
-      omega (arith, not_zero (evaluate_refuses g t v scratch a e).numbered)
+      omega (arith, (evaluate_refuses g t v scratch a e).from_1)
 
   -- The text of a call that answers 0 is derived from the root template's nonterminal.
   pub finished_from_root : (evaluate g t v fuel out scratch).result.number ≡ 0 → FromRoot g t (text_left (evaluate g t v fuel out scratch))
@@ -171,16 +171,16 @@ module _ (g t v : List ℕ) (fuel : ℕ) (out scratch : List ℕ) where
       → EvaluatesSet g t v x n ↔ ((x ≡ text_left (evaluate g t v fuel out scratch)) × (n ≡ (evaluate g t v fuel out scratch).result.steps))
   unfolding input
   text_exactly z x n =
-      let k : Refusal (evaluate g t v fuel out scratch).result → ⊥ = λ r. let l = not_zero r.numbered in omega arith in
+      let k : Refusal (evaluate g t v fuel out scratch).result → ⊥ = λ r. let l = r.from_1 in omega arith in
       let (s, h, e, c) = finished_text (kept_walked k (refusals_keep g t v fuel out scratch)) z in
       let (to, from) = (evaluates_exactly (input g t v fuel out)).0 s h x n in
       (λ d. let r = to d in (r.0 ∙ sym e, r.1 ∙ sym c), λ q. from (q.0 ∙ e, q.1 ∙ c))
 
   -- Where a limit ended the call, its text begins what the evaluation rules give, and its steps are at most theirs: fewer where the fuel is spent.
   -- Where the output is full, it is too short for that text.
-  pub text_begun : LimitNumber (evaluate g t v fuel out scratch).result.number → (x : List ℕ) (n : ℕ) → EvaluatesSet g t v x n
+  pub text_begun : 10 ≤ (evaluate g t v fuel out scratch).result.number → (x : List ℕ) (n : ℕ) → EvaluatesSet g t v x n
       → Begun fuel (length out) x n (evaluate g t v fuel out scratch)
   unfolding input
   text_begun z x n h =
-      let k : Refusal (evaluate g t v fuel out scratch).result → ⊥ = λ r. no_limit r.numbered z in
+      let k : Refusal (evaluate g t v fuel out scratch).result → ⊥ = λ r. let l = r.to_9 in omega arith in
       limited_begun (kept_walked k (refusals_keep g t v fuel out scratch)) z ((evaluates_exactly (input g t v fuel out)).1 x n h)

@@ -22,7 +22,7 @@ use Rattle.theorems.specs.Places.{place_text}
 use Rattle.theorems.specs.Handed.{IsFor, a_for, no_for, is_for_lem, filled_by_lem, listed_is, for_visited, item_visited, one_brought, turns_brought}
 use Rattle.theorems.specs.Ends.{then_done, found_done, reached_done, write_done}
 use Rattle.theorems.specs.Evaluation.{BeforeItem, the_first, another, Evaluates, build, literal, place, expand, then, else, sequence, match}
-use Rattle.theorems.specs.Evaluation.{Builds, no_element, own-bytes, next-child, Items, no_item, one_item, for, Loops, no-turn, one_turn, EvaluatesSet}
+use Rattle.theorems.specs.Evaluation.{Builds, no_element, own-bytes, next-child, Items, no_item, one_item, for, Loops, no-turn, one-turn, EvaluatesSet}
 
 -- from the state s to the state s' the text grew by x, and the steps by n, of P
 abbrev pub Wrote : (List ℕ → ℕ → Type 0) → State → State → Type 0
@@ -140,7 +140,7 @@ module _ (i : Input) (go : Asked → ℕ → List ℕ → State → End) (below 
   turns_evaluated f k env p [] s s' e = wrote_nothing _ s s' e no-turn
   turns_evaluated f k env p (w ∷ ws) s s' e =
       then_wrote (AnItem i f k (env ++ w ∷ []) p) _ _ _ _ s s' e (λ s₁. item_evaluated f k p _ s s₁) (λ s₁. turns_evaluated f (k + 1) env p ws s₁ s')
-      λ x y m n (z, u, q, b, d) r. rw q (one_turn b d r)
+      λ x y m n (z, u, q, b, d) r. rw q (one-turn b d r)
 
   -- from the state after the node's step
   for_evaluated : (f : Filled) (k p : ℕ) (env : List ℕ) (s s' : State) → visit_form i For go (items f k) p env (counted s) ≡ done s' → Wrote (AFor i f k env p) s s'

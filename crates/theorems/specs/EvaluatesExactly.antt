@@ -22,7 +22,7 @@ use Rattle.theorems.specs.Levels.{filling}
 use Rattle.theorems.specs.Handed.{pieces_child, is_listed, for_visited, item_visited, one_brought, turns_brought}
 use Rattle.theorems.specs.Places.{place_exactly}
 use Rattle.theorems.specs.Evaluation.{BeforeItem, the_first, another, Evaluates, build, literal, place, expand, then, else, sequence, match}
-use Rattle.theorems.specs.Evaluation.{no_element, own-bytes, next-child, no_item, one_item, for, no-turn, one_turn, EvaluatesSet}
+use Rattle.theorems.specs.Evaluation.{no_element, own-bytes, next-child, no_item, one_item, for, no-turn, one-turn, EvaluatesSet}
 use Rattle.theorems.specs.Evaluated.{finished_evaluated}
 
 -- A visit of what the rules evaluate comes to the state z that they say, or falls short of it: of a step, of a level, or of room.
@@ -139,7 +139,7 @@ module _ (i : Input) where
             rw (for_visited i env c (visit i l) (filling p m between) k f, turns_brought i env c f w r)
             (then_gives _ s _ _ _ _ (visit_gives _ _ l _ _ _ s f λ l. found_gives _ (is_listed i env c w r) (e l p (counted s))) (h l p))
         | no-turn ↦ λ k q s. nothing_gives s
-        | one_turn {m} {k} {p} {i = n} z (a → e) (b → h) ↦ λ l q s. then_gives _ s _ _ _ _ (item_gives q m k l p n _ z (e l) s) (h l q)
+        | one-turn {m} {k} {p} {i = n} z (a → e) (b → h) ↦ λ l q s. then_gives _ s _ _ _ _ (item_gives q m k l p n _ z (e l) s) (h l q)
       ]
 
   pub evaluated_given : (x : List ℕ) (n : ℕ) → EvaluatesSet g t v x n → Gives i (record { steps = n; text = x }) (walk i)

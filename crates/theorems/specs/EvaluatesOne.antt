@@ -14,7 +14,7 @@ use Rattle.theorems.specs.Children.{Asks}
 use Rattle.theorems.specs.Finds.{Finds, text_is, yes_is, no_is, path_found, paths_found, case_is}
 use Rattle.theorems.specs.Places.{PlaceWrites, place_one}
 use Rattle.theorems.specs.Evaluation.{BeforeItem, the_first, another, Evaluates, build, literal, place, expand, then, else, sequence, Builds, no_element, own-bytes, next-child, match}
-use Rattle.theorems.specs.Evaluation.{Items, no_item, one_item, for, Loops, no-turn, one_turn, EvaluatesSet}
+use Rattle.theorems.specs.Evaluation.{Items, no_item, one_item, for, Loops, no-turn, one-turn, EvaluatesSet}
 
 -- something is found, and P holds of it
 abbrev Found : {A : Type 0} → Option A → (A → Type 0) → Type 0
@@ -118,7 +118,7 @@ module _ (g t v : List ℕ) where
 
   turn_joined : {env between ws x : List ℕ} {m k p w n : ℕ} → Loops g t v env m between k p (w ∷ ws) x n
       → Joined (AnItem (env ++ w ∷ []) between m k p) (Loops g t v env m between (k + 1) p ws) x n
-  turn_joined (one_turn b d r) = (_, _, _, _, refl, refl, (_, _, _, _, refl, zero-add _, (b, refl), d), r)
+  turn_joined (one-turn b d r) = (_, _, _, _, refl, refl, (_, _, _, _, refl, zero-add _, (b, refl), d), r)
 
   no_item_only : {env between : List ℕ} {m k : ℕ} → Only (Items g t v env m between k []) [] 0
   no_item_only y n no_item = (refl, refl)
@@ -149,7 +149,7 @@ module _ (g t v : List ℕ) where
         | one_item f z (a → k) (b → h) ↦ λ y m e. joined_only (item_only z k) h y m (item_joined f e)
         | for f w r (a → k) (b → h) ↦ λ y m e. joined_only (stepped_only k) h y m (for_joined f w r e)
         | no-turn ↦ no_turn_only
-        | one_turn z (a → k) (b → h) ↦ λ y m e. joined_only (item_only z k) h y m (turn_joined e)
+        | one-turn z (a → k) (b → h) ↦ λ y m e. joined_only (item_only z k) h y m (turn_joined e)
       ]
 
 pub evaluates_one : (g t v x y : List ℕ) (n m : ℕ) → EvaluatesSet g t v x n → EvaluatesSet g t v y m → (x ≡ y) × (n ≡ m)

@@ -74,7 +74,7 @@ mutual
   -- the texts of a for's body p, one for each item of the list, in order: "the item being one variable more"
   pub data Loops (g t v : List ℕ) : List ℕ → ℕ → List ℕ → ℕ → ℕ → List ℕ → List ℕ → ℕ → Type 0 where
     no-turn : {env between : List ℕ} {m k p : ℕ} → Loops g t v env m between k p [] [] 0
-    one_turn : {env between ws z x y : List ℕ} {m k p w i n : ℕ} → BeforeItem between k z → Evaluates g t v (env ++ w ∷ []) (nonterminal m) p x i
+    one-turn : {env between ws z x y : List ℕ} {m k p w i n : ℕ} → BeforeItem between k z → Evaluates g t v (env ++ w ∷ []) (nonterminal m) p x i
         → Loops g t v env m between (k + 1) p ws y n → Loops g t v env m between k p (w ∷ ws) (z ++ x ++ y) (i + n)
 
 -- a whole set: "template 0's body and the value as its one variable"

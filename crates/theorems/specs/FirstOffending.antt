@@ -13,7 +13,6 @@ use Rattle.rules.specs.Value.{values_below}
 use Rattle.rules.specs.Layout.{layout_fault, grammar_layout, templates_layout, value_layout}
 use Rattle.rules.specs.Limits.{deepest, looped, looped_below, few_loops, template_limits, templates_limits, value_limits}
 use Rattle.rules.specs.Classes.{range_right, class_bounds, bounds_right, grammar_classes}
-use Rattle.rules.specs.Finite.{is_one_of, finite, all_among, grammar_finite}
 use Rattle.rules.specs.Typing.{site, suits, sites_below, misfit, body_site, declared_type, templates_typing, typed, has_type, typed_below, mistyped, value_typing}
 use Rattle.rules.specs.Answers
 use Rattle.rules.specs.Answers.{Stream, bytes_of, layout_of, limits_of}
@@ -21,19 +20,18 @@ use Rattle.laws.specs.Faults.{In, Below, exists_iff}
 use Rattle.theorems.specs.Streams.{WellSized, length_exactly, block_exactly, row_in, in_row}
 use Rattle.theorems.specs.LaidOut.{InRow, no_thing, one_thing, GrammarLaid, TemplateAt, TemplatesLaid, ValueLaid}
 use Rattle.theorems.specs.Sizes.{ranges_row}
-use Rattle.theorems.specs.Heads.{class_spans, production_spans}
+use Rattle.theorems.specs.Heads.{class_spans}
 use Rattle.theorems.specs.LayoutExactly.{grammar_laid_exactly, templates_laid_exactly, value_laid_exactly}
 use Rattle.theorems.specs.Around.{around_exactly}
 use Rattle.theorems.specs.LimitsExactly.{looped_below_lem, below_looped, limits_exactly, not_deep}
 use Rattle.theorems.specs.ClassesExactly.{plain_bounds, escaped_bounds, class_in}
-use Rattle.theorems.specs.FiniteExactly.{not_found_exactly}
 use Rattle.theorems.specs.Judgement.{Declared}
 use Rattle.theorems.specs.OwnRuleExactly.{fits_exactly, stands_exactly}
 use Rattle.theorems.specs.TypingExactly.{sites_shallow, declared_exactly}
 use Rattle.theorems.specs.ValueExactly.{form_exactly, should_exactly, values_shallow}
 use Rattle.theorems.specs.Least.{First, Least, first_same, first_need, first_none, first_both, least_same, least_wide, least_need, least_both, rows_heads, Some, least_heads, least_tests, Offends, too_deep, fails, least_tree, Fails, failing, least_shallow}
-use Rattle.theorems.specs.Ranges.{AnyClass, class_rows, production_rows, template_rows, standing_leading, nodes_standing, values_standing, looped_leading, sites_leading, typed_leading}
-use Rattle.theorems.specs.Offences.{WrongBlock, Laid, TemplateOver, over_8_parameters, over_200_deep, over_16_loops, OverLimits, a_template, a_value, WrongClass, least_above_most, lowest_above_highest, past_unicode, Underivable, Misfit, undeclared, unsuited, Mistyped, not_of_type}
+use Rattle.theorems.specs.Ranges.{AnyClass, class_rows, template_rows, standing_leading, nodes_standing, values_standing, looped_leading, sites_leading, typed_leading}
+use Rattle.theorems.specs.Offences.{WrongBlock, Laid, TemplateOver, over_8_parameters, over_200_deep, over_16_loops, OverLimits, a_template, a_value, WrongClass, least_above_most, lowest_above_highest, past_unicode, Misfit, undeclared, unsuited, Mistyped, not_of_type}
 
 -- a test fails where what it decides does not hold
 pub fails_iff : {P : Type 0} (b : Bool) → ((b ≡ true) ↔ P) → (b ≡ false) ↔ (P → ⊥)
@@ -201,17 +199,6 @@ least_plain g p q i a = elim (class_in g i) [
 pub first_class : (g : List ℕ) → WellSized g → GrammarLaid g → First (Some (classes g) (PlainWrong g)) (grammar_classes g)
 unfolding grammar_classes
 first_class g w h = (least_heads (PlainWrong g) (bounds_right g) (least_plain g) (class_rows w h)).first
-
--- 13
-pub first_underivable : (g : List ℕ) → WellSized g → GrammarLaid g → First (Underivable g) (grammar_finite g)
-unfolding grammar_finite all_among
-first_underivable g w h =
-    first_same
-    (λ p. (
-      λ (i, e). record { a_production = i; derives_nothing = (not_found_exactly g (field_b g p)).0 e },
-      λ o. (o.a_production, (not_found_exactly g (field_b g p)).1 o.derives_nothing),
-    ))
-    (least_tests (λ p q a. (production_spans a.1).grows) (λ p. is_one_of (finite g) (field_b g p)) (production_rows w h)).first
 
 -- 7. That a type is declared, and then each template's tree
 abbrev MisfitIn : List ℕ → List ℕ → ℕ → Type 0

@@ -1,15 +1,13 @@
--- The check call and the evaluate call refuse by the first offence of all: by the refusal's turn, then by the stream, then by the place.
+-- The check call and the evaluate call refuse by the first offence of all: by the refusal's number, then by the stream, then by the place.
 use Rattle.std.specs.Prelude.{◌≡◌, refl, ◌↔◌, ◌⊎◌, ℕ, suc, ◌≤◌, ◌<◌, List, [], ◌∷◌, Bool, true, false, length, leb}
-use Rattle.std.proofs.Common.{sym, ◌∙◌, ap, subst, inl, inr, leb-true, leb-false}
+use Rattle.std.proofs.Common.{sym, ap, subst, inl, inr, arith, leb-true, leb-false}
 use Rattle.std.proofs.Math.Option.{Option, none, some, some-ne-none, none-ne-some, some-injective}
-use native.Mathlib.Omega.{arith}
 use Rattle.std.proofs.lemmas.Bool.{lt-leb}
 use Rattle.rules.specs.Faults.{need, both, every}
 use Rattle.rules.specs.Grammar.{classes}
 use Rattle.rules.specs.Limits.{deepest, templates_limits}
 use Rattle.rules.specs.Names.{grammar_names, templates_names}
 use Rattle.rules.specs.Classes.{grammar_classes}
-use Rattle.rules.specs.Finite.{grammar_finite}
 use Rattle.rules.specs.Typing.{declared_type, templates_typing, value_typing}
 use Rattle.rules.specs.Answers
 use Rattle.rules.specs.Answers.{answer, Stream, stream_kind, bytes_of, limits_of, placed, over, try, accept, set_refusal, check_refusal, scratch_needed, evaluate_refusal}
@@ -18,19 +16,18 @@ use Rattle.laws.specs.Faults.{In, here, later, both_none, every_in, placed_iff, 
 use Rattle.theorems.specs.Streams.{WellSized, length_exactly}
 use Rattle.theorems.specs.LaidOut.{GrammarLaid, TemplatesLaid}
 use Rattle.theorems.specs.TypingExactly.{declared_exactly}
-use Rattle.theorems.specs.Turns.{before, turn, one_turn}
 use Rattle.theorems.specs.Least.{FirstBy, First, first_same, first_none, first_need, first_both, Some, some_split, in_none}
-use Rattle.theorems.specs.Offences.{WrongBlock, Laid, OverLimits, GrammarUnnamed, TemplatesUnnamed, Underivable, Misfit, Mistyped, lent, Offence, wrong_length, wrong_block, wrong_layout, over_limits, grammar_unnamed, templates_unnamed, wrong_class, underivable, misfit, mistyped, short_scratch}
+use Rattle.theorems.specs.Offences.{WrongBlock, Laid, OverLimits, GrammarUnnamed, TemplatesUnnamed, Misfit, Mistyped, lent, Offence, wrong_length, wrong_block, wrong_layout, over_limits, grammar_unnamed, templates_unnamed, wrong_class, misfit, mistyped, short_scratch}
 use Rattle.theorems.specs.FirstUnnamed.{first_grammar_unnamed, first_templates_unnamed}
-use Rattle.theorems.specs.FirstOffending.{first_length, first_block, laid_exactly, first_layout, first_over, PlainWrong, first_class, first_underivable, first_misfit, first_mistyped}
+use Rattle.theorems.specs.FirstOffending.{first_length, first_block, laid_exactly, first_layout, first_over, PlainWrong, first_class, first_misfit, first_mistyped}
 
 -- The order of the refusals: "in this order, each over grammar, templates, value before the next", and in a stream the first head. A kind and a place:
 abbrev pub Earlier : ℕ × ℕ → ℕ × ℕ → Type 0
 Earlier x y = (x.0 < y.0) ⊎ ((x.0 ≡ y.0) × (x.1 < y.1))
 
--- a number by its turn, a kind and a place
+-- a number, a kind and a place
 abbrev pub Before : Answer → Answer → Type 0
-Before a b = (turn a.number < turn b.number) ⊎ ((a.number ≡ b.number) × Earlier (a.kind, a.place) (b.kind, b.place))
+Before a b = (a.number < b.number) ⊎ ((a.number ≡ b.number) × Earlier (a.kind, a.place) (b.kind, b.place))
 
 -- the offence that an answer names
 abbrev pub Names : (ℕ → ℕ → ℕ → Type 0) → Answer → Type 0
@@ -74,9 +71,9 @@ first_in_streams Off fault (one_stream n s ss l a) h =
     (first_both _ _ (λ x y o o'. later_kind x y (let e : x.0 ≡ stream_kind s = o.0 in let f = o'.2.0 in let m = kind_above a o'.1 in omega arith))
     (first_placed (stream_kind s) (fault s) (h s (here ss))) (first_in_streams Off fault a (λ u i. h u (later s ss i))))
 
--- Of the turns from i on: a refusal by the number whose turn it is, and then by those after it
-abbrev FromTurn : ℕ → (ℕ → ℕ → ℕ → Type 0) → ℕ → ℕ → ℕ → Type 0
-FromTurn i Off m k p = (i ≤ turn m) × Off m k p
+-- Of the numbers from n on: a refusal by n, and then by those after it
+abbrev FromNumber : ℕ → (ℕ → ℕ → ℕ → Type 0) → ℕ → ℕ → ℕ → Type 0
+FromNumber n Off m k p = (n ≤ m) × Off m k p
 
 at_or_past : (n m : ℕ) → n ≤ m → (m ≡ n) ⊎ (suc n ≤ m)
 at_or_past n m l = go (leb (suc n) m) refl
@@ -85,27 +82,25 @@ at_or_past n m l = go (leb (suc n) m) refl
     go true e = inr (leb-true _ _ e)
     go false e = inl (let k = leb-false (suc n) m e in omega arith)
 
-first_try : (Off : ℕ → ℕ → ℕ → Type 0) (n i : ℕ) → turn n ≡ i → i < 10 → (o : Option (ℕ × ℕ)) (next : Unit {0} → Option Answer)
-    → FirstBy Earlier (λ x. Off n x.0 x.1) o
-    → (o ≡ none → FirstBy Before (Names (FromTurn (suc i) Off)) (next tt)) → FirstBy Before (Names (FromTurn i Off)) (try n o next)
+first_try : (Off : ℕ → ℕ → ℕ → Type 0) (n : ℕ) (o : Option (ℕ × ℕ)) (next : Unit {0} → Option Answer) → FirstBy Earlier (λ x. Off n x.0 x.1) o
+    → (o ≡ none → FirstBy Before (Names (FromNumber (suc n) Off)) (next tt)) → FirstBy Before (Names (FromNumber n Off)) (try n o next)
 unfolding try answer
-first_try Off n i t l none next h k = record {
-  none_offends = λ e b f. past b f.1 ((k refl).none_offends e b) (at_or_past i (turn b.number) f.0);
+first_try Off n none next h k = record {
+  none_offends = λ e b f. past b f.1 ((k refl).none_offends e b) (at_or_past n b.number f.0);
   first_offends = λ a e. let r = (k refl).first_offends a e in
-      ((let l = r.0.0 in omega arith, r.0.1), λ b l f. past b f.1 (r.1 b l) (at_or_past i (turn b.number) f.0));
+      ((let l = r.0.0 in omega arith, r.0.1), λ b l f. past b f.1 (r.1 b l) (at_or_past n b.number f.0));
 }
   where
-    past : (b : Answer) → Names Off b → (Names (FromTurn (suc i) Off) b → ⊥) → (turn b.number ≡ i) ⊎ (suc i ≤ turn b.number) → ⊥
-    past b f g (inl e) =
-        h.none_offends refl (b.kind, b.place) (subst (λ (m : ℕ). Off m b.kind b.place) (one_turn b.number n (e ∙ sym t) (omega arith)) f)
+    past : (b : Answer) → Names Off b → (Names (FromNumber (suc n) Off) b → ⊥) → (b.number ≡ n) ⊎ (suc n ≤ b.number) → ⊥
+    past b f g (inl e) = h.none_offends refl (b.kind, b.place) (subst (λ (m : ℕ). Off m b.kind b.place) e f)
     past b f g (inr l) = g (l, f)
-first_try Off n i t l (some (kind, place)) next h k = record {
+first_try Off n (some (kind, place)) next h k = record {
   none_offends = λ e. absurd (some-ne-none _ e);
-  first_offends = λ a e. subst (λ (a : Answer). Names (FromTurn i Off) a × ((b : Answer) → Before b a → Names (FromTurn i Off) b → ⊥))
+  first_offends = λ a e. subst (λ (a : Answer). Names (FromNumber n Off) a × ((b : Answer) → Before b a → Names (FromNumber n Off) b → ⊥))
       (some-injective _ a e) ((omega arith, (h.first_offends (kind, place) refl).0), earlier);
 }
   where
-    earlier : (b : Answer) → Before b (answer n kind place 0 0) → Names (FromTurn i Off) b → ⊥
+    earlier : (b : Answer) → Before b (answer n kind place 0 0) → Names (FromNumber n Off) b → ⊥
     earlier b (inl l) f = let z = f.0 in omega arith
     earlier b (inr (e, l)) f =
         (h.first_offends (kind, place) refl).1 (b.kind, b.place) l (subst (λ (m : ℕ). Off m b.kind b.place) e f.1)
@@ -152,37 +147,29 @@ module _ (g t : List ℕ) (more : List Stream) (scratch : Option (List ℕ)) whe
       from : (k p : ℕ) → Offence g t more scratch 6 k p → (k ≡ 1) × Some (classes g) (PlainWrong g) p
       from k p (wrong_class c q i k' o) = (refl, (c, i, (k', o)))
 
-  by_13 : (k p : ℕ) → ((k ≡ 1) × Underivable g p) ↔ Offence g t more scratch 13 k p
-  by_13 k p = (λ (e, o). rw e (underivable p o), from k p)
-    where
-      from : (k p : ℕ) → Offence g t more scratch 13 k p → (k ≡ 1) × Underivable g p
-      from k p (underivable q o) = (refl, o)
-
   by_7 : (k p : ℕ) → ((k ≡ 2) × Misfit g t p) ↔ Offence g t more scratch 7 k p
   by_7 k p = (λ (e, o). rw e (misfit p o), from k p)
     where
       from : (k p : ℕ) → Offence g t more scratch 7 k p → (k ≡ 2) × Misfit g t p
       from k p (misfit q o) = (refl, o)
 
-  -- each of them has a turn
-  pub turns : {n k p : ℕ} → Offence g t more scratch n k p → turn n < 10
-  unfolding turn before
-  turns (wrong_length s i n) = omega arith
-  turns (wrong_block s n i w) = omega arith
-  turns (wrong_layout s i n) = omega arith
-  turns (over_limits s q i o) = omega arith
-  turns (grammar_unnamed q o) = omega arith
-  turns (templates_unnamed q o) = omega arith
-  turns (wrong_class p q i k o) = omega arith
-  turns (underivable q o) = omega arith
-  turns (misfit q o) = omega arith
-  turns (mistyped v q i o) = omega arith
-  turns (short_scratch xs e l) = omega arith
+  -- they have the numbers 1 to 9
+  numbers : {n k p : ℕ} → Offence g t more scratch n k p → (1 ≤ n) × (n ≤ 9)
+  numbers (wrong_length s i n) = (omega arith, omega arith)
+  numbers (wrong_block s n i w) = (omega arith, omega arith)
+  numbers (wrong_layout s i n) = (omega arith, omega arith)
+  numbers (over_limits s q i o) = (omega arith, omega arith)
+  numbers (grammar_unnamed q o) = (omega arith, omega arith)
+  numbers (templates_unnamed q o) = (omega arith, omega arith)
+  numbers (wrong_class p q i k o) = (omega arith, omega arith)
+  numbers (misfit q o) = (omega arith, omega arith)
+  numbers (mistyped v q i o) = (omega arith, omega arith)
+  numbers (short_scratch xs e l) = (omega arith, omega arith)
 
-  from_first : {o : Option Answer} → FirstBy Before (Names (FromTurn 0 (Offence g t more scratch))) o → FirstBy Before (Names (Offence g t more scratch)) o
-  from_first = first_same (λ a. (λ o. o.1, λ o. (omega arith, o)))
+  from_1 : {o : Option Answer} → FirstBy Before (Names (FromNumber 1 (Offence g t more scratch))) o → FirstBy Before (Names (Offence g t more scratch)) o
+  from_1 = first_same (λ a. (λ o. o.1, λ o. ((numbers o).0, o)))
 
--- What holds of the streams where 1 to 7 and 13 have found nothing
+-- What holds of the streams where 1 to 7 have found nothing
 record Passed (g t : List ℕ) (more : List Stream) : Type 0 where
   laid : (s : Stream) → In s (lent g t more) → Laid s
   limited : (s : Stream) → In s (lent g t more) → limits_of s ≡ none
@@ -192,40 +179,38 @@ over_in : (fault : Stream → Option ℕ) {s : Stream} {ss : List Stream} → ov
 unfolding over
 over_in fault e i = (placed_iff _ _).0 (every_in _ e i)
 
--- 5 to 7 and 13, of a grammar and a template set that are laid out and within the limits, and what is tried next
+-- 5 to 7, of a grammar and a template set that are laid out and within the limits, and what is tried next
 first_of_names : (g t : List ℕ) (more : List Stream) (scratch : Option (List ℕ)) (next : Unit {0} → Option Answer)
     → WellSized g → WellSized t → GrammarLaid g → TemplatesLaid t → templates_limits t ≡ none
-    → (templates_typing g t ≡ none → FirstBy Before (Names (FromTurn 8 (Offence g t more scratch))) (next tt))
-    → FirstBy Before (Names (FromTurn 4 (Offence g t more scratch)))
+    → (templates_typing g t ≡ none → FirstBy Before (Names (FromNumber 8 (Offence g t more scratch))) (next tt))
+    → FirstBy Before (Names (FromNumber 5 (Offence g t more scratch)))
     (try 5 (both (placed 1 (grammar_names g)) (placed 2 (templates_names g t))) λ _.
-    try 6 (placed 1 (grammar_classes g)) λ _. try 13 (placed 1 (grammar_finite g)) λ _. try 7 (placed 2 (templates_typing g t)) next)
-unfolding turn before
+    try 6 (placed 1 (grammar_classes g)) λ _. try 7 (placed 2 (templates_typing g t)) next)
 first_of_names g t more scratch next sg st lg lt within h =
-    first_try Off 5 4 refl (omega arith) _ _
+    first_try Off 5 _ _
     (first_same (λ x. by_5 g t more scratch x.0 x.1)
     (first_both _ _ (λ x y o o'. later_kind x y (let e : x.0 ≡ 1 = o.0 in let f : y.0 ≡ 2 = o'.0 in omega arith))
     (first_placed 1 _ (first_grammar_unnamed g sg lg)) (first_placed 2 _ (first_templates_unnamed g t st lt within)))) λ e5.
-    first_try Off 6 5 refl (omega arith) _ _ (first_same (λ x. by_6 g t more scratch x.0 x.1) (first_placed 1 _ (first_class g sg lg))) λ e6.
-    first_try Off 13 6 refl (omega arith) _ _ (first_same (λ x. by_13 g t more scratch x.0 x.1) (first_placed 1 _ (first_underivable g sg lg))) λ e13.
-    first_try Off 7 7 refl (omega arith) _ _ (first_same (λ x. by_7 g t more scratch x.0 x.1) (first_placed 2 _ (first_misfit g t st lt within))) λ e7.
+    first_try Off 6 _ _ (first_same (λ x. by_6 g t more scratch x.0 x.1) (first_placed 1 _ (first_class g sg lg))) λ e6.
+    first_try Off 7 _ _ (first_same (λ x. by_7 g t more scratch x.0 x.1) (first_placed 2 _ (first_misfit g t st lt within))) λ e7.
     h ((placed_iff _ _).0 e7)
   where
     Off : ℕ → ℕ → ℕ → Type 0
     Off = Offence g t more scratch
 
--- 1 to 7 and 13, and what is tried next
+-- 1 to 7, and what is tried next
 first_of_set : (g t : List ℕ) (more : List Stream) (scratch : Option (List ℕ)) (next : Unit {0} → Option Answer) → Ascending 0 (lent g t more)
-    → (Passed g t more → FirstBy Before (Names (FromTurn 8 (Offence g t more scratch))) (next tt))
-    → FirstBy Before (Names (FromTurn 0 (Offence g t more scratch))) (set_refusal g t more next)
-unfolding set_refusal bytes_of limits_of turn before
+    → (Passed g t more → FirstBy Before (Names (FromNumber 8 (Offence g t more scratch))) (next tt))
+    → FirstBy Before (Names (FromNumber 1 (Offence g t more scratch))) (set_refusal g t more next)
+unfolding set_refusal bytes_of limits_of
 first_of_set g t more scratch next up h =
-    first_try Off 1 0 refl (omega arith) _ _ (first_same (λ x. by_1 g t more scratch x.0 x.1) (first_in_streams _ _ up (λ s i. first_length (bytes_of s)))) λ e1.
+    first_try Off 1 _ _ (first_same (λ x. by_1 g t more scratch x.0 x.1) (first_in_streams _ _ up (λ s i. first_length (bytes_of s)))) λ e1.
     let sized : (s : Stream) → In s (lent g t more) → WellSized (bytes_of s) = λ s i. (length_exactly (bytes_of s)).0 (over_in _ e1 i) in
-    first_try Off 2 1 refl (omega arith) _ _
+    first_try Off 2 _ _
     (first_same (λ x. by_2 g t more scratch x.0 x.1) (first_in_streams _ _ up (λ s i. first_block (stream_kind s) (bytes_of s)))) λ e2.
-    first_try Off 3 2 refl (omega arith) _ _ (first_same (λ x. by_3 g t more scratch x.0 x.1) (first_in_streams _ _ up (λ s i. first_layout s (sized s i)))) λ e3.
+    first_try Off 3 _ _ (first_same (λ x. by_3 g t more scratch x.0 x.1) (first_in_streams _ _ up (λ s i. first_layout s (sized s i)))) λ e3.
     let laid : (s : Stream) → In s (lent g t more) → Laid s = λ s i. (laid_exactly s (sized s i)).0 (over_in _ e3 i) in
-    first_try Off 4 3 refl (omega arith) _ _
+    first_try Off 4 _ _
     (first_same (λ x. by_4 g t more scratch x.0 x.1) (first_in_streams _ _ up (λ s i. first_over s (sized s i) (laid s i)))) λ e4.
     let a = here (Answers.templates t ∷ more) in
     let b = later (Answers.grammar g) (Answers.templates t ∷ more) (here more) in
@@ -245,9 +230,8 @@ accept_first : {Off : Answer → Type 0} → ((a : Answer) → Off a → ⊥) �
 unfolding accept
 accept_first h = first_none h
 
--- "The check call tries 1 to 7 on grammar and templates", and 13: without a value and a scratch there is no offence past these
-pub to_7 : (g t : List ℕ) {n k p : ℕ} → Offence g t [] none n k p → turn n ≤ 7
-unfolding turn before
+-- "The check call tries 1 to 7 on grammar and templates": without a value and a scratch there is no offence past these
+pub to_7 : (g t : List ℕ) {n k p : ℕ} → Offence g t [] none n k p → n ≤ 7
 to_7 g t (wrong_length s i n) = omega arith
 to_7 g t (wrong_block s n i w) = omega arith
 to_7 g t (wrong_layout s i n) = omega arith
@@ -255,16 +239,15 @@ to_7 g t (over_limits s q i o) = omega arith
 to_7 g t (grammar_unnamed q o) = omega arith
 to_7 g t (templates_unnamed q o) = omega arith
 to_7 g t (wrong_class p q i k o) = omega arith
-to_7 g t (underivable q o) = omega arith
 to_7 g t (misfit q o) = omega arith
 to_7 g t (mistyped v q i o) = absurd (in_none i)
 to_7 g t (short_scratch xs e l) = absurd (none-ne-some xs e)
 
--- No offence comes before the one that is refused, by its turn, then its stream, then its place; and where nothing is refused, nothing offends.
+-- No offence comes before the one that is refused, by its number, then its stream, then its place; and where nothing is refused, nothing offends.
 pub first_offending_check : (g t : List ℕ) → FirstBy Before (Names (Offence g t [] none)) (check_refusal g t)
 unfolding check_refusal
 first_offending_check g t =
-    from_first g t [] none (first_of_set g t [] none accept (ascending g t [] (no_stream 2))
+    from_1 g t [] none (first_of_set g t [] none accept (ascending g t [] (no_stream 2))
     (λ h. accept_first (λ a o. let l = to_7 g t o.1 in let m = o.0 in omega arith)))
 
 -- "the evaluate call all, in this order"
@@ -286,16 +269,16 @@ by_9 g t scratch more k p = (λ (e, (z, l)). rw (e, z) (short_scratch scratch re
     from k p (short_scratch xs e l) = (refl, (refl, lt-leb 4800 (length scratch) (rw (some-injective scratch xs e) l)))
 
 first_of_value : (g t v scratch : List ℕ) → Passed g t (Answers.value v ∷ [])
-    → FirstBy Before (Names (FromTurn 8 (Offence g t (Answers.value v ∷ []) (some scratch))))
+    → FirstBy Before (Names (FromNumber 8 (Offence g t (Answers.value v ∷ []) (some scratch))))
     (try 8 (placed 3 (value_typing g t v)) λ _. try 9 (placed 0 (need (leb scratch_needed (length scratch)) 0)) accept)
-unfolding limits_of scratch_needed deepest templates_typing turn before
+unfolding limits_of scratch_needed deepest templates_typing
 first_of_value g t v scratch h =
     let i = later (Answers.grammar g) _ (later (Answers.templates t) _ (here [])) in
     let d = (exists_iff (declared_type t)).0 (need_none {A = ℕ} _ 0 (both_none _ _ h.typing).0) in
     let m = first_mistyped g t v d.0 ((declared_exactly t d.0).0 d.1) (h.laid (Answers.value v) i) (h.limited (Answers.value v) i) in
-    first_try Off 8 8 refl (omega arith) _ _ (first_same (λ x. by_8 g t v (some scratch) x.0 x.1) (first_placed 3 _ m)) λ e8.
-    first_try Off 9 9 refl (omega arith) _ _ (first_same (λ x. by_9 g t scratch _ x.0 x.1) (first_placed 0 _ (first_need _ 0))) λ e9.
-    accept_first (λ a o. let l = turns g t _ _ o.1 in let m = o.0 in omega arith)
+    first_try Off 8 _ _ (first_same (λ x. by_8 g t v (some scratch) x.0 x.1) (first_placed 3 _ m)) λ e8.
+    first_try Off 9 _ _ (first_same (λ x. by_9 g t scratch _ x.0 x.1) (first_placed 0 _ (first_need _ 0))) λ e9.
+    accept_first (λ a o. let l = (numbers g t _ _ o.1).1 in let m = o.0 in omega arith)
   where
     Off : ℕ → ℕ → ℕ → Type 0
     Off = Offence g t (Answers.value v ∷ []) (some scratch)
@@ -308,4 +291,4 @@ pub first_offending_evaluate : (g t v scratch : List ℕ)
     → FirstBy Before (Names (Offence g t (Answers.value v ∷ []) (some scratch))) (evaluate_refusal g t v scratch)
 unfolding evaluate_refusal
 first_offending_evaluate g t v scratch =
-    from_first g t _ (some scratch) (first_of_set g t _ (some scratch) _ (ascending g t _ (value_ascending v)) (first_of_value g t v scratch))
+    from_1 g t _ (some scratch) (first_of_set g t _ (some scratch) _ (ascending g t _ (value_ascending v)) (first_of_value g t v scratch))

@@ -1,4 +1,4 @@
--- What an evaluate call leaves of what it was lent: refused by 1 to 9 or 13, everything; otherwise the walk's text in front, the rest of the output, and zeros.
+-- What an evaluate call leaves of what it was lent: refused by 1 to 9, everything; otherwise the walk's text in front, the rest of the output, and zeros.
 use Rattle.std.specs.Prelude.{◌≡◌, ℕ, ◌≤◌, List, length, take, drop, replicate}
 use Rattle.std.proofs.Math.Path.{refl}
 use Rattle.std.proofs.Common.{arith, length-append, length-drop}
@@ -32,7 +32,7 @@ pub data AsWalked (e : End) (out scratch : List ℕ) (o : Outcome) : Type 0 wher
   limited : (l : Limit) (p : ℕ) (s : State) → e ≡ ended l p s → o.result ≡ answer (limit_number l) 2 p s.steps (length s.text)
       → Produced s out scratch o → AsWalked e out scratch o
 
--- the two ways in which an evaluate call can go: refused by a number from 1 to 9 or by 13, or as its walk goes
+-- the two ways in which an evaluate call can go: refused by a number from 1 to 9, or as its walk goes
 pub data Kept (g t v : List ℕ) (fuel : ℕ) (out scratch : List ℕ) (o : Outcome) : Type 0 where
   refused : Refusal o.result → Untouched out scratch o → Kept g t v fuel out scratch o
   as_walked : AsWalked (walk (input g t v fuel out)) out scratch o → Kept g t v fuel out scratch o
@@ -61,7 +61,7 @@ walked_as (done s) out scratch n fits = finished s refl refl (left_produced _ s 
 walked_as (ended l p s) out scratch n fits = limited l p s refl refl (left_produced _ s out scratch (fits s (when_ended l p)))
 walked_as stuck out scratch n fits = absurd (n refl)
 
--- what no refusal of 1 to 9 or 13 meets is typed, so its walk is not stuck
+-- what no refusal of 1 to 9 meets is typed, so its walk is not stuck
 pub admitted_typed : (g t v : List ℕ) (fuel : ℕ) (out scratch : List ℕ) → evaluate_refusal g t v scratch ≡ none → WellTyped (input g t v fuel out)
 unfolding evaluate_refusal input
 admitted_typed g t v fuel out scratch e =

@@ -17,9 +17,6 @@ pub mod Utf8
 pub mod Entities
 pub mod XmlChars
 pub mod Lexemes
-pub mod LexemeExists
-pub mod Rounds
-pub mod FiniteExactly
 pub mod Children
 pub mod Finds
 pub mod Places
@@ -29,7 +26,6 @@ pub mod Lookups
 pub mod OwnRuleExactly
 pub mod TypingExactly
 pub mod ValueExactly
-pub mod Turns
 pub mod Refusals
 pub mod Accepted
 pub mod Offences
@@ -54,7 +50,6 @@ pub mod Sound
 pub mod Kept
 pub mod EvaluateCall
 pub mod InOrder
-pub mod Finishing
 pub mod Demands
 pub mod Packing
 pub mod PackCalls

@@ -1,4 +1,4 @@
--- What offends, and at which place: the refusals 1 to 9 of section "What stops a run" and 13 of 02 h, each in its words.
+-- What offends, and at which place: the refusals 1 to 9 of section "What stops a run", each in its words.
 use Rattle.std.specs.Prelude.{◌≡◌, ℕ, suc, ◌/◌, ◌≤◌, ◌<◌, List, ◌∷◌, length}
 use Rattle.std.proofs.Math.Option.{Option, some}
 use Rattle.rules.specs.Records.{kind_of, field_a, field_b, field_c}
@@ -6,7 +6,6 @@ use Rattle.rules.specs.Lexeme.{lowest, highest, ranges}
 use Rattle.rules.specs.Grammar.{class, classes, productions, element_at, element_heads}
 use Rattle.rules.specs.Templates.{type, type_at, field_heads, templates, parameter_heads, body, form_of, nodes_below}
 use Rattle.rules.specs.Value.{values_below}
-use Rattle.rules.specs.Derivation.{Derives}
 use Rattle.rules.specs.declared.Position.{Position}
 use Rattle.rules.specs.Answers
 use Rattle.rules.specs.Answers.{Stream, stream_kind, bytes_of}
@@ -66,12 +65,6 @@ pub data WrongClass (g : List ℕ) (p : ℕ) : ℕ → Type 0 where
   lowest_above_highest : (r : ℕ) → In r (ranges g p) → highest g r < lowest g r → WrongClass g p r
   past_unicode : (r : ℕ) → In r (ranges g p) → 0x10ffff < highest g r → WrongClass g p r
 
--- 13, 02 h: "A nonterminal with no finite derivation is to be refused"; "place the first production of the first such nonterminal by record". The production
--- at p is of a nonterminal that derives no text:
-pub record Underivable (g : List ℕ) (p : ℕ) : Type 0 where
-  pub a_production : In p (productions g)
-  pub derives_nothing : (x : List ℕ) → Derives g (field_b g p) x → ⊥
-
 -- 7: "A typing rule fails, or a path names a variable or field that isn't there (place of the node that holds the path or itself doesn't suit its position,
 -- never the one above it; 0, and tried first, if template 0 is missing or has not one parameter)."
 pub data Misfit (g t : List ℕ) : ℕ → Type 0 where
@@ -95,7 +88,6 @@ pub data Offence (g t : List ℕ) (more : List Stream) (scratch : Option (List �
   grammar_unnamed : (q : ℕ) → GrammarUnnamed g q → Offence g t more scratch 5 1 q
   templates_unnamed : (q : ℕ) → TemplatesUnnamed g t q → Offence g t more scratch 5 2 q
   wrong_class : (p q : ℕ) → In p (classes g) → kind_of g p ≡ 1 → WrongClass g p q → Offence g t more scratch 6 1 q
-  underivable : (q : ℕ) → Underivable g q → Offence g t more scratch 13 1 q
   misfit : (q : ℕ) → Misfit g t q → Offence g t more scratch 7 2 q
   mistyped : (v : List ℕ) (q : ℕ) → In (Answers.value v) more → Mistyped g t v q → Offence g t more scratch 8 3 q
   short_scratch : (xs : List ℕ) → scratch ≡ some xs → length xs < 4800 → Offence g t more scratch 9 0 0

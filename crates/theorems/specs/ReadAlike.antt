@@ -28,7 +28,7 @@ use Rattle.rules.specs.declared.Form.TheVariants.{Build, Literal, Place, Expand,
 use Rattle.laws.specs.Sorts.{escaped_class_iff}
 use Rattle.theorems.specs.Places.{PlaceWrites, place_exactly}
 use Rattle.theorems.specs.Evaluation.{Evaluates, build, literal, place, expand, then, else, sequence, Builds, own-bytes as own-bytes-built, no_element as nothing-built, next-child, match}
-use Rattle.theorems.specs.Evaluation.{Items, no_item, one_item, for, Loops, no-turn, one_turn, EvaluatesSet}
+use Rattle.theorems.specs.Evaluation.{Items, no_item, one_item, for, Loops, no-turn, one-turn, EvaluatesSet}
 
 pub record ReadAlike (g g' : List ℕ) : Type 0 where
   pub same_class : (n : ℕ) → class g n ≡ class g' n
@@ -126,7 +126,7 @@ module _ (g g' : List ℕ) (r : ReadAlike g g') where
           | one_item f z (a → e) (b → h) ↦ one_item f z e h
           | for f w k (a → e) (b → h) ↦ for f w k e h
           | no-turn ↦ no-turn
-          | one_turn z (a → e) (b → h) ↦ one_turn z e h
+          | one-turn z (a → e) (b → h) ↦ one-turn z e h
         ]
 
     pub evaluates-set-alike : {x : List ℕ} {n : ℕ} → EvaluatesSet g t v x n → EvaluatesSet g' t v x n

@@ -11,13 +11,13 @@ use Rattle.rules.specs.Answers.{answer, check, evaluate_refusal}
 use Rattle.rules.specs.declared.Form.TheVariants.{Literal}
 use Rattle.rules.specs.declared.Position.{Position}
 use Rattle.laws.specs.Faults.{In, here, on_found_true}
+use Rattle.theorems.specs.Least.{in_none}
 use Rattle.theorems.specs.Utf8.{AllScalar, encoded_all, utf8_exactly}
 use Rattle.theorems.specs.XmlChars.{XmlChar, from_space}
 use Rattle.theorems.specs.Entities.{of_nothing, escape_exactly}
 use Rattle.theorems.specs.Escaping.{WellFormedUtf8}
 use Rattle.theorems.specs.EscapedCharacters.{escape_by_characters, escaped_scalars, of_escaped}
 use Rattle.theorems.specs.Readings.{Plain, plain_is, escaped_is, Takes, of_itself, of_its_plain, not_both}
-use Rattle.theorems.specs.LexemeExists.{empty_plain}
 use Rattle.theorems.specs.Lexemes.{InRange, PlainLexeme, Lexeme, a_plain, an_escaped, lexeme_exactly}
 use Rattle.theorems.specs.LimitsExactly.{value_limits_exactly}
 use Rattle.theorems.specs.OwnRule.{Fits, Stands, OfForm, a_text, a_yes_no, a_list, a_record, ShouldBe, a_case}
@@ -82,6 +82,20 @@ plain_empty {g} {text} {c} {p} h k l =
     let m : length l.characters ≡ 0 = ap length n in
     let b : field_b g l.head ≡ field_b g p = ap (field_b g) z in
     (l.well_formed ∙ ap encoded_all n, omega (arith, l.least))
+
+empty_plain : {g : List ℕ} {c p : ℕ} → Plain g c p → field_b g p ≡ 0 → PlainLexeme g c []
+unfolding encoded_all
+empty_plain {p = p} k e = record {
+  head = p;
+  of_class = k;
+  characters = [];
+  scalars = λ x i. absurd (in_none i);
+  well_formed = refl;
+  least = omega arith;
+  most = omega arith;
+  in_some_range = λ x i. absurd (in_none i);
+  xml_chars = λ x i. absurd (in_none i);
+}
 
 -- Such a class has no lexeme but perhaps the empty one, which it has if its least is 0. An escaped class is like the plain class that it takes text of.
 pub no_lexeme_but_the_empty : (g : List ℕ) (c d p : ℕ) → Takes g c d → Plain g d p → NoneAdmitted g p

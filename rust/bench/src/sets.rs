@@ -1,8 +1,7 @@
 //! The sets that are measured: the paper's example, a full-size feed, and sets made to be slow.
 
-use build::{escaped, Element, Grammar, Node, Path, Production, Templates, Type, Value};
+use build::{escaped, Element, Grammar, Node, Path, Templates, Type, Value};
 use trials::generate::Streams;
-use trials::Random;
 
 use crate::podcast;
 
@@ -17,7 +16,7 @@ pub struct Family {
 }
 
 /// All families.
-pub const FAMILIES: [Family; 36] = [
+pub const FAMILIES: [Family; 33] = [
     Family {
         name: "the paper's example",
         set: |_| example(),
@@ -111,21 +110,6 @@ pub const FAMILIES: [Family; 36] = [
     Family {
         name: "2,000 productions of many nonterminals",
         set: many_nonterminals,
-        grows: true,
-    },
-    Family {
-        name: "2,000 nonterminals, each needing the next",
-        set: |scale| chain(Order::Forwards, scale),
-        grows: true,
-    },
-    Family {
-        name: "2,000 nonterminals, each needing the one before",
-        set: |scale| chain(Order::Backwards, scale),
-        grows: true,
-    },
-    Family {
-        name: "2,000 nonterminals, each needing another, shuffled",
-        set: |scale| chain(Order::Shuffled, scale),
         grows: true,
     },
     Family {
@@ -424,39 +408,6 @@ fn many_nonterminals(scale: usize) -> Streams {
     });
     let page = [Node::sequence(items), Node::build(close, [])];
     templates.template(0, [yes_no], Node::build(0, page));
-    Streams::of(&grammar, &templates, &Value::YesNo(true))
-}
-
-/// How the productions of a chain stand.
-enum Order {
-    Forwards,
-    Backwards,
-    Shuffled,
-}
-
-/// 500 to 2,000 nonterminals, each of which needs another one, but for the last, which is built again and
-/// again.
-fn chain(order: Order, scale: usize) -> Streams {
-    let row: Vec<u16> = (1..=500 * scale as u16).collect();
-    let mut grammar = Grammar::new();
-    grammar.chain(&row, []);
-    let productions = &mut grammar.productions;
-    for production in productions.iter_mut() {
-        production.elements.insert(0, keyword("<piece/>"));
-    }
-    match order {
-        Order::Forwards => {}
-        Order::Backwards => productions.reverse(),
-        Order::Shuffled => Random::new(1).shuffle(productions),
-    }
-    let is_last = |production: &Production| Some(&production.nonterminal) == row.last();
-    let last = productions.iter().position(is_last).expect("the last");
-    let pieces = Element::Repetition(row[row.len() - 1]);
-    let page = grammar.production(0, [keyword("{"), pieces, keyword("}")]);
-    let mut templates = Templates::new();
-    let yes_no = templates.yes_no();
-    let builds = vec![Node::build(last as u16, []); 1_900 * scale];
-    templates.template(0, [yes_no], Node::build(page, [Node::sequence(builds)]));
     Streams::of(&grammar, &templates, &Value::YesNo(true))
 }
 

@@ -129,17 +129,6 @@ impl Grammar {
         word(self.productions.len() - 1)
     }
 
-    /// Adds a production for each nonterminal of a row, which is the next of the row and nothing else;
-    /// that of the last has these elements. It is a circle if they are the first.
-    pub fn chain(&mut self, row: &[u16], last: impl IntoIterator<Item = Element>) {
-        for pair in row.windows(2) {
-            self.production(pair[0], [Element::Nonterminal(pair[1])]);
-        }
-        if let Some(&end) = row.last() {
-            self.production(end, last);
-        }
-    }
-
     /// The records in order. A production's number is a word, its low byte in a and its high byte in
     /// c. A class's is a byte: those over 255 are cut to one, and so refused by the machine.
     ///
@@ -217,19 +206,6 @@ fn push_element(records: &mut Vec<Record>, element: &Element) {
 #[cfg(test)]
 mod tests {
     use super::*;
-
-    #[test]
-    fn each_of_a_chain_is_the_next() {
-        let mut grammar = Grammar::new();
-        grammar.chain(&[7, 9, 8], [Element::Nonterminal(7)]);
-        let rows = grammar.productions.iter().map(|production| {
-            let [Element::Nonterminal(next)] = production.elements[..] else {
-                panic!("one nonterminal");
-            };
-            (production.nonterminal, next)
-        });
-        assert_eq!(rows.collect::<Vec<_>>(), [(7, 9), (9, 8), (8, 7)]);
-    }
 
     #[test]
     fn a_productions_number_is_a_word_and_a_classs_a_byte() {

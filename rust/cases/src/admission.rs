@@ -98,13 +98,10 @@ fn escaped() -> Vec<Case> {
     ]
 }
 
-/// Class tables stay legal, whatever their ranges hold. Beside a class without a lexeme nonterminal 1
-/// has another production, as it would derive no text.
+/// Class tables stay legal, whatever their ranges hold.
 fn tables() -> Vec<Case> {
     let controls = grammar(&[(0, 0x1F)], 0);
-    let mut tab = built(1, &[(0xB, 0xB)], 0);
-    tab.production(1, []);
-    let tab: Records = tab.records().into();
+    let tab = grammar(&[(0xB, 0xB)], 0);
     let empty: Records = built(0, &[(0xB, 0xB)], 0).records().into();
     let last = grammar(&[(0xFFFE, 0xFFFF), (0x61, 0x7A)], 0);
     let none = Set::of(&tab, &templates(), &titles([]));

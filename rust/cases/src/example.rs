@@ -8,18 +8,12 @@ use build::{Element, Grammar, Node, Path, Record, Templates, Value};
 /// to 14.
 #[must_use]
 pub fn grammar() -> Records {
-    built().records().into()
-}
-
-/// The same, to be built on.
-#[must_use]
-pub fn built() -> Grammar {
     let keyword = |text: &str| Element::keyword(text);
     let mut grammar = Grammar::new();
     grammar.class(1, 4, &[(0x61, 0x7A), (0x370, 0x3FF)]);
     grammar.production(0, [keyword("["), Element::Repetition(1), keyword("]")]);
     grammar.production(1, [keyword("<"), Element::Class(0), keyword(">")]);
-    grammar
+    grammar.records().into()
 }
 
 /// Type 0, text of class 0, and type 1, the list of it; no template yet.

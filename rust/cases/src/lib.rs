@@ -15,7 +15,6 @@
 //! | `admission` | characters that XML 1.0 admits: titles, literals, class tables; where it isn't asked |
 //! | `productions` | more than 256 productions: their numbers, and builds of them |
 //! | `variants` | variants, cases and matches: layout, names, limits, typing, runs |
-//! | `finite` | refusal 13: nonterminals that derive no text, by circles and by classes |
 //!
 //! To add a case, add it to one of these, then `cargo run -p cases`.
 
@@ -27,7 +26,6 @@ mod escapes;
 mod example;
 mod expected;
 mod file;
-mod finite;
 mod productions;
 mod records;
 mod runs;
@@ -56,7 +54,6 @@ pub fn all() -> Vec<Case> {
         admission::all(),
         productions::all(),
         variants::all(),
-        finite::all(),
     ]
     .concat()
 }

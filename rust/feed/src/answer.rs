@@ -111,13 +111,6 @@ pub enum Refusal {
     /// 12 of [`pack`](crate::pack), [`unpack`](crate::unpack) and [`unescape`](crate::unescape): what they
     /// would write doesn't fit.
     NoRoom,
-    /// 13: a nonterminal derives no text, as each of its productions contains a nonterminal that derives
-    /// none, itself or another, or a class without a [lexeme](crate#lexemes). A repetition may always be
-    /// empty. Every nonterminal is judged, whether a template uses it or not. Tried after 6 and before 7.
-    Underivable {
-        /// The first production of the first such nonterminal, in the grammar.
-        record: u64,
-    },
     /// A number that this wrapper doesn't know.
     Unknown {
         /// The number answered.
@@ -187,7 +180,6 @@ impl Answer {
             11 => Some(Refusal::TooDeep { node: record }),
             12 if stream == Stream::Lent => Some(Refusal::NoRoom),
             12 => Some(Refusal::OutputFull { node: record }),
-            13 => Some(Refusal::Underivable { record }),
             number => Some(Refusal::Unknown { number }),
         }
     }
@@ -269,7 +261,6 @@ impl Refusal {
             Self::FuelSpent { .. } => 10,
             Self::TooDeep { .. } => 11,
             Self::OutputFull { .. } | Self::NoRoom => 12,
-            Self::Underivable { .. } => 13,
             Self::Unknown { number } => number,
         }
     }
@@ -311,7 +302,6 @@ impl Refusal {
             Self::TooDeep { .. } => "a node is reached at depth 201",
             Self::OutputFull { .. } => "a keyword, lexeme or separator passes the end of the output",
             Self::NoRoom => "what is to be written doesn't fit the output",
-            Self::Underivable { .. } => "a nonterminal derives no text",
             Self::Unknown { .. } => "a refusal that this wrapper doesn't know",
         }
     }
@@ -325,7 +315,7 @@ impl Refusal {
             | Self::Layout { stream }
             | Self::Limit { stream, .. }
             | Self::Name { stream, .. } => Some(stream),
-            Self::Class { .. } | Self::Underivable { .. } => Some(Stream::Grammar),
+            Self::Class { .. } => Some(Stream::Grammar),
             Self::Typing { .. }
             | Self::FuelSpent { .. }
             | Self::TooDeep { .. }
@@ -342,8 +332,7 @@ impl Refusal {
             Self::Limit { record, .. }
             | Self::Name { record, .. }
             | Self::Class { record }
-            | Self::ValueType { record }
-            | Self::Underivable { record } => Some(record),
+            | Self::ValueType { record } => Some(record),
             Self::Typing { node: 0 } => None,
             Self::Typing { node }
             | Self::FuelSpent { node }
@@ -445,10 +434,6 @@ mod tests {
             said([7, 2, 0, 0, 0]),
             "the templates: template 0 is missing or has not one parameter (refusal 7)"
         );
-    }
-
-    #[test]
-    fn refusals_from_9_on_name_them_too() {
         assert_eq!(
             said([9, 0, 0, 0, 0]),
             "the scratch has fewer than 4,800 16-bit numbers (refusal 9)"
@@ -460,10 +445,6 @@ mod tests {
         assert_eq!(
             said([12, 2, 4, 7, 15]),
             "the templates, record 4: a keyword, lexeme or separator passes the end of the output (refusal 12)"
-        );
-        assert_eq!(
-            said([13, 1, 9, 0, 0]),
-            "the grammar, record 9: a nonterminal derives no text (refusal 13)"
         );
     }
 

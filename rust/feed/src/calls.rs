@@ -59,7 +59,7 @@ mod library {
     }
 }
 
-/// Judges a grammar and a template set: the refusals 1 to 7, in their order, and 13 between 6 and 7.
+/// Judges a grammar and a template set: the refusals 1 to 7, in their order.
 ///
 /// Accepted, the answer is five zeros. A set that is accepted can't be brought to a halt halfway by any
 /// well-formed value of its declared type: [`evaluate`] finishes it, or meets a limit (fuel, depth,
@@ -92,11 +92,11 @@ pub fn check(grammar: &[u8], templates: &[u8]) -> Answer {
     Answer::from_fields(answer)
 }
 
-/// Writes the text of a value into `output`: all refusals, in their order, with 13 between 6 and 7.
+/// Writes the text of a value into `output`: all refusals, in their order.
 ///
 /// `fuel` is the most nodes that may be visited. `scratch` has at least [`SCRATCH`](crate::SCRATCH)
-/// numbers, whatever they hold. For the refusals 1 to 9 and 13 output and scratch keep their bytes.
-/// Otherwise the first [`bytes`](Answer::bytes) bytes of the output are what the walk produced, the rest of the
+/// numbers, whatever they hold. For the refusals 1 to 9 output and scratch keep their bytes. Otherwise
+/// the first [`bytes`](Answer::bytes) bytes of the output are what the walk produced, the rest of the
 /// output is untouched, and all of the scratch is zero.
 ///
 /// ```

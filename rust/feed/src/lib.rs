@@ -22,8 +22,7 @@
 //! A literal of the templates (else refusal 7) and a text of the value (else 8) is a lexeme of its class:
 //! well-formed UTF-8 of least to most characters, each in a range of the class and among those that XML 1.0
 //! admits: U+0009, U+000A, U+000D, U+0020-U+D7FF, U+E000-U+FFFD and U+10000-U+10FFFF. A range may hold
-//! others, such as the vertical tab U+000B, and lets none of them in. So a class may have no lexeme, and a
-//! nonterminal that can't do without it is refusal 13. A lexeme of an escaped class is the
+//! others, such as the vertical tab U+000B, and lets none of them in. A lexeme of an escaped class is the
 //! escaped form of a plain one, and it is the plain characters that are judged. Keywords and separators are
 //! no lexemes: they may hold any bytes.
 //!

@@ -271,47 +271,6 @@ fn a_lexeme_has_only_characters_that_xml_admits() {
     }
 }
 
-/// The example with another element in place of the class of nonterminal 1, whose production stands at
-/// record 9, and with other ranges in that class.
-fn with_element(element: [u8; 8], ranges: [[u8; 8]; 2]) -> Set {
-    let set = example();
-    let grammar = changed(&set.grammar, 1, &ranges);
-    Set {
-        grammar: changed(&grammar, 12, &[element]),
-        ..set
-    }
-}
-
-#[test]
-fn a_nonterminal_that_derives_no_text_is_refused_before_the_templates() {
-    let (class, itself) = ([4, 1, 0, 0, 0, 0, 0, 0], [4, 2, 1, 0, 0, 0, 0, 0]);
-    let letters = [2, 0x61, 0, 0, 0x7a, 0, 0, 0];
-    let surrogates = [2, 0, 0xd8, 0, 0xff, 0xdf, 0, 0];
-    let controls = [2, 0xb, 0, 0, 0xc, 0, 0, 0];
-    let endless = with_element(itself, [letters; 2]);
-    let barren = with_element(class, [surrogates, controls]);
-    for set in [endless, barren] {
-        // Of the first 7 would be met: the place below the build of production 1 suits no nonterminal.
-        case(&set, 1_000_000, 65_536, [13, 1, 9, 0, 0], "");
-        let answer = feed::check(&set.grammar, &set.templates);
-        assert_eq!(answer.fields(), [13, 1, 9, 0, 0]);
-        assert_eq!(answer.refusal(), Some(Refusal::Underivable { record: 9 }));
-        // Nor is 9.
-        let (answer, _) = evaluate(&set, 9, 9, 0);
-        assert_eq!(answer.number, 13);
-    }
-    // A character is enough, and so is a repetition of what derives a text by being empty.
-    case(
-        &with_element(class, [surrogates, letters]),
-        9,
-        99,
-        [8, 3, 3, 0, 0],
-        "",
-    );
-    let row = with_element([4, 3, 1, 0, 0, 0, 0, 0], [letters; 2]);
-    case(&row, 9, 99, [7, 2, 9, 0, 0], "");
-}
-
 #[test]
 fn unescaping_does_not_ask_what_xml_admits() {
     let mut plain = [GUARD; 9];

@@ -160,15 +160,6 @@ pub fn listed_by(row: &[String], between: &str) -> String {
     }
 }
 
-/// The first and the last of many lines, so many of each.
-pub fn ends(mut lines: Vec<String>, (first, last): (usize, usize)) -> Vec<String> {
-    let left_out = lines.len().saturating_sub(first + last);
-    if left_out > 1 {
-        lines.splice(first..first + left_out, [format!(".. {left_out} more ..")]);
-    }
-    lines
-}
-
 /// The name or number alone of what is called ``class `title` `` or `class 3`.
 pub fn bare(called: &str) -> String {
     called
@@ -200,17 +191,6 @@ mod tests {
         assert_eq!(listed(&row[..2]), "0, 1");
         assert_eq!(listed(&row[..8]), "0, 1, 2, 3, 4, 5, 6, 7");
         assert_eq!(listed(&row), "0, 1, 2, 3, 4, 5, 6, 7 and 12 more");
-    }
-
-    #[test]
-    fn the_ends_of_many_lines() {
-        let row: Vec<String> = (0..6).map(|number| number.to_string()).collect();
-        assert_eq!(
-            ends(row.clone(), (3, 1)),
-            ["0", "1", "2", ".. 2 more ..", "5"]
-        );
-        assert_eq!(ends(row.clone(), (2, 0)), ["0", "1", ".. 4 more .."]);
-        assert_eq!(ends(row.clone(), (4, 1)), row);
     }
 
     #[test]

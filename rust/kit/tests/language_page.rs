@@ -47,27 +47,6 @@ fn a_refusal_of_a_description() {
     assert_eq!(String::from_utf8_lossy(&output.stderr), fenced("feed.txt:"));
 }
 
-/// The chapters give the text that the page promises, and can't end where each needs one more.
-#[test]
-fn chapters_that_end_and_that_do_not() {
-    let folder = folder("page_chapters");
-    let chapters = fenced("class title 1 to 40 { 'a'-'z' ' ' }\n\nproduction book");
-    let written = |text: &str| fs::write(folder.join("chapters.txt"), text).expect("written");
-    written(&chapters);
-    let output = kit(&["render", "chapters.txt"], &folder);
-    let (_, promised) = chapters.split_once("# ").expect("a comment");
-    assert_eq!(String::from_utf8_lossy(&output.stdout), promised.trim_end());
-    let (end, circle) = (" (\" chapter*(\", \") \")\"", " (\" chapter \")\"");
-    assert!(chapters.contains(end));
-    written(&chapters.replace(end, circle));
-    let output = kit(&["check", "chapters.txt"], &folder);
-    assert_eq!(output.status.code(), Some(1));
-    assert_eq!(
-        String::from_utf8_lossy(&output.stderr),
-        fenced("chapters.txt:")
-    );
-}
-
 #[test]
 fn a_mistake_in_data() {
     let folder = folder("page_data");

@@ -1,11 +1,9 @@
-//! The tutorial (`docs/TUTORIAL.md`), the starter that it begins with, the first screen of the README, and the
-//! list that never ends on the examples' page: every step and command on them is done, and must show what they
-//! show.
+//! The tutorial (`docs/TUTORIAL.md`), the starter that it begins with, and the first screen of the README: every
+//! step and command on them is done, and must show what they show.
 
 mod tutorial_page;
 
 use std::fs;
-use std::os::unix::fs::symlink;
 use std::path::{Path, PathBuf};
 use std::process::Command;
 use tutorial_page::folder::Folder;
@@ -251,21 +249,6 @@ fn the_readme_begins_with_lines_that_are_rendered() {
     assert!(is_shown(&shown, &said), "{said:#?}");
 }
 
-/// The commands of the examples' page, in a folder that has the examples.
-#[test]
-fn the_list_that_never_ends_on_the_examples_page() {
-    let page = text_of("examples/README.md");
-    let shown = page.split("```\n").find(|part| part.starts_with("$ "));
-    let lines = shown.expect("commands").lines();
-    let (typed, shown): (Vec<&str>, Vec<&str>) = lines.partition(|line| line.starts_with("$ "));
-    let folder = Folder::fresh("examples_page");
-    symlink(file("examples"), folder.path.join("examples")).expect("a link");
-    let typed: Vec<&str> = typed.iter().map(|line| &line[2..]).collect();
-    let said = folder.run(&typed.join("\n"));
-    assert_eq!(said.status, Some(1));
-    assert_eq!(said.text.lines().collect::<Vec<_>>(), shown);
-}
-
 /// The page has each kind of step, so that none of them is read as prose by mistake.
 #[test]
 fn the_page_has_every_kind_of_step() {
@@ -273,6 +256,6 @@ fn the_page_has_every_kind_of_step() {
     let count = |is: fn(&Step) -> bool| steps.iter().filter(|(_, step)| is(step)).count();
     assert!(count(|step| matches!(step, Step::Change { .. })) > 15);
     assert!(count(|step| matches!(step, Step::Commands(_))) > 10);
-    assert_eq!(count(|step| matches!(step, Step::Undo)), 4);
+    assert_eq!(count(|step| matches!(step, Step::Undo)), 3);
     assert_eq!(count(|step| matches!(step, Step::Has { .. })), 4);
 }

@@ -172,6 +172,14 @@ fn empty_items_and_empty_separators() {
 }
 
 #[test]
+fn a_nonterminal_that_never_ends_derives_nothing() {
+    let mut grammar = Grammar::new();
+    grammar.production(0, [keyword("("), Nonterminal(0), keyword(")")]);
+    assert!(!derives(&grammar, 0, b""));
+    assert!(!derives(&grammar, 0, b"(())"));
+}
+
+#[test]
 fn past_the_budget_there_is_no_verdict() {
     let grammar = recogniser::Grammar::read(&entries().stream()).expect("a grammar");
     assert_eq!(grammar.derives(0, b"[<ab>]", 5), None);
@@ -326,30 +334,6 @@ fn thousands_of_askers_for_thousands_of_empty_productions() {
     assert!(derives(&grammar, 0, b"a"));
     assert!(!derives(&grammar, 0, b""));
     assert!(!derives(&grammar, 0, b"aa"));
-}
-
-/// A nonterminal that contains itself in every production, by itself or by a circle, or a class without a
-/// lexeme, derives no text; a row of it derives the empty one.
-#[test]
-fn what_derives_no_text() {
-    let mut grammar = Grammar::new();
-    let barren = grammar.class(1, 4, &[(0xB, 0xB), (0xD800, 0xDFFF)]);
-    grammar.production(0, [keyword("("), Nonterminal(0), keyword(")")]);
-    grammar.chain(&[1, 2, 3], [Nonterminal(1), keyword("a")]);
-    grammar.production(4, [Class(barren)]);
-    grammar.production(5, [Repetition(0), Element::separated(4, ",")]);
-    for text in ["", "()", "(())", "a", "aa", ",", "\u{B}"] {
-        for nonterminal in 0..5 {
-            assert!(!derives(&grammar, nonterminal, text.as_bytes()), "{text:?}");
-        }
-        assert_eq!(derives(&grammar, 5, text.as_bytes()), text.is_empty());
-    }
-    // With a way out all of the circle derive a text.
-    grammar.production(2, [keyword("b")]);
-    for (nonterminal, text) in [(1, "b"), (2, "b"), (3, "ba"), (2, "ba"), (1, "baa")] {
-        assert!(derives(&grammar, nonterminal, text.as_bytes()), "{text}");
-    }
-    assert!(!derives(&grammar, 3, b"b"));
 }
 
 /// A template 0 behind variants, with a match on one.

@@ -9,7 +9,7 @@ pub struct Answer {
     pub number: u8,
     /// The kind of the stream that offends: 1 grammar, 2 templates, 3 value; else 0.
     pub stream: u8,
-    /// The block (for 2) or the record (for 4 to 8 and 10 to 13) that offends; else 0.
+    /// The block (for 2) or the record (for 4 to 8 and 10 to 12) that offends; else 0.
     pub place: usize,
     /// Steps that the walk counted.
     pub steps: u32,

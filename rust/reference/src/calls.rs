@@ -6,12 +6,12 @@ use crate::grammar::Grammar;
 use crate::records::{Broken, Records};
 use crate::templates::Templates;
 use crate::value::Value;
-use crate::{blocks, finite, limits, names, typing, walk};
+use crate::{blocks, limits, names, typing, walk};
 
 /// The scratch has at least so many 16-bit numbers: 24 for each depth.
 pub const SCRATCH: usize = 4_800;
 
-/// Tries 1 to 7 on a grammar and a template set, and 13 between 6 and 7; five zeros mean accepted.
+/// Tries 1 to 7 on a grammar and a template set; five zeros mean accepted.
 #[must_use]
 pub fn check(grammar: &[u8], templates: &[u8]) -> Answer {
     match try_check(grammar, templates) {
@@ -30,10 +30,9 @@ fn try_check(grammar: &[u8], templates: &[u8]) -> Result<(), Refusal> {
     Ok(())
 }
 
-/// Tries 1 to 9, and 13 between 6 and 7, then walks: the finished text, or as far as the walk came, is
-/// left in `out`.
+/// Tries 1 to 9, then walks: the finished text, or as far as the walk came, is left in `out`.
 ///
-/// For 1 to 9 and 13 `out` and `scratch` keep their bytes; otherwise all of `scratch` becomes zero.
+/// For 1 to 9 `out` and `scratch` keep their bytes; otherwise all of `scratch` becomes zero.
 pub fn evaluate(
     grammar: &[u8],
     templates: &[u8],
@@ -83,13 +82,12 @@ fn layout_of(kind: Kind) -> impl Fn(Broken) -> Refusal {
     move |Broken| Refusal::at(3, kind, 0)
 }
 
-/// Refusals 5, 6, 13 and 7, in this order, and the classes made ready for texts.
+/// Refusals 5 to 7, and the classes made ready for texts.
 fn judge_set(grammar: &Grammar<'_>, templates: &Templates<'_>) -> Result<Lexemes, Refusal> {
     names::judge_grammar(grammar)?;
     names::judge_templates(grammar, templates)?;
     classes::judge(grammar)?;
     let lexemes = Lexemes::of(grammar);
-    finite::judge(grammar, &lexemes)?;
     typing::judge_templates(grammar, &lexemes, templates)?;
     Ok(lexemes)
 }

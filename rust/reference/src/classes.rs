@@ -74,14 +74,6 @@ impl Lexemes {
             }
         }
     }
-
-    /// Whether the class with this number has a lexeme; an escaped one has if its plain class has.
-    pub(crate) fn exist(&self, class: u16) -> bool {
-        match &self.classes[usize::from(class)] {
-            Lexeme::Plain(lexeme) => lexeme.exists(),
-            Lexeme::Escaped(plain) => self.exist(*plain),
-        }
-    }
 }
 
 /// The lexemes of a plain class.
@@ -107,17 +99,6 @@ impl PlainLexeme {
             ascii,
             ranges,
         }
-    }
-
-    /// Whether there is one: the empty text, or some character that XML admits (no surrogate is among
-    /// these) as often as least says. Least isn't above most, since refusal 6 has been tried.
-    fn exists(&self) -> bool {
-        let meets = |range: &RangeInclusive<u32>| {
-            ADMITTED
-                .iter()
-                .any(|admitted| range.start() <= admitted.end() && admitted.start() <= range.end())
-        };
-        *self.counts.start() == 0 || self.ranges.iter().any(meets)
     }
 
     /// A lexeme is well-formed UTF-8 with a character count from least to most, each character
@@ -267,34 +248,5 @@ mod tests {
         assert!(class(0, 3, &[]).is(b""));
         assert!(!class(1, 3, &[]).is(b""));
         assert!(!class(0, 3, &[]).is(b"a"));
-    }
-
-    /// A class has a lexeme if one of its characters is admitted, wherever that lies in its ranges.
-    #[test]
-    fn a_class_has_a_lexeme_where_a_range_meets_what_is_admitted() {
-        let barren = [
-            (0x0, 0x8),
-            (0xB, 0xC),
-            (0xE, 0x1F),
-            (0xD800, 0xDFFF),
-            (0xFFFE, 0xFFFF),
-        ];
-        assert!(!class(1, 1, &[]).exists() && !class(7, 9, &barren).exists());
-        assert!(class(0, 0, &[]).exists() && class(0, 9, &barren).exists());
-        for (lowest, highest) in barren {
-            assert!(!class(1, 1, &[(lowest, highest)]).exists());
-            assert!(class(1, 1, &[(lowest, highest + 1)]).exists());
-            if let Some(before) = lowest.checked_sub(1) {
-                assert!(class(1, 1, &[(before, highest)]).exists());
-            }
-        }
-        for code in [
-            0x9, 0xA, 0xD, 0x20, 0xD7FF, 0xE000, 0xFFFD, 0x1_0000, 0x10_FFFF,
-        ] {
-            assert!(
-                class(2, 65_535, &[(0, 0), (code, code)]).exists(),
-                "{code:x}"
-            );
-        }
     }
 }

@@ -41,7 +41,6 @@ pub(crate) struct CodeRange {
 
 /// A production record with its elements.
 pub(crate) struct Production<'a> {
-    pub(crate) place: usize,
     pub(crate) nonterminal: u16,
     pub(crate) elements: Vec<Element<'a>>,
 }
@@ -145,7 +144,6 @@ fn read_range(reader: &mut Reader<'_>) -> Result<CodeRange, Broken> {
 
 /// Reads a production, whose number is a word: a holds its low byte and c its high byte.
 fn read_production<'a>(reader: &mut Reader<'a>, number: usize) -> Result<Production<'a>, Broken> {
-    let place = reader.place();
     let head = reader.record_of(3)?;
     ask(usize::from(head.a()) + 256 * usize::from(head.c()) == number)?;
     let mut elements = Vec::new();
@@ -153,7 +151,6 @@ fn read_production<'a>(reader: &mut Reader<'a>, number: usize) -> Result<Product
         elements.push(read_element(reader)?);
     }
     Ok(Production {
-        place,
         nonterminal: head.b(),
         elements,
     })

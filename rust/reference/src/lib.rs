@@ -1,7 +1,6 @@
 //! The page machine in plain Rust, written from document 01 and the requests of 02 that have landed
 //! (a: separators; b: checks that start from the block before; c: escaped classes; d: XML's
-//! characters; f: production numbers of two bytes; g: variants and matches; h: nonterminals that derive
-//! no text), and from nothing else.
+//! characters; f: production numbers of two bytes; g: variants and matches), and from nothing else.
 //!
 //! A grammar, a template set and a value go in as streams of 512-byte blocks; a text that the
 //! grammar derives, or one numbered refusal, comes out. This crate exists to be compared with the
@@ -17,7 +16,6 @@
 //! | `names` | refusal 5 |
 //! | `classes` | refusal 6, and lexemes |
 //! | `escape` | 02 c: the five entities; the unescape call |
-//! | `finite` | 02 h: refusal 13 |
 //! | `typing` | Typing; refusals 7 and 8 |
 //! | `walk` | Walk; refusals 10 to 12 |
 //! | `calls` | What stops a run: the order of the checks |
@@ -34,7 +32,6 @@ mod blocks;
 mod calls;
 mod classes;
 mod escape;
-mod finite;
 mod grammar;
 mod limits;
 mod names;

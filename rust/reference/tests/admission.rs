@@ -117,8 +117,6 @@ fn a_class_of_other_characters_has_at_most_the_empty_lexeme() {
         panic!("class 0 is plain");
     };
     class.least = 1;
-    // Nonterminal 0 would derive no text.
-    grammar.production(0, []);
     for text in OTHERS.map(String::from).into_iter().chain([String::new()]) {
         assert_eq!(titled(&grammar, &text).0, "8 3 0 0 0", "{text:?}");
     }

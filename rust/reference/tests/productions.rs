@@ -238,15 +238,13 @@ fn classes_keep_their_byte() {
     }
 }
 
-/// Many nonterminals are named as fast as few: a set whose every record names one. The first names the
-/// last, and each other the one before it.
+/// Many nonterminals are named as fast as few: a set whose every record names one.
 #[test]
 fn thousands_of_nonterminals_that_name_one_another() {
     const COUNT: u16 = 4_000;
     let mut grammar = Grammar::new();
     for number in 0..COUNT - 1 {
-        let named = number.checked_sub(1).unwrap_or(COUNT - 1);
-        grammar.production(number, [Element::Nonterminal(named)]);
+        grammar.production(number, [Element::Nonterminal(COUNT - 1 - number)]);
     }
     grammar.production(COUNT - 1, []);
     let body = || Node::build(0, [Node::build(COUNT - 1, [])]);

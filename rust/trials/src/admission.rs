@@ -16,8 +16,7 @@ use crate::machine::{Fields, Machine, Reference};
 use crate::unescaping::Unescaping;
 
 /// Whether XML 1.0 admits a character.
-#[must_use]
-pub fn is_admitted(character: char) -> bool {
+pub(crate) fn is_admitted(character: char) -> bool {
     matches!(
         character,
         '\t' | '\n' | '\r' | ' '..='\u{D7FF}' | '\u{E000}'..='\u{FFFD}' | '\u{10000}'..
@@ -151,7 +150,7 @@ impl Admission {
     /// What the faulty machine answers instead, if its fault comes to light. Without a value there
     /// are no titles.
     fn altered(self, right: Fields, streams: [&[u8]; 3]) -> Option<Fields> {
-        if matches!(right[0], 1..=6 | 13) {
+        if (1..=6).contains(&right[0]) {
             return None;
         }
         let [grammar, templates, value] = &streams.map(records_of);
@@ -251,7 +250,7 @@ impl Admission {
 }
 
 /// The ranges of a class, each with its record; an escaped one has none.
-pub(crate) fn ranges(grammar: &[Record], class: usize) -> Vec<(usize, (u32, u32))> {
+fn ranges(grammar: &[Record], class: usize) -> Vec<(usize, (u32, u32))> {
     let count = match grammar[class][0] {
         1 => d(&grammar[class]),
         _ => 0,

@@ -2,7 +2,7 @@
 
 use std::fmt;
 
-use crate::machine::{walked, Fields, Machine, NUMBERS};
+use crate::machine::{Fields, Machine};
 
 /// What an evaluate call is lent beside the streams.
 #[derive(Clone, Copy, Debug)]
@@ -91,12 +91,12 @@ impl Evaluated {
     /// The promises about lent bytes that need no second machine.
     fn broken_promise(&self) -> Option<&'static str> {
         let [number, stream, place, steps, written] = self.fields;
-        let walked = walked(self.fields);
+        let walked = number == 0 || (10..=12).contains(&number);
         let zeroed = self.scratch.lent().iter().all(|&number| number == 0);
         let broken = [
             (!self.out.guards_kept(), "a guard of the output"),
             (!self.scratch.guards_kept(), "a guard of the scratch"),
-            (number >= NUMBERS as u64, "an unknown number"),
+            (number > 12, "an unknown number"),
             (!self.out.kept_from(written as usize), "bytes past the text"),
             (walked && !zeroed, "scratch that isn't zero"),
             (!walked && !self.scratch.kept_from(0), "scratch not kept"),

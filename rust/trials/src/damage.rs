@@ -4,9 +4,8 @@ use std::ops::Range;
 
 use build::{blocks, due_start, mend, mend_from, records_of, Record, BLOCK};
 
-use crate::faulty::{b, c, classes, d, elements_of_form, nodes, productions, types, value_heads};
+use crate::faulty::{c, classes, nodes, productions, types, value_heads};
 use crate::generate::Streams;
-use crate::judging::set_b;
 use crate::random::Random;
 use crate::uploads;
 
@@ -15,7 +14,7 @@ pub fn damage(random: &mut Random, streams: &mut Streams, other: &Streams) {
     let index = random.below(3);
     let kind = index as u8 + 1;
     let stream = streams.part_mut(index);
-    match random.below(42) {
+    match random.below(38) {
         0..=7 => change_field(random, stream, kind),
         8 | 9 => move_records(random, stream, kind),
         10 | 11 => flip(random, stream),
@@ -33,8 +32,6 @@ pub fn damage(random: &mut Random, streams: &mut Streams, other: &Streams) {
         27..=30 => change_numbers(random, &mut streams.grammar),
         31..=33 => change_match(random, &mut streams.templates),
         34..=36 => change_case(random, &mut streams.value),
-        37..=39 => change_needs(random, &mut streams.grammar),
-        40 => change_lexemes(random, &mut streams.grammar),
         _ => *stream = other.parts()[random.below(3)].to_vec(),
     }
 }
@@ -254,56 +251,6 @@ fn splice(records: &mut Vec<Record>, case: usize, range: Range<usize>, others: &
     // Without the zero fill, which a record more would make too long.
     let used = records.iter().rposition(|record| *record != [0; 8]);
     records.truncate(used.map_or(0, |last| last + 1));
-}
-
-/// Lets an element of the grammar that names something be of another form, or name another nonterminal
-/// that there is, so that a circle opens or closes; the checks are mended.
-fn change_needs(random: &mut Random, stream: &mut Vec<u8>) {
-    let mut records = records_of(stream);
-    let heads = productions(&records);
-    let forms = (1..=3).flat_map(|form| elements_of_form(&records, form));
-    let found: Vec<usize> = forms.collect();
-    if found.is_empty() || heads.is_empty() {
-        return;
-    }
-    let at = *random.pick(&found);
-    let form = *random.pick(&[2, 2, 2, 3, 4]);
-    records[at][1] = form;
-    if random.once_in(2) {
-        let own = heads.iter().rev().find(|&&head| head < at);
-        let named = match own {
-            Some(own) if random.once_in(2) => own,
-            _ => random.pick(&heads),
-        };
-        let named = b(&records[*named]);
-        set_b(&mut records[at], named);
-    }
-    *stream = blocks(1, &records);
-}
-
-/// Changes what gives a plain class of the grammar a lexeme or takes it away: its least, or its ranges;
-/// the checks are mended.
-fn change_lexemes(random: &mut Random, stream: &mut Vec<u8>) {
-    let mut records = records_of(stream);
-    let mut found = classes(&records);
-    found.retain(|&head| records[head][0] == 1);
-    if found.is_empty() {
-        return;
-    }
-    let head = *random.pick(&found);
-    let end = (head + 1 + d(&records[head])).min(records.len());
-    if random.once_in(3) {
-        let least = *random.pick(&[0, 0, 1, 2]);
-        set_b(&mut records[head], least);
-    } else {
-        let barren = [
-            [2, 0xB, 0, 0, 0xC, 0, 0, 0],
-            [2, 0, 0xD8, 0, 0xFF, 0xDF, 0, 0],
-        ];
-        let range = *random.pick(&barren);
-        records[head + 1..end].fill(range);
-    }
-    *stream = blocks(1, &records);
 }
 
 /// A record of some of them, mostly one that isn't a unit of text.

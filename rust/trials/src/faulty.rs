@@ -281,7 +281,7 @@ pub(crate) fn nodes_of(templates: &[Record], body: usize) -> Vec<usize> {
 }
 
 /// The elements of a production, by their records.
-pub(crate) fn elements(grammar: &[Record], production: usize) -> Vec<usize> {
+fn elements(grammar: &[Record], production: usize) -> Vec<usize> {
     in_a_row(production + 1, d(&grammar[production]), |at| {
         1 + text_length(&grammar[at]).div_ceil(8)
     })

@@ -10,7 +10,6 @@ pub mod compare;
 pub mod damage;
 mod escapes;
 pub mod faulty;
-pub mod finite;
 pub mod generate;
 pub mod judging;
 pub mod machine;
@@ -24,7 +23,7 @@ pub mod run;
 pub mod unescaping;
 mod uploads;
 
-pub use machine::{walked, Fields, Machine, Reference, NUMBERS};
+pub use machine::{Fields, Machine, Reference};
 pub use random::Random;
 
 /// The machine that is compared with the reference: the proved library, if it is bound.

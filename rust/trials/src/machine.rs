@@ -3,16 +3,6 @@
 /// Number, stream kind, place, steps and bytes of an answer.
 pub type Fields = [u64; 5];
 
-/// The numbers of answers: 0, and the refusals 1 to 13.
-pub const NUMBERS: usize = 14;
-
-/// Whether an answer is that of a walk, finished or not: 10 to 12 are its limits, and all other
-/// refusals come before it.
-#[must_use]
-pub fn walked([number, ..]: Fields) -> bool {
-    matches!(number, 0 | 10..=12)
-}
-
 /// An implementation of the page machine.
 pub trait Machine {
     /// What to call it in a report.

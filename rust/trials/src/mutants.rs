@@ -5,9 +5,8 @@ use build::{blocks, mend, records_of, Record, BLOCK, CHECK_START};
 use crate::admission::Admission;
 use crate::chains::Chain;
 use crate::faulty::{elements_of_form, productions, text_length, walk, Fault};
-use crate::finite::Settling;
 use crate::judging::Judging;
-use crate::machine::{walked, Fields, Machine, Reference};
+use crate::machine::{Fields, Machine, Reference};
 use crate::matching::Matching;
 use crate::numbers::Numbering;
 use crate::unescaping::Unescaping;
@@ -73,8 +72,6 @@ pub enum Mutant {
     Numbers(Numbering),
     /// Judges variants, cases and matches with a fault.
     Matches(Matching),
-    /// Judges which nonterminals derive a text with a fault.
-    Settles(Settling),
     /// Judges the blocks of a set by another chain of checks.
     Judges(Chain),
     /// Unpacks by another chain of checks.
@@ -103,7 +100,6 @@ impl Mutant {
         all.extend(Numbering::ALL.map(Mutant::Numbers));
         all.extend(Matching::ALL.map(Mutant::Matches));
         all.extend(judges);
-        all.extend(Settling::all().into_iter().map(Mutant::Settles));
         all.extend(Admission::all().into_iter().map(Mutant::Admits));
         all
     }
@@ -243,8 +239,10 @@ impl Machine for Mutant {
             Mutant::JudgesEscaped(fault) => fault.check(grammar, templates),
             Mutant::Admits(fault) => fault.check(grammar, templates),
             Mutant::Matches(fault) => fault.check(grammar, templates),
-            Mutant::Settles(fault) => fault.check(grammar, templates),
-            Mutant::Numbers(fault) => fault.check(grammar, templates),
+            Mutant::Numbers(fault) => {
+                let [grammar, templates] = fault.taken(grammar, templates);
+                Reference.check(&grammar, &templates)
+            }
             _ => Reference.check(&self.taken(grammar), &self.taken(templates)),
         }
     }
@@ -271,13 +269,15 @@ impl Machine for Mutant {
             }
             Mutant::Admits(fault) => fault.evaluate(parts, fuel, out, scratch),
             Mutant::Matches(fault) => fault.evaluate(parts, fuel, out, scratch),
-            Mutant::Settles(fault) => fault.evaluate(parts, fuel, out, scratch),
-            Mutant::Numbers(fault) => fault.evaluate(parts, fuel, out, scratch),
+            Mutant::Numbers(fault) => {
+                let [grammar, templates] = fault.taken(parts[0], parts[1]);
+                Reference.evaluate([&grammar, &templates, parts[2]], fuel, out, scratch)
+            }
             Mutant::Walks(fault) => {
                 let fields = Reference.evaluate(parts, fuel, &mut out.to_vec(), scratch);
-                match walked(fields) {
-                    true => walk(parts, fuel, out, *fault),
-                    false => fields,
+                match fields[0] {
+                    1..=9 => fields,
+                    _ => walk(parts, fuel, out, *fault),
                 }
             }
             _ => {
@@ -362,7 +362,7 @@ impl Mutant {
 /// A call that makes do with a scratch that is too small.
 fn with_small_scratch(parts: [&[u8]; 3], fuel: u32, out: &mut [u8], scratch: &mut [u16]) -> Fields {
     let fields = Reference.evaluate(parts, fuel, out, &mut [0; 4_800]);
-    if walked(fields) {
+    if fields[0] == 0 || fields[0] >= 10 {
         scratch.fill(0);
     }
     fields

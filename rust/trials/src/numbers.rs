@@ -7,7 +7,7 @@ use build::{records_of, Record, GRAMMAR, TEMPLATES};
 
 use crate::faulty::{b, c, classes, d, elements_of_form, nodes, productions};
 use crate::judging::set_b;
-use crate::machine::{Fields, Machine, Reference};
+use crate::machine::{Machine, Reference};
 use crate::mutants::change_records;
 
 /// A number that no production has.
@@ -82,26 +82,8 @@ impl Numbering {
         Numbering::ManyClasses,
     ];
 
-    /// What the faulty machine answers to a check call.
-    pub(crate) fn check(self, grammar: &[u8], templates: &[u8]) -> Fields {
-        let [grammar, templates] = self.taken(grammar, templates);
-        Reference.check(&grammar, &templates)
-    }
-
-    /// What it answers to an evaluate call.
-    pub(crate) fn evaluate(
-        self,
-        [grammar, templates, value]: [&[u8]; 3],
-        fuel: u32,
-        out: &mut [u8],
-        scratch: &mut [u16],
-    ) -> Fields {
-        let [grammar, templates] = self.taken(grammar, templates);
-        Reference.evaluate([&grammar, &templates, value], fuel, out, scratch)
-    }
-
     /// A set as the faulty machine takes it.
-    fn taken(self, grammar: &[u8], templates: &[u8]) -> [Vec<u8>; 2] {
+    pub(crate) fn taken(self, grammar: &[u8], templates: &[u8]) -> [Vec<u8>; 2] {
         let [mut grammar, mut templates] = [grammar, templates].map(<[u8]>::to_vec);
         change_records(&mut grammar, GRAMMAR, |records| {
             match self {

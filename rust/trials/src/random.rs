@@ -51,13 +51,6 @@ impl Random {
         &row[self.below(row.len())]
     }
 
-    /// Puts a row into any order.
-    pub fn shuffle<T>(&mut self, row: &mut [T]) {
-        for left in (2..=row.len()).rev() {
-            row.swap(left - 1, self.below(left));
-        }
-    }
-
     /// A byte.
     pub fn byte(&mut self) -> u8 {
         self.number() as u8
@@ -73,18 +66,6 @@ mod tests {
         let mut random = Random::new(0);
         assert_eq!(random.number(), 0xE220_A839_7B1D_CDAF);
         assert_eq!(random.number(), 0x6E78_9E6A_A1B9_65F4);
-    }
-
-    #[test]
-    fn a_row_comes_in_every_order() {
-        let mut random = Random::new(7);
-        let mut seen = std::collections::HashSet::new();
-        for _ in 0..200 {
-            let mut row = [1, 2, 3];
-            random.shuffle(&mut row);
-            seen.insert(row);
-        }
-        assert_eq!(seen.len(), 6);
     }
 
     #[test]

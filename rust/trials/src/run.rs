@@ -8,7 +8,7 @@ use crate::compare::{self, Call, Conversion, Difference};
 use crate::damage::damage;
 use crate::escapes;
 use crate::generate::{self, Streams};
-use crate::machine::{walked, Fields, Machine, NUMBERS};
+use crate::machine::{Fields, Machine};
 use crate::random::Random;
 use crate::uploads;
 
@@ -16,15 +16,15 @@ use crate::uploads;
 #[derive(Clone, Debug, Default, PartialEq, Eq)]
 pub struct Tally {
     /// Cases, by the number that their first evaluate call answered.
-    pub cases: [usize; NUMBERS],
+    pub cases: [usize; 13],
     /// Evaluate calls by number.
-    pub evaluate: [usize; NUMBERS],
+    pub evaluate: [usize; 13],
     /// Check calls by number.
-    pub check: [usize; NUMBERS],
+    pub check: [usize; 13],
     /// Packing and unpacking calls by number.
-    pub packing: [usize; NUMBERS],
+    pub packing: [usize; 13],
     /// Unescape calls by number.
-    pub unescape: [usize; NUMBERS],
+    pub unescape: [usize; 13],
     /// Single blocks that were refused, and those whose payload was given back.
     pub blocks: [usize; 2],
     /// First evaluate calls and calls of unpacking that answered 2 at block 0, at 1 to 3, and at a
@@ -36,7 +36,7 @@ impl Tally {
     /// The numbers that no evaluate call answered.
     #[must_use]
     pub fn absent(&self) -> Vec<usize> {
-        (0..NUMBERS).filter(|&n| self.evaluate[n] == 0).collect()
+        (0..13).filter(|&n| self.evaluate[n] == 0).collect()
     }
 
     /// Counts the place of an answer 2.
@@ -79,7 +79,7 @@ impl fmt::Display for Tally {
             f,
             "number   cases            evaluate         check            packing          unescape"
         )?;
-        for number in 0..NUMBERS {
+        for number in 0..13 {
             write!(f, "{number:>6}")?;
             let calls = [&self.evaluate, &self.check, &self.packing, &self.unescape];
             for row in [&self.cases].into_iter().chain(calls) {
@@ -201,16 +201,15 @@ pub fn try_streams(
 }
 
 /// Calls around the limits that the first run met or just missed.
-fn more_calls(random: &mut Random, first: Fields) -> Vec<Call> {
+fn more_calls(random: &mut Random, [number, _, _, steps, bytes]: Fields) -> Vec<Call> {
     let lengths = [0, 1, 4_799, 4_800, 4_801, 6_000];
-    if !walked(first) {
+    if (1..=8).contains(&number) {
         return vec![Call {
             fuel: random.number() as u32,
             out: random.below(300),
             scratch: *random.pick(&lengths),
         }];
     }
-    let [number, _, _, steps, bytes] = first;
     let (steps, bytes) = (steps as u32, bytes as usize);
     let mut call = || Call {
         fuel: match random.below(8) {

@@ -6,14 +6,13 @@ use trials::admission::Admission;
 use trials::chains::Chain;
 use trials::compare::{self, Call, Conversion};
 use trials::faulty::Fault;
-use trials::finite::Settling;
 use trials::generate::{self, Streams};
 use trials::matching::Matching;
 use trials::mutants::Mutant;
 use trials::numbers::Numbering;
 use trials::run::run;
 use trials::unescaping::Unescaping;
-use trials::{walked, Machine, Random, Reference, NUMBERS, SECOND};
+use trials::{Machine, Random, Reference, SECOND};
 
 /// The seed of `TRIALS_SEED`, or 1.
 fn seed() -> u64 {
@@ -47,8 +46,8 @@ fn every_mutant_is_found() {
     assert_eq!(missed, [], "mutants that aren't found");
 }
 
-/// What the faults in separators, entities, unescape calls, admission, numbers, matches, settling and
-/// chains of checks are put into is right without one.
+/// What the faults in separators, entities, unescape calls, admission, numbers, matches and chains of
+/// checks are put into is right without one.
 #[test]
 fn a_machine_without_a_fault_is_no_mutant() {
     let chains = [Mutant::Judges, Mutant::Unpacks, Mutant::Packs].map(|part| part(Chain::Right));
@@ -58,7 +57,6 @@ fn a_machine_without_a_fault_is_no_mutant() {
         Mutant::Admits(Admission::Right),
         Mutant::Numbers(Numbering::Right),
         Mutant::Matches(Matching::Right),
-        Mutant::Settles(Settling::Right),
     ];
     for right in [&others[..], &chains].concat() {
         if let Err(failure) = run(&Reference, &right, seed(), 0..2_000) {
@@ -76,7 +74,8 @@ fn sets_drawn_without_slips_are_accepted() {
         let mut out = vec![0; 65_536];
         let mut scratch = [0; 4_800];
         let fields = Reference.evaluate(streams.parts(), 100_000, &mut out, &mut scratch);
-        assert!(walked(fields), "seed {} case {case}: {fields:?}", seed());
+        let walked = fields[0] == 0 || fields[0] >= 10;
+        assert!(walked, "seed {} case {case}: {fields:?}", seed());
         finished += u64::from(fields[0] == 0);
     }
     println!("{finished} of {cases} finish");
@@ -167,16 +166,13 @@ fn example() -> Streams {
     Streams::of(&grammar, &templates, &value)
 }
 
-/// Classes of both kinds, and every form of element. No template has nonterminal 8, which derives a text,
-/// and wouldn't if it named itself, or if its first class had no U+FFFD, or its second a least of 1.
+/// Classes of both kinds, and every form of element.
 fn every_element() -> Grammar {
     let keyword = |text: &str| Element::keyword(text);
     let mut grammar = Grammar::new();
     grammar.class(0, 9, &[(0x26, 0x3C), (0x61, 0x7A), (0x1F00, 0x1FFF)]);
     grammar.class(1, 1, &[(0x10000, 0x10FFFF)]);
     let escaped = Element::Class(grammar.escaped(0));
-    let held = Element::Class(grammar.class(1, 1, &[(0xFFFD, 0xFFFF)]));
-    let empty = Element::Class(grammar.class(0, 1, &[]));
     let (row, list) = (Element::Repetition(6), Element::separated(6, ", and then "));
     grammar.production(5, [keyword("begin "), row, keyword(""), list]);
     grammar.production(
@@ -187,7 +183,6 @@ fn every_element() -> Grammar {
     grammar.production(7, [keyword("a longer keyword")]);
     grammar.production(7, []);
     grammar.production(6, [escaped.clone(), escaped]);
-    grammar.production(8, [Element::Nonterminal(7), held, empty]);
     grammar
 }
 
@@ -237,13 +232,13 @@ fn all_forms() -> Streams {
 }
 
 /// Tries some values at every byte of every stream of a set, with the checks mended and as found.
-fn try_every_byte(streams: &Streams, values: impl Fn(u8) -> Vec<u8>) -> [usize; NUMBERS] {
+fn try_every_byte(streams: &Streams, values: impl Fn(u8) -> Vec<u8>) -> [usize; 13] {
     let call = Call {
         fuel: 1_000,
         out: 400,
         scratch: 4_800,
     };
-    let mut reached = [0; NUMBERS];
+    let mut reached = [0; 13];
     for index in 0..3 {
         let mut changed = streams.clone();
         for at in 0..streams.parts()[index].len() {
@@ -292,7 +287,7 @@ fn every_fuel_and_room_of_a_set_of_all_forms() {
     };
     let [number, _, _, steps, bytes] = call(1_000, 1_000);
     assert_eq!(number, 0);
-    let mut reached = [0; NUMBERS];
+    let mut reached = [0; 13];
     for fuel in 0..=steps as u32 {
         for out in 0..=bytes as usize {
             reached[call(fuel, out)[0] as usize] += 1;
@@ -312,7 +307,7 @@ fn every_byte_of_a_set_of_all_forms() {
         vec![byte.wrapping_add(1), byte.wrapping_sub(1), 0, 1, 6, 255]
     });
     println!("{reached:?}");
-    for number in [0, 2, 3, 5, 6, 7, 8, 13] {
+    for number in [0, 2, 3, 5, 7, 8] {
         assert!(reached[number] > 0, "{number} isn't reached");
     }
 }
@@ -326,7 +321,7 @@ fn every_short_text_of_the_pieces_of_entities() {
     ];
     let mut texts = vec![vec![]];
     let mut first = 0;
-    let mut reached = [0; NUMBERS];
+    let mut reached = [0; 13];
     for _ in 0..=4 {
         let last = texts.len();
         for at in first..last {

@@ -53,84 +53,23 @@ fn filled(mut grammar: Grammar) -> Grammar {
     grammar
 }
 
-/// How productions that wait for one another stand.
-#[derive(Clone, Copy, Debug)]
-enum Order {
-    /// Each waits for the next.
-    Forwards,
-    /// Each waits for the one before.
-    Backwards,
-    /// Each waits for one far from it.
-    Apart,
-}
-
-/// The records of the small grammar, behind which others stand.
-const SMALL: u16 = 29;
-
-/// The small grammar with as many nonterminals behind it as 128 blocks hold, each of which is another one;
-/// one is a keyword, or the first again.
-fn waiting(order: Order, closed: bool) -> Grammar {
-    let mut grammar = grammar(0, 3);
-    assert_eq!(grammar.records().len(), usize::from(SMALL));
-    let row: Vec<u16> = (1..=(FULL - SMALL) / 2).collect();
-    let last = match closed {
-        true => Element::Nonterminal(1),
-        false => Element::keyword(""),
-    };
-    // The records left are of an odd number.
-    let mut others = Grammar::new();
-    others.chain(&row, [last, Element::keyword("")]);
-    let count = row.len();
-    match order {
-        Order::Forwards => {}
-        Order::Backwards => others.productions.reverse(),
-        Order::Apart => {
-            let apart = (0..count).map(|at| others.productions[at * 1_009 % count].clone());
-            others.productions = apart.collect();
-        }
-    }
-    grammar.productions.extend(others.productions);
-    grammar
-}
-
 /// A small grammar, and some that fill 128 blocks, as tables may grow with what they hold: 256 classes
-/// and ranges, classes and productions, all three, productions with next to nothing else, and those that
-/// wait for one another. Each with what it is called and the number of its class of many ranges.
-fn grammars() -> Vec<(&'static str, Vec<u8>, u16)> {
+/// and ranges, classes and productions, all three, and productions with next to nothing else. Each with
+/// what it is called and the number of its class of many ranges.
+fn grammars() -> [(&'static str, Vec<u8>, u16); 5] {
     let full = [
         ("256 classes and ranges", grammar(254, 7_784), 254),
         ("256 classes and productions", filled(grammar(254, 3)), 254),
         ("all three", filled(grammar(254, 3_900)), 254),
         ("productions", filled(grammar(0, 3)), 0),
-        ("waiting for the next", waiting(Order::Forwards, false), 0),
-        ("waiting for the last", waiting(Order::Backwards, false), 0),
-        ("waiting for any", waiting(Order::Apart, false), 0),
     ];
     for (name, grammar, _) in &full {
         assert_eq!(grammar.records().len(), usize::from(FULL), "{name}");
     }
+    let [ranges, productions, all, alone] = full;
     let small = ("a small grammar", grammar(0, 3), 0);
-    let all = [small].into_iter().chain(full);
-    all.map(|(name, grammar, class)| (name, grammar.stream(), class))
-        .collect()
-}
-
-/// Each grammar with what is tried on it. Those whose productions all wait for one another are refused.
-fn sets() -> Vec<(&'static str, Vec<u8>, Vec<Case>)> {
-    let taken = grammars().into_iter();
-    let mut all: Vec<_> = taken
-        .map(|(held, grammar, class)| (held, grammar, cases(class)))
-        .collect();
-    for (held, order) in [
-        ("a circle forwards", Order::Forwards),
-        ("a circle backwards", Order::Backwards),
-        ("a circle in any order", Order::Apart),
-    ] {
-        let refused = [13, 1, SMALL.into(), 0, 0];
-        let case = ("no text", templates([nothing()]), lists(1), refused);
-        all.push((held, waiting(order, true).stream(), vec![case]));
-    }
-    all
+    [small, ranges, productions, all, alone]
+        .map(|(name, grammar, class)| (name, grammar.stream(), class))
 }
 
 /// Templates on lists of lists, with these bodies.
@@ -510,7 +449,8 @@ fn escaped_letters() -> Vec<u8> {
 
 /// Tries all cases on a machine. The streams are built outside of the small stack.
 fn on_a_small_stack(machine: impl Machine + Send + 'static) {
-    let (sets, text) = (sets(), escaped_letters());
+    let sets = grammars().map(|(held, grammar, class)| (held, grammar, cases(class)));
+    let text = escaped_letters();
     let calls = move || {
         for (held, grammar, cases) in &sets {
             let tried = cases.iter();
@@ -525,7 +465,7 @@ fn on_a_small_stack(machine: impl Machine + Send + 'static) {
     thread.join().expect("no wrong answer");
 }
 
-/// An evaluate call and a check call, which refuses only templates that are over a limit, and grammars.
+/// An evaluate call and a check call, which refuses only templates that are over a limit.
 fn call(
     machine: &dyn Machine,
     held: &str,
@@ -538,7 +478,7 @@ fn call(
     let fields = machine.evaluate(streams, u32::MAX, &mut out, &mut scratch);
     assert_eq!(fields, *expected, "{name}");
     let checked = match expected {
-        [4, 2, ..] | [13, ..] => *expected,
+        [4, 2, ..] => *expected,
         _ => [0; 5],
     };
     assert_eq!(machine.check(grammar, templates), checked, "{name}");
@@ -566,7 +506,7 @@ mod painted {
 
     use trials::{Machine, SECOND};
 
-    use super::{escaped_letters, sets};
+    use super::{cases, escaped_letters, grammars};
 
     /// Less than this is taken by a call, with the frames of the wrapper and of the test.
     const MOST: usize = 256 * 1024;
@@ -601,8 +541,8 @@ mod painted {
     fn most() -> (usize, String) {
         let (mut out, mut scratch) = (vec![0; 2_000], vec![0; 4_800]);
         let mut all = Vec::new();
-        for (held, grammar, cases) in &sets() {
-            for (name, templates, value, _) in cases {
+        for (held, grammar, class) in &grammars() {
+            for (name, templates, value, _) in &cases(*class) {
                 let name = format!("{name}, {held}");
                 let evaluate = taken(|| {
                     SECOND.evaluate(

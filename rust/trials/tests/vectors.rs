@@ -10,11 +10,11 @@ use std::path::{Path, PathBuf};
 use build::fnv1a;
 use trials::generate::Streams;
 use trials::run::try_streams;
-use trials::{walked, Fields, Machine, Random, Reference, SECOND};
+use trials::{Fields, Machine, Random, Reference, SECOND};
 
 /// The folder of vectors: `base`, or the letter of the latest landed request that has any (e changes
 /// no answer and has none).
-const STAGE: &str = "h";
+const STAGE: &str = "g";
 
 const MACHINES: [&dyn Machine; 2] = [&Reference, &SECOND];
 
@@ -160,9 +160,9 @@ fn evaluated(
     let fields = machine.evaluate(streams.parts(), fuel, &mut after, &mut numbers);
     let written = fields[4] as usize;
     assert_eq!(after[written..], before[written..], "bytes past the text");
-    let left = match walked(fields) {
-        true => 0,
-        false => 0x5A5A,
+    let left = match fields[0] {
+        1..=9 => 0x5A5A,
+        _ => 0,
     };
     assert!(numbers.iter().all(|&number| number == left), "scratch");
     after.truncate(written);

@@ -71,7 +71,7 @@ part-ps-end : tie.Need-slice-bounds-ps-end
 part-ps-end c = search rules
 
 run-requires : tie.Need-run-requires
-run-requires c κs = walk_asks _ _ _ _ _ _ _ _ _ _ _ c.before.before.before.before.before.before.before.before.before.before.before.before.before.before.before.before.before.judge.ensures.tabled c.before.before.before.before.before.before.mark-heads.ensures.table (judged_set _ _ _ _ (passes _ _ c.before.before.before.before.before.before.before.before.before.before.before.before.before.before.before.before.before.judge.ensures.is c.before.before.before.before.before.before.before.before.before.before.before.enum_told.given.1)).0 (judged_set _ _ _ _ (passes _ _ c.before.before.before.before.before.before.before.before.before.before.before.before.before.before.before.before.before.judge.ensures.is c.before.before.before.before.before.before.before.before.before.before.before.enum_told.given.1)).1 (three_laid _ _ _ c.before.before.before.before.before.before.before.before.before.before.before.before.before.before.before.before.before.before.before.before.before.before.before.before.before.before.before.before.before.requires.0.laid.passed).2 c.before.before.before.before.before.before.before.before.before.before.before.before.before.before.before.before.before.before.before.before.before.before.before.before.before.before.before.before.before.requires.0.laid.children c.before.before.before.before.before.before.before.before.before.before.if1.false
+run-requires c κs = walk_asks _ _ _ _ _ _ _ _ _ _ _ c.before.before.before.before.before.before.before.before.before.before.before.before.before.before.before.before.before.judge.ensures.tabled c.before.before.before.before.before.before.mark-heads.ensures.table (judged_set _ _ _ (passes _ _ c.before.before.before.before.before.before.before.before.before.before.before.before.before.before.before.before.before.judge.ensures.is c.before.before.before.before.before.before.before.before.before.before.before.enum_told.given.1)).0 (judged_set _ _ _ (passes _ _ c.before.before.before.before.before.before.before.before.before.before.before.before.before.before.before.before.before.judge.ensures.is c.before.before.before.before.before.before.before.before.before.before.before.enum_told.given.1)).1 (three_laid _ _ _ c.before.before.before.before.before.before.before.before.before.before.before.before.before.before.before.before.before.before.before.before.before.before.before.before.before.before.before.before.before.requires.0.laid.passed).2 c.before.before.before.before.before.before.before.before.before.before.before.before.before.before.before.before.before.before.before.before.before.before.before.before.before.before.before.before.before.requires.0.laid.children c.before.before.before.before.before.before.before.before.before.before.if1.false
 
 ended-requires : tie.Need-ended-requires
 ended-requires c κs = search rules

@@ -1,8 +1,17 @@
 //! Which characters and which texts the classes of a description admit.
 
 use crate::language::description::{Class, ClassForm, Description, Range};
-use crate::reasons::characters::{holds_admitted, is_admitted};
+use crate::reasons::characters::is_admitted;
 use std::collections::HashMap;
+
+/// The characters that a lexeme may have, whatever the ranges are: those of [`is_admitted`], as intervals.
+const ADMITTED: [(u32, u32); 5] = [
+    (0x9, 0xA),
+    (0xD, 0xD),
+    (0x20, 0xD7FF),
+    (0xE000, 0xFFFD),
+    (0x10000, 0x0010_FFFF),
+];
 
 /// The texts that are lexemes of a class.
 #[derive(Clone, Copy, Debug, PartialEq, Eq)]
@@ -62,9 +71,11 @@ impl<'a> Plain<'a> {
     }
 }
 
-/// Whether a range holds any character that a lexeme may have.
+/// Whether a range holds any character that a lexeme may have. Surrogates are none: no UTF-8 has them.
 pub fn holds_any(range: &Range) -> bool {
-    holds_admitted(range.lowest, range.highest)
+    ADMITTED
+        .iter()
+        .any(|&(first, last)| range.lowest.max(first) <= range.highest.min(last))
 }
 
 /// The classes by their names.
@@ -102,6 +113,33 @@ impl<'a> Classes<'a> {
 mod tests {
     use super::*;
     use crate::language::parser::parse;
+    use crate::mistake::Position;
+
+    fn holds(lowest: u32, highest: u32) -> bool {
+        holds_any(&Range {
+            at: Position { line: 1, column: 1 },
+            lowest,
+            highest,
+        })
+    }
+
+    #[test]
+    fn every_character_is_admitted_as_elsewhere() {
+        for character in '\0'..=char::MAX {
+            let point = u32::from(character);
+            assert_eq!(holds(point, point), is_admitted(character), "{character:?}");
+        }
+    }
+
+    #[test]
+    fn ranges_with_a_character_and_without() {
+        assert!(holds(0, 9));
+        assert!(holds(0xD800, 0xE000));
+        assert!(!holds(0, 8));
+        assert!(!holds(0xD800, 0xDFFF));
+        assert!(!holds(0x0011_0000, 0x00FF_FFFF));
+        assert!(!holds(0x7A, 0x61));
+    }
 
     #[test]
     fn texts_of_classes() {

@@ -1,7 +1,6 @@
 //! Classes that admit no text, or only the empty one, and ranges that admit no character.
 //!
-//! Each is of no use: a text of such a class is never right, or is never there. A class that admits no text
-//! is legal only as long as no nonterminal needs it (refusal 13), and such a grammar comes here.
+//! Each is legal, and of no use: a text of such a class is never right, or is never there.
 
 use super::admits::{holds_any, Classes, Plain, Texts};
 use crate::language::description::{Class, ClassForm, Description, Range};

@@ -91,26 +91,13 @@ fn is_in(ranges: &[Record], character: char) -> bool {
         .any(|range| range.point(1) <= point && point <= range.point(4))
 }
 
-/// What XML 1.0 admits, as intervals of code points. Surrogates are in none: no UTF-8 has them.
-const INTERVALS: [(u32, u32); 5] = [
-    (0x9, 0xA),
-    (0xD, 0xD),
-    (0x20, 0xD7FF),
-    (0xE000, 0xFFFD),
-    (0x10000, 0x0010_FFFF),
-];
-
 /// Whether XML 1.0 admits a character. One that it doesn't admit is in no lexeme, also where a range of
 /// the class holds it.
 pub fn is_admitted(character: char) -> bool {
-    let point = u32::from(character);
-    holds_admitted(point, point)
-}
-
-/// Whether a range holds a character that XML 1.0 admits, and so one that a lexeme may have.
-pub fn holds_admitted(lowest: u32, highest: u32) -> bool {
-    let meets = |&(first, last): &(u32, u32)| lowest.max(first) <= highest.min(last);
-    INTERVALS.iter().any(meets)
+    matches!(
+        character,
+        '\t' | '\n' | '\r' | ' '..='\u{D7FF}' | '\u{E000}'..='\u{FFFD}' | '\u{10000}'..
+    )
 }
 
 /// What people call a character that XML 1.0 doesn't admit.
@@ -129,7 +116,7 @@ fn name(character: char) -> &'static str {
 
 #[cfg(test)]
 mod tests {
-    use super::{holds_admitted, is_admitted};
+    use super::is_admitted;
     use crate::reasons::explain::{explained_with, remarks_of};
 
     /// Class 0 has every character in its range; keywords and separators hold some that XML 1.0 doesn't
@@ -296,20 +283,5 @@ mod tests {
         for other in others {
             assert_eq!(answer(&[other]), 8, "{other:?}");
         }
-    }
-
-    #[test]
-    fn ranges_with_a_character_and_without() {
-        assert!(holds_admitted(0, 9));
-        assert!(holds_admitted(0xB, 0xD));
-        assert!(holds_admitted(0xD800, 0xE000));
-        assert!(holds_admitted(0, 0x0010_FFFF));
-        assert!(!holds_admitted(0, 8));
-        assert!(!holds_admitted(0xB, 0xC));
-        assert!(!holds_admitted(0xE, 0x1F));
-        assert!(!holds_admitted(0xD800, 0xDFFF));
-        assert!(!holds_admitted(0xFFFE, 0xFFFF));
-        assert!(!holds_admitted(0x0011_0000, 0x00FF_FFFF));
-        assert!(!holds_admitted(0x7A, 0x61));
     }
 }

@@ -69,10 +69,6 @@ fn what_stops(refusal: Refusal) -> &'static str {
             "A class has least above most, \
              or a range has lowest above highest or passes U+10FFFF."
         }
-        Refusal::Underivable { .. } => {
-            "A nonterminal with no finite derivation is to be refused, \
-             and a class with no lexeme counts as underivable; a repetition may always be empty."
-        }
         Refusal::Typing { .. } => TYPING,
         Refusal::ValueType { .. } => "The value isn't of its declared type.",
         Refusal::ScratchTooShort => {

@@ -5,8 +5,6 @@ use crate::streams::record::{Record, RECORD};
 /// A production of the row.
 #[derive(Clone, Debug, PartialEq, Eq)]
 pub struct Production {
-    /// Its own record.
-    pub head: usize,
     /// The nonterminal that it is one of.
     pub nonterminal: u16,
     /// The records of its elements' heads, keywords among them.
@@ -17,7 +15,6 @@ pub struct Production {
 pub fn productions(grammar: &[Record]) -> Vec<Production> {
     let (mut found, mut at) = (Vec::new(), 0);
     while let Some(&head) = grammar.get(at) {
-        let own = at;
         at += 1;
         match head.kind() {
             1 => at += usize::from(head.d()),
@@ -25,7 +22,6 @@ pub fn productions(grammar: &[Record]) -> Vec<Production> {
                 let (elements, end) = elements(grammar, at, usize::from(head.d()));
                 let nonterminal = head.b();
                 found.push(Production {
-                    head: own,
                     nonterminal,
                     elements,
                 });

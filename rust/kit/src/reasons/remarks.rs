@@ -9,7 +9,6 @@ use crate::reasons::names::Names;
 use crate::reasons::nodes::Form;
 use crate::reasons::paper::Why;
 use crate::reasons::typing::fault;
-use crate::reasons::underivable::underivable;
 use crate::streams::record::Record;
 use feed::{Refusal, Stream};
 
@@ -52,29 +51,27 @@ pub fn told(refusal: Refusal, records: &Records, names: &Names) -> Told {
         Refusal::Class { record } => {
             plainly(bounds(grammar, names, place(record)).into_iter().collect())
         }
-        Refusal::Underivable { record } => plainly(underivable(grammar, names, place(record))),
-        Refusal::Typing { node } => {
-            let fault = fault(grammar, templates, names, place(node));
-            ruled(fault.map(|fault| (fault.rule, fault.said)))
-        }
-        Refusal::ValueType { record } => {
-            ruled(due(grammar, templates, value, names, place(record)))
-        }
+        Refusal::Typing { node } => match fault(grammar, templates, names, place(node)) {
+            Some(fault) => Told {
+                why: Why::Rule(fault.rule),
+                said: fault.said,
+            },
+            None => plainly(Vec::new()),
+        },
+        Refusal::ValueType { record } => match due(grammar, templates, value, names, place(record))
+        {
+            Some((rule, said)) => Told {
+                why: Why::Rule(rule),
+                said,
+            },
+            None => plainly(Vec::new()),
+        },
         Refusal::OutputFull { node } if is_sequence(templates, place(node)) => Told {
             why: Why::Separator,
             said: Vec::new(),
         },
         _ => plainly(Vec::new()),
     }
-}
-
-/// The rule that failed and what is said of it, where they are found.
-fn ruled(found: Option<(&'static str, Vec<String>)>) -> Told {
-    let (why, said) = match found {
-        Some((rule, said)) => (Why::Rule(rule), said),
-        None => (Why::Number, Vec::new()),
-    };
-    Told { why, said }
 }
 
 /// A record's index; one that no stream holds stays one.

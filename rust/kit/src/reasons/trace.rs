@@ -14,7 +14,7 @@ use crate::reasons::limits::LEVELS;
 use crate::reasons::names::{Binder, Names};
 use crate::reasons::tables::Tables;
 use crate::streams::record::Record;
-use crate::words::{bare, counted, cut, ends, named, quoted};
+use crate::words::{bare, counted, cut, named, quoted};
 use feed::Answer;
 use walk::{again, Level, Stop, Text};
 
@@ -52,10 +52,7 @@ pub fn trace(
     };
     let streams = [grammar, templates, value];
     Way {
-        levels: ends(
-            levels.iter().map(|level| line(level, names)).collect(),
-            SHOWN,
-        ),
+        levels: bounded(levels.iter().map(|level| line(level, names)).collect()),
         why: (answer.number == 11).then(|| deep(&levels, names)),
         unfit: unfit.and_then(|(text, length)| called(text, length, streams)),
     }
@@ -110,6 +107,16 @@ fn line(level: &Level, names: &Names) -> String {
             format!("{} {content}", names.arm(case, arm))
         }
     }
+}
+
+/// The first and the last of many lines.
+fn bounded(mut lines: Vec<String>) -> Vec<String> {
+    let (first, last) = SHOWN;
+    let left_out = lines.len().saturating_sub(first + last);
+    if left_out > 1 {
+        lines.splice(first..first + left_out, [format!(".. {left_out} more ..")]);
+    }
+    lines
 }
 
 /// Why a walk came so deep: mostly because templates expand one another.

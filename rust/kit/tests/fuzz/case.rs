@@ -183,7 +183,7 @@ impl Case<'_, '_> {
             (one, other) if one == other => true,
             // The JSON is read first; where its form is another one, and where a value takes more
             // records than there are, no number is told.
-            (Some(8) | None, Some(3..=8 | 13) | None) => true,
+            (Some(8) | None, Some(3..=8) | None) => true,
             _ => false,
         };
         holds(
@@ -210,8 +210,7 @@ impl Case<'_, '_> {
         }
         self.change_streams();
         let options = options(&mut self.random);
-        let explain = self.kit(&["explain", "set"], &options)?;
-        reasoned(&explain)?;
+        self.kit(&["explain", "set"], &options)?;
         for name in STREAMS {
             self.kit(&["dump", &format!("set/{name}")], &[])?;
         }
@@ -317,16 +316,7 @@ fn agree(check: &Done, explain: &Done) -> Held<()> {
     holds(
         same,
         &format!("check and explain tell of different refusals: {said}"),
-    )?;
-    reasoned(explain)
-}
-
-/// Where the library finds a nonterminal that can't be finished, the kit finds why.
-fn reasoned(explain: &Done) -> Held<()> {
-    let said = String::from_utf8_lossy(&explain.out);
-    let told = [", derives no text\n", ", has no lexeme\n"].map(|it| said.contains(it));
-    let told = told.contains(&true) || refusal(&said) != Some(13);
-    holds(told, "no reason is told of a grammar that can't finish")
+    )
 }
 
 fn write(file: &str, bytes: &[u8]) {

@@ -1,7 +1,6 @@
 //! Descriptions that are right but for one thing of which there is very much: depth, loops, parameters,
 //! parts, steps, or the length of a name, a text or a line.
 
-use super::circles::very_many;
 use super::random::Random;
 
 /// The rest of a description, with a body for its template and a value of its type.
@@ -20,7 +19,7 @@ fn nested(times: usize, open: &str, inner: &str, close: &str) -> String {
 /// One of them.
 pub fn extreme(random: &mut Random) -> String {
     let few = random.mostly_small(400);
-    match random.below(24) {
+    match random.below(23) {
         0..=6 => deep(random),
         7 => parts(random),
         8 | 9 => long(random),
@@ -42,7 +41,6 @@ pub fn extreme(random: &mut Random) -> String {
         18 => mistakes(random),
         19 | 20 => unknown(random),
         21 => of_body("build r") + "# " + &" ".repeat(random.below(5 << 20)),
-        22 => small(&very_many(random), "build r", "[]"),
         _ => String::from_utf8_lossy(&noise(random)).into_owned(),
     }
 }

@@ -2,7 +2,6 @@
 
 pub mod bodies;
 pub mod case;
-pub mod circles;
 pub mod data;
 pub mod descriptions;
 pub mod extremes;

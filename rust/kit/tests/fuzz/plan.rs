@@ -245,9 +245,6 @@ impl Plan {
                 parts.push(format!("{head}{gap}{}", words.join(gap)));
             }
         }
-        if self.slips > 0 && random.one_in(4) {
-            parts.extend(self.circles(random));
-        }
         parts.extend((0..self.types.len()).map(|number| self.type_written(number)));
         for number in 0..self.templates.len() {
             let body = Bodies::new(self, random).of_template(number);

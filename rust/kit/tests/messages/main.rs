@@ -2,7 +2,6 @@
 
 mod by_map;
 mod cases;
-mod derivation;
 mod description;
 mod desk;
 mod dump_by_map;

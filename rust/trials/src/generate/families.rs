@@ -7,13 +7,13 @@ use build::{
 
 use super::grammars::draw_class;
 use super::lexemes::{lexeme, near_lexeme};
-use super::{admission, escapes, finite, productions, separators, variants, Streams};
+use super::{admission, escapes, productions, separators, variants, Streams};
 use crate::random::Random;
 use crate::uploads;
 
 /// A set of one of the families.
 pub(super) fn set(random: &mut Random) -> Streams {
-    match random.below(60) {
+    match random.below(50) {
         0 => deep_body(random),
         1 => deep_value(random),
         2 => thousands_deep(random),
@@ -34,7 +34,6 @@ pub(super) fn set(random: &mut Random) -> Streams {
         22..=28 => escapes::set(random),
         29..=37 => admission::set(random),
         38..=41 => productions::set(random),
-        42..=51 => finite::set(random),
         _ => variants::set(random),
     }
 }

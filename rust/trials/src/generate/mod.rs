@@ -3,7 +3,6 @@
 mod admission;
 mod escapes;
 mod families;
-mod finite;
 mod grammars;
 mod lexemes;
 mod productions;

@@ -10,7 +10,7 @@ const PAGE: u16 = 60_001;
 const END: u16 = 60_000;
 
 /// The records of a stream of 128 blocks.
-pub(super) const FULL: usize = 128 * 63;
+const FULL: usize = 128 * 63;
 
 /// The records of a page, at most.
 const PAGE_RECORDS: usize = 32;
@@ -38,10 +38,7 @@ pub(super) fn set(random: &mut Random) -> Streams {
     Streams::of(&grammar, &templates, &Value::text("abc"))
 }
 
-pub(super) fn production(
-    nonterminal: u16,
-    elements: impl IntoIterator<Item = Element>,
-) -> Production {
+fn production(nonterminal: u16, elements: impl IntoIterator<Item = Element>) -> Production {
     Production {
         nonterminal,
         elements: elements.into_iter().collect(),

@@ -398,8 +398,8 @@ struct Scope {
     variables: Vec<u16>,
 }
 
-/// Once in a while turns a class upside down, or takes its characters away, or lets an escaped class or
-/// an element name what it must not.
+/// Once in a while turns a class upside down, or lets an escaped class or an element name what it
+/// must not.
 fn slip_grammar(random: &mut Random, grammar: &mut Grammar) {
     let total = grammar.classes.len();
     let number = random.below(total);
@@ -408,7 +408,6 @@ fn slip_grammar(random: &mut Random, grammar: &mut Grammar) {
             0 => class.least = class.most.saturating_add(1),
             1 => class.ranges.push((0x42, 0x41)),
             2 => class.ranges.insert(0, (0x10FFFF, 0x110000)),
-            3 => class.ranges = vec![(0xD800, 0xDFFF), (0xB, 0xC)],
             _ => {}
         },
         // An earlier class, itself, a later one or none.

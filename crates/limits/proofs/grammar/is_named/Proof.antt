@@ -16,7 +16,7 @@ returns : tie.Need-returns
 returns c = class_there _ _ _ c.before.before.before.requires.nameable.classes_are ∙ element_class _ _ _ c.before.before.before.requires.fetched c.before.match.keys1
 
 returns-2 : tie.Need-returns-2
-returns-2 c = c.is_marked.ensures ∙ c.before.before.before.before.before.requires.nameable.nonterminals_are.exactly _ (omega arith) ∙ element_nonterminal _ _ _ c.before.before.before.before.before.requires.fetched c.before.before.if1.false c.before.before.before.match.rest.1 c.before.if2.true
+returns-2 c = c.is-marked.ensures ∙ c.before.before.before.before.before.requires.nameable.nonterminals_are.exactly _ (omega arith) ∙ element_nonterminal _ _ _ c.before.before.before.before.before.requires.fetched c.before.before.if1.false c.before.before.before.match.rest.1 c.before.if2.true
 
 returns-3 : tie.Need-returns-3
 returns-3 c = element_keyword _ _ _ c.before.before.before.requires.fetched c.if1.true

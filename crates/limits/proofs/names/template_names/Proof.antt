@@ -15,7 +15,7 @@ is-marked-requires : tie.Need-is-marked-requires
 is-marked-requires c κs = search rules
 
 returns : tie.Need-returns
-returns c = template_wrong _ _ _ _ _ c.before.before.fetch.ensures.a c.before.before.fetch.ensures.b _ (omega arith) c.before.before.before.before.before.requires.nonterminals_are _ c.before.is_marked.ensures (not-true _ c.if1.true)
+returns c = template_wrong _ _ _ _ _ c.before.before.fetch.ensures.a c.before.before.fetch.ensures.b _ (omega arith) c.before.before.before.before.before.requires.nonterminals_are _ c.before.is-marked.ensures (not-true _ c.if1.true)
 
 parameters-named-requires : tie.Need-parameters-named-requires
 parameters-named-requires c κs = record { sized = c.before.before.before.before.before.requires.counted.sized; types_are = c.before.before.before.before.before.requires.counted.types_are }
@@ -24,7 +24,7 @@ enum-known-fault : tie.Need-enum-known-fault
 enum-known-fault c = search rules
 
 returns-2 : tie.Need-returns-2
-returns-2 c = template_parameters _ _ _ _ _ c.before.before.before.before.before.before.fetch.ensures.a c.before.before.before.before.before.before.fetch.ensures.b _ (omega arith) c.before.before.before.before.before.before.before.before.before.requires.nonterminals_are _ c.before.before.before.before.before.is_marked.ensures (not-false _ c.before.before.before.before.if1.false) (found _ _ _ c.before.before.before.parameters-named.ensures c.before.fault.given.1)
+returns-2 c = template_parameters _ _ _ _ _ c.before.before.before.before.before.before.fetch.ensures.a c.before.before.before.before.before.before.fetch.ensures.b _ (omega arith) c.before.before.before.before.before.before.before.before.before.requires.nonterminals_are _ c.before.before.before.before.before.is-marked.ensures (not-false _ c.before.before.before.before.if1.false) (found _ _ _ c.before.before.before.parameters-named.ensures c.before.fault.given.1)
 
 enum_told : tie.Need-enum-told
 enum_told c = search rules
@@ -42,7 +42,7 @@ nodes-named-requires : tie.Need-nodes-named-requires
 nodes-named-requires c κs = record { sized = c.before.before.before.before.before.before.before.before.before.requires.counted.sized; near = record { place = omega arith; few = omega arith } }
 
 returns-3 : tie.Need-returns-3
-returns-3 c = c.nodes-named.ensures _ (record { productions_are = c.before.before.before.before.before.before.before.before.before.before.requires.counted.productions_are; templates_are = c.before.before.before.before.before.before.before.before.before.before.requires.counted.templates_are }) ∙ template_body _ _ _ _ _ c.before.before.before.before.before.before.before.fetch.ensures.a c.before.before.before.before.before.before.before.fetch.ensures.b _ (omega arith) c.before.before.before.before.before.before.before.before.before.before.requires.nonterminals_are _ c.before.before.before.before.before.before.is_marked.ensures (not-false _ c.before.before.before.before.before.if1.false) (unfound _ _ c.before.before.before.before.parameters-named.ensures c.before.before.enum_told.given.1)
+returns-3 c = c.nodes-named.ensures _ (record { productions_are = c.before.before.before.before.before.before.before.before.before.before.requires.counted.productions_are; templates_are = c.before.before.before.before.before.before.before.before.before.before.requires.counted.templates_are }) ∙ template_body _ _ _ _ _ c.before.before.before.before.before.before.before.fetch.ensures.a c.before.before.before.before.before.before.before.fetch.ensures.b _ (omega arith) c.before.before.before.before.before.before.before.before.before.before.requires.nonterminals_are _ c.before.before.before.before.before.before.is-marked.ensures (not-false _ c.before.before.before.before.before.if1.false) (unfound _ _ c.before.before.before.before.parameters-named.ensures c.before.before.enum_told.given.1)
 
 pub template-names-spec : {M : Type 1} → statement M
 template-names-spec =

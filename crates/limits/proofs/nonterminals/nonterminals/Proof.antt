@@ -28,8 +28,23 @@ cast-fetch c = omega (arith, c.shared-slice-known3.given c.before.before.loop.i)
 fetch-requires : tie.Need-fetch-requires invariant-loop decreases-loop
 fetch-requires c κs = search rules
 
-mark-requires : tie.Need-mark-requires invariant-loop decreases-loop
-mark-requires c κs = search rules
+cast-n : tie.Need-overflow-cast-n invariant-loop decreases-loop
+cast-n c = search rules
+
+mul-with-bit : tie.Need-overflow-mul-with-bit invariant-loop decreases-loop
+mul-with-bit c = search rules
+
+array-read-with-bit : tie.Need-array-read-with-bit invariant-loop decreases-loop
+array-read-with-bit c = omega (arith, c.before.before.before.before.loop.invariant.1.words)
+
+with-bit-requires : tie.Need-with-bit-requires invariant-loop decreases-loop
+with-bit-requires c κs = search rules
+
+mul-bits : tie.Need-overflow-mul-bits invariant-loop decreases-loop
+mul-bits c = search rules
+
+array-write-bits : tie.Need-array-write-bits invariant-loop decreases-loop
+array-write-bits c = omega (arith, c.before.before.before.before.before.loop.invariant.1.words)
 
 add-i : tie.Need-overflow-add-i invariant-loop decreases-loop
 add-i c = search rules
@@ -38,7 +53,7 @@ loop-less : tie.Need-loop-smaller invariant-loop decreases-loop
 loop-less c = search rules
 
 loop-again : tie.Need-loop-preserved invariant-loop decreases-loop
-loop-again c = (omega arith, marking_next _ _ _ _ _ _ c.before.before.before.before.before.loop.invariant.1 c.before.before.before.before.loop-test.true c.before.before.fetch.ensures.b (omega arith) c.mark.ensures)
+loop-again c = (omega arith, marking_next _ _ _ _ _ _ c.before.before.before.before.before.loop.invariant.1 c.before.before.before.before.loop-test.true c.before.before.fetch.ensures.b (omega arith) c.with_bit.ensures)
 
 returns : tie.Need-returns invariant-loop decreases-loop
 returns c = marking_done _ _ _ _ c.before.loop.invariant.1 c.loop-test.false
@@ -54,7 +69,12 @@ nonterminals-spec =
     shared-slice-read-fetch
     cast-fetch
     fetch-requires
-    mark-requires
+    cast-n
+    mul-with-bit
+    array-read-with-bit
+    with-bit-requires
+    mul-bits
+    array-write-bits
     add-i
     loop-less
     loop-again

@@ -129,7 +129,7 @@ fn a_template_that_expands_itself() {
 #[test]
 fn templates_that_expand_one_another() {
     let set = Set::of(
-        "class c 1 to 4 { 'a' } production p of n = \"(\" n \")\" production q of n = type t = yesno
+        "class c 1 to 4 { 'a' } production p of n = \"(\" n \")\" production q of m = type t = yesno
          template main (x: t) of n = build p (expand a (x))
          template a (x: t) of n = build p (if x then expand b (x) else expand main (x))
          template b (x: t) of n = build p (expand a (x))

@@ -1,3 +1,0 @@
-pub mod LexemeLaws
-pub mod DerivableLaws
-pub mod FoundLaws
