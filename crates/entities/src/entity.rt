@@ -7,7 +7,7 @@ ghost use Rattle.entities.specs.Entity.{no_plain, Reads, PlainIn};
 use stream::text::{Text, least, text_part, text_skip};
 
 // A byte of a plain text, and how many bytes its escaped form has; none, if what was read is no byte's escaped form.
-#[derive(Drop)]
+#[derive(Clone, Copy)]
 pub struct Plain {
     pub byte: u8,
     pub length: usize,

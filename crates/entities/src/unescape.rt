@@ -12,7 +12,7 @@ use rules::Answer;
 use stream::copy::copy_into;
 
 // Whether a text is the escaped form of well-formed UTF-8, and how many bytes that has.
-#[derive(Drop)]
+#[derive(Clone, Copy)]
 pub struct Measured {
     pub good: bool,
     pub length: usize,

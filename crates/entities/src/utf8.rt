@@ -5,7 +5,7 @@ ghost use Rattle.laws.specs.FirstBytes.{least_next, most_next};
 ghost use Rattle.entities.specs.Utf8.{shape, calm, due_in, resumed, next_shape};
 
 // Between two bytes: whether all was well so far; how many bytes of a character are still due, the next of them from low to high.
-#[derive(Drop)]
+#[derive(Clone, Copy)]
 pub struct Utf8 {
     pub good: bool,
     pub due: u8,

@@ -1,5 +1,7 @@
 // The calls of the page machine. Each is equal to its definition in crate rules, for any bytes of any lengths. Nothing stands here but the
 // stated order of the checks; the exports for other languages are in `c`.
+#![tactic(auto)]
+
 ghost use Rattle.std.specs.Prelude.{◌≡◌};
 ghost use Rattle.rules.specs.Answers.{check, evaluate};
 ghost use Rattle.feed.specs.Asks.{GrammarRoom, CheckAsks, StreamsLaid, EvaluateAsks, MarkAsks, HeadsMarked};

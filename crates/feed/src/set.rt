@@ -22,7 +22,7 @@ use typing::templates::templates_typing;
 use typing::value::value_typing;
 
 // What refusals 4 to 8 say, and where the heads of each kind end in their table: productions stand behind classes, templates behind types.
-#[derive(Drop)]
+#[derive(Clone, Copy)]
 pub(crate) struct Judged {
     pub verdict: Verdict,
     pub classes: usize,

@@ -10,14 +10,14 @@ use stream::Fault;
 use walk::state::Run;
 
 // The first offence against one rule: the kind of its stream and the place there.
-#[derive(Drop)]
+#[derive(Clone, Copy)]
 pub enum Offence {
     In(u8, usize),
     Nowhere,
 }
 
 // What several rules say, one after the other: refused by a rule's number, for a place in a stream of a kind; or passed.
-#[derive(Drop)]
+#[derive(Clone, Copy)]
 pub enum Verdict {
     Refused(u8, u8, usize),
     Passed,

@@ -1,5 +1,7 @@
 // The paper's program: evaluates grammar.blk, template.blk and value.blk of the folder that it is run in, and writes one line of the answer's
 // five fields, then the text if it is finished, with no newline after it.
+#![tactic(auto)]
+
 mod file;
 mod print;
 

@@ -108,7 +108,7 @@ escape_of_unescaped zero (b ∷ bs) x e =
     let (c, i, h) = on_found_some (plain_byte b bs) _ x e in
     let (y, j, k) = on_found_some (unescaped_after (length (entity c) - 1) bs) _ x h in
     let z : c ∷ y ≡ x = some-injective (c ∷ y) x k in
-    rw (← z) (ap (λ ys. entity c ++ ys) (escape_of_unescaped _ bs y j) ∙ sym (plain_byte_begins b c bs i))
+    rw (← z) (ap (λ ys. entity c ++ ys) (escape_of_unescaped (length (entity c) - 1) bs y j) ∙ sym (plain_byte_begins b c bs i))
 
 pub unescaped_after_lem : (n : ℕ) (text : List ℕ) → n ≤ length text → unescaped_after n text ≡ unescaped_after 0 (drop n text)
 unfolding unescaped_after

@@ -15,7 +15,7 @@ use records::production::number_of;
 use stream::record::{Record, fetch};
 
 // The place after a thing, or that the records lay none out.
-#[derive(Drop)]
+#[derive(Clone, Copy)]
 pub(crate) enum End {
     At(usize),
     Broken,

@@ -14,14 +14,14 @@ use records::element::size_of;
 use stream::record::{fetch, fetch_at, forward, place_of};
 
 // A row of things whose heads are in a table: how many there are, and the place after the last one.
-#[derive(Drop)]
+#[derive(Clone, Copy)]
 struct RowEnd {
     pub count: usize,
     pub next: usize,
 }
 
 // How many heads of each kind a stream's table holds.
-#[derive(Drop)]
+#[derive(Clone, Copy)]
 pub struct Counts {
     pub first: usize,
     pub second: usize,

@@ -13,7 +13,7 @@ use records::value::size_of;
 use stream::record::{Place, Record, fetch_in, forward};
 
 // What the records say of a head: how many of them belong to it alone, and how many things stand directly below it.
-#[derive(Drop)]
+#[derive(Clone, Copy)]
 pub enum Head {
     Right(u32, u32),
     Wrong,

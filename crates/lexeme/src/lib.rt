@@ -1,5 +1,7 @@
 // Lexemes: well-formed UTF-8 with a number of characters from least to most, each in some range of a class and one that XML 1.0 admits. An escaped class
 // has the escaped forms of the lexemes of a plain class.
+#![tactic(auto)]
+
 ghost use Rattle.std.specs.Prelude.{◌≡◌, false, ℕ};
 ghost use Rattle.std.proofs.Math.Option.{none, some};
 ghost use Rattle.rules.specs.Blocks.{stream_length};
@@ -122,7 +124,7 @@ fn admits_escaped(g: &[u8], p: u16, set: &[u16], table: &[u16], s: &[u8], t: Tex
 }
 
 // What a class takes its lexemes from: a plain class, itself or the one that an escaped class names; and whether they are escaped.
-#[derive(Drop)]
+#[derive(Clone, Copy)]
 pub struct Source {
     pub plain: u16,
     pub escaped: bool,

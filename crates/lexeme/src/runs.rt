@@ -9,7 +9,7 @@ use crate::sets::{has, word};
 const LEADS: u64 = 0xffff_fffc;
 
 // The place behind a run, and the number of its characters.
-#[derive(Drop)]
+#[derive(Clone, Copy)]
 pub struct TextRun {
     pub at: usize,
     pub count: usize,

@@ -12,7 +12,7 @@ use crate::sets::{has, word};
 
 // Between two bytes: whether all was well so far; how many bytes of a character are still due, the next of them from low to high, and
 // its bits so far; and the characters before it.
-#[derive(Drop)]
+#[derive(Clone, Copy)]
 pub struct Scan {
     pub good: bool,
     pub due: usize,

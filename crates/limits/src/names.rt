@@ -17,7 +17,7 @@ use stream::Fault;
 use stream::record::fetch;
 
 // How many there are of what a template names by number.
-#[derive(Drop)]
+#[derive(Clone, Copy)]
 struct NameCounts {
     productions: usize,
     types: usize,

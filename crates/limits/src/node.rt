@@ -6,14 +6,14 @@ use rules::Form;
 use stream::record::{Record, fetch};
 
 // Nodes in a row: where they begin, and how many.
-#[derive(Drop)]
+#[derive(Clone, Copy)]
 pub(crate) struct Nodes {
     pub first: usize,
     pub count: usize,
 }
 
 // A node: its form, the number that it names, its records, and the nodes directly below it.
-#[derive(Drop)]
+#[derive(Clone, Copy)]
 pub(crate) struct Node {
     pub form: Form,
     pub names: usize,

@@ -1,5 +1,7 @@
 // What a record means: each reading once, with its contract and its law. Who reads records goes through these, so that a form that comes to
 // mean more changes here. The table of a value's children is described in specs/Children; crate layout fills it, crate walk reads it.
+#![tactic(auto)]
+
 pub mod class;
 pub mod element;
 pub mod node;

@@ -7,7 +7,7 @@ ghost use Rattle.records.specs.Ranges.{RangeAt};
 use stream::record::fetch;
 
 // A range of code points, both ends in it.
-#[derive(Drop)]
+#[derive(Clone, Copy)]
 pub struct Range {
     pub lowest: usize,
     pub highest: usize,

@@ -34,7 +34,7 @@ pub fn fnv1a(start: u32, s: &[u8]) -> u32
 }
 
 // A number for each of four parts, in their order: where its check starts, or the check.
-#[derive(Drop)]
+#[derive(Clone, Copy)]
 pub struct Four {
     pub a: u32,
     pub b: u32,

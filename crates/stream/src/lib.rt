@@ -1,4 +1,6 @@
 // Blocks, FNV-1a, packing, the fetch of a record, the reader of text: what a stream is made of, and nothing of what its records mean.
+#![tactic(auto)]
+
 pub mod block;
 pub mod blocks;
 pub mod copy;
@@ -8,7 +10,7 @@ pub mod record;
 pub mod text;
 
 // The place of the first offending thing, or none.
-#[derive(Drop)]
+#[derive(Clone, Copy)]
 pub enum Fault {
     At(usize),
     Nowhere,

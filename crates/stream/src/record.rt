@@ -6,7 +6,7 @@ ghost use Rattle.rules.specs.Records.{base};
 ghost use Rattle.stream.specs.Record.{Fetched, record_at, place_of, Reach};
 
 // A record: byte 0, byte 1, and three words of 16 bits. Bytes 2 to 7 are the words' low and high bytes.
-#[derive(Drop)]
+#[derive(Clone, Copy)]
 pub struct Record {
     pub kind: u8,
     pub a: u8,
@@ -16,7 +16,7 @@ pub struct Record {
 }
 
 // Where a record lies: its address in the stream, and which of its block's 63 records it is.
-#[derive(Drop)]
+#[derive(Clone, Copy)]
 pub struct Place {
     pub at: usize,
     pub slot: usize,

@@ -9,7 +9,7 @@ use crate::copy::copy_into;
 use crate::record::{NEAR, address, block_of};
 
 // A text, or what is left of one: the address of its first byte, and the number of its bytes.
-#[derive(Drop)]
+#[derive(Clone, Copy)]
 pub struct Text {
     pub at: usize,
     pub left: usize,

@@ -1,4 +1,6 @@
 // Refusals 7 and 8: the templates against the grammar, the value against its type.
+#![tactic(auto)]
+
 mod asked;
 mod kinds;
 mod nodes;
@@ -18,7 +20,7 @@ pub const VARIABLES: usize = 24;
 pub const LEVELS: usize = 200;
 
 // A number that was looked for.
-#[derive(Drop)]
+#[derive(Clone, Copy)]
 pub enum Sought {
     Number(u16),
     Nothing,
@@ -26,7 +28,7 @@ pub enum Sought {
 
 // What a type is: a text of a class, a yes/no, a list of items of a type, or a record or a variant, by the place of its head and its number of
 // fields or cases.
-#[derive(Drop)]
+#[derive(Clone, Copy)]
 pub enum Kind {
     Text(u16),
     YesNo,
@@ -38,7 +40,7 @@ pub enum Kind {
 
 // A node to check: its place, its position, and how many variables are in scope. Their types are the first `count` numbers of one array,
 // which every check is lent.
-#[derive(Drop)]
+#[derive(Clone, Copy)]
 pub struct Frame {
     pub node: usize,
     pub position: Position,
@@ -46,7 +48,7 @@ pub struct Frame {
 }
 
 // What nodes in a row have as one variable more: nothing; an item of a type; or each the content of its case, by the place of the variant's head.
-#[derive(Drop)]
+#[derive(Clone, Copy)]
 pub enum Brings {
     Nothing,
     Item(u16),
@@ -55,14 +57,14 @@ pub enum Brings {
 
 // The positions of nodes in a row: all in one, with what they have as one variable more; or each in that of its element, by the place of a
 // production's row in the table of asked elements.
-#[derive(Drop)]
+#[derive(Clone, Copy)]
 pub enum Positions {
     Alike(Position, Brings),
     Asked(u16),
 }
 
 // What stands directly below a node: so many nodes in a row from a place on, in these positions.
-#[derive(Drop)]
+#[derive(Clone, Copy)]
 pub struct Below {
     pub first: usize,
     pub count: usize,
@@ -70,14 +72,14 @@ pub struct Below {
 }
 
 // The answer of a node's own test.
-#[derive(Drop)]
+#[derive(Clone, Copy)]
 pub enum Tested {
     Unsuited,
     Above(Below),
 }
 
 // The answer of a check: the place of the first node that does not suit its position, and that position.
-#[derive(Drop)]
+#[derive(Clone, Copy)]
 pub enum Judged {
     Suits,
     Offends(usize, Position),

@@ -3,7 +3,7 @@ use crate::print::{fields, hash, labelled, text};
 use rules::Answer;
 
 // What a call is given besides the streams: a number (the fuel, the kind, the start of a check), and the lengths of output and scratch.
-#[derive(Drop)]
+#[derive(Clone, Copy)]
 pub struct Lent {
     pub number: u32,
     pub room: usize,

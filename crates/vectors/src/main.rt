@@ -9,6 +9,8 @@
 //             given; how many bytes it is lent of each of the three streams; how many of output; how many numbers of scratch
 //
 // The streams keep their bytes from part to part, so what cases share stands in the file once.
+#![tactic(auto)]
+
 mod call;
 mod part;
 mod print;

@@ -7,7 +7,7 @@ use crate::state::Run;
 // Its place; the record of the element that it stands for, which says what its position asks for, or 0 where it stands for none: a body, an item,
 // a for; its variables, `vars` numbers of the scratch from `base` on; the levels that are left, its own among them; all the fuel; the steps and
 // the bytes so far.
-#[derive(Drop)]
+#[derive(Clone, Copy)]
 pub struct At {
     pub node: usize,
     pub element: usize,

@@ -1,5 +1,7 @@
 // The evaluator and the writer: the walk of crate rules, over the tables of heads and of a value's children. It goes by no typing: where the
 // definition is stuck the answer is 99, and no accepted set brings it there.
+#![tactic(auto)]
+
 ghost use Rattle.std.specs.Prelude.{◌≡◌, length, replicate};
 ghost use Rattle.walk.specs.Asks.{sources, Walkable};
 ghost use Rattle.walk.specs.Nodes.{start_at};

@@ -13,7 +13,7 @@ use stream::record::Record;
 
 // The place of the sequence, which is that of a separator's 12; the record of the element that it stands for, behind which the separator lies;
 // how many bytes that has.
-#[derive(Drop)]
+#[derive(Clone, Copy)]
 pub struct Separator {
     pub sequence: usize,
     pub element: usize,

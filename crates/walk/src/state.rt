@@ -4,7 +4,7 @@ ghost use Rattle.walk.specs.Run.{turns_of};
 
 // Its number is 0 while it goes on; 10, 11 or 12 where a limit ended it, at the node at `place`; 99 where it is stuck. `bytes` of the output
 // are written. The order of the fields leaves no gap between them: a run is copied at every return.
-#[derive(Drop)]
+#[derive(Clone, Copy)]
 pub struct Run {
     pub place: usize,
     pub bytes: usize,
@@ -13,7 +13,7 @@ pub struct Run {
 }
 
 // How a for came out; and, if its run goes on, how many items its sequence has had by then.
-#[derive(Drop)]
+#[derive(Clone, Copy)]
 pub struct Turns {
     pub run: Run,
     pub items: usize,

@@ -11,7 +11,7 @@ use records::class::is_escaped;
 use stream::record::fetch;
 
 // The place of something that was looked for: a value, or a head.
-#[derive(Drop)]
+#[derive(Clone, Copy)]
 pub enum Lookup {
     Found(u16),
     Nothing,
