@@ -1,0 +1,16 @@
+use Prim.Native.Nat.{◌-◌, ◌≤◌}
+use mathlib.Core.Path.{◌≡◌, refl, sym, ◌∙◌}
+use native.Mathlib.Omega.{arith}
+use lib.ListN.{length, take}
+use Rattle.rules.specs.Escape.{escape}
+use lib.Seq.{take_all}
+use borrow.Author.Tests.{eqb-true}
+use Rattle.entities.proofs.EscapeLaws.{plain_more, escape_all}
+use borrow.Author.Rules.{rules}
+use Rattle.entities.proofs.escape.is_own_form_part.Given as goal
+
+abbrev pub invariant-loop-i : goal.invariant-loop-i
+invariant-loop-i l = (l.i ≤ length l.part) × (l.found ≡ 0 → escape (take l.i l.part) ≡ take l.i l.part)
+
+abbrev pub decreases-loop-i : goal.decreases-loop-i
+decreases-loop-i l = length l.part - l.i

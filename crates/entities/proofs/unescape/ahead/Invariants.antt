@@ -1,0 +1,14 @@
+use Prim.Native.Nat.{◌-◌}
+use mathlib.Core.Path.{◌≡◌}
+use lib.ListN.{length}
+use borrow.Author.Tests.{not-false}
+use Rattle.entities.specs.Measured.{Letters}
+use Rattle.entities.proofs.MeasureLaws.{run_start, run_more}
+use borrow.Author.Rules.{rules}
+use Rattle.entities.proofs.unescape.ahead.Given as goal
+
+abbrev pub invariant-loop-i : goal.invariant-loop-i
+invariant-loop-i l = (l.due ≡ 0) × Letters l.text l.from l.due l.i
+
+abbrev pub decreases-loop-i : goal.decreases-loop-i
+decreases-loop-i l = length l.text - l.i
