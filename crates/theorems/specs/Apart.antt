@@ -27,11 +27,13 @@ module _ (size : ℕ → ℕ) where
 
   pub heads_within : {q : ℕ} (n p : ℕ) → In q (heads size n p) → (p ≤ q) × (q + size q ≤ after size n p)
   unfolding heads after
+  heads_within {q = q} zero p x' = elim x' [ ]
   heads_within (suc n) p (here xs) = (omega arith, after_on n (p + size p))
   heads_within (suc n) p (later y xs i) = let (a, b) = heads_within n (p + size p) i in (omega arith, b)
 
   pub heads_apart : {q r : ℕ} (n p : ℕ) → In q (heads size n p) → In r (heads size n p) → Apart size q r
   unfolding heads
+  heads_apart {q = q} {r = r} zero p x'' _ = elim x'' [ ]
   heads_apart (suc n) p (here xs) (here ys) = one_thing refl
   heads_apart (suc n) p (here xs) (later y ys j) = first_ends (heads_within n (p + size p) j).0
   heads_apart (suc n) p (later y xs i) (here ys) = second_ends (heads_within n (p + size p) i).0
@@ -49,10 +51,12 @@ module _ (size : ℕ → ℕ) where
 
     things-from : {q : ℕ} (n p : ℕ) → In q (things s size n p) → p ≤ q
     unfolding things
+    things-from {q = q} zero p i = elim i [ ]
     things-from (suc n) p i = elim (thing-in n p i) [ inl e ↦ omega arith | inr j ↦ let h = things-from n (p + size p) j in omega arith ]
 
     pub things-apart : {q r : ℕ} (n p : ℕ) → In q (things s size n p) → In r (things s size n p) → Apart size q r
     unfolding things
+    things-apart {q = q} {r = r} zero p i j = elim i [ ]
     things-apart {q} {r} (suc n) p i j = go (thing-in n p i) (thing-in n p j) (λ k l. things-apart n (p + size p) k l)
       where
         go : (q ≡ p) ⊎ In q (things s size n (p + size p)) → (r ≡ p) ⊎ In r (things s size n (p + size p))
@@ -65,6 +69,7 @@ module _ (size : ℕ → ℕ) where
 -- what is chosen of a list by its sort
 pub those_in : {q : ℕ} (is : ℕ → Bool) (ps : List ℕ) → In q (those is ps) → In q ps × (is q ≡ true)
 unfolding those
+those_in {q = q} is [] i = elim i [ ]
 those_in {q} is (p ∷ ps) i = go (is p) refl i (λ j. let (a, b) = those_in is ps j in (later p ps a, b))
   where
     first : is p ≡ true → q ≡ p → In q (p ∷ ps) × (is q ≡ true)

@@ -88,6 +88,7 @@ walk_bounded i = walk_both i i.fuel i.room _ (bounded_kept i) (record { few_step
 
 left_within : {i : Input} {s : State} {e : End} → Bounded i e → StateOf s e → Within i s
 left_within (at_done s w) when_done = w
+left_within {i = i} {s = s} at_stuck x3 = elim x3 [ ]
 left_within (at_limit l p s h) (when_ended l' p') = h.0
 
 -- "One that passes the end of the output is 12."

@@ -87,10 +87,12 @@ module _ (g t v : List ℕ) where
   no_element_only y m no_element = (refl, refl)
 
   keyword_only : {env cs w y : List ℕ} {es : List Element} {n : ℕ} → Only (Builds g t v env es cs) y n → Only (Builds g t v env (keyword w ∷ es) cs) (w ++ y) n
+  keyword_only {env = env} {w = w} {y = y} {es = es} {n = n} h _ _ (next-child {cs = cs} {at = at} {c = c} {m = m} x23 _ _) = elim x23 [ ]
   keyword_only {w = w} h z m (own-bytes b) = let u = h _ _ b in (ap (λ (a : List ℕ). w ++ a) u.0, u.1)
 
   child_joined : {env cs x : List ℕ} {e : Element} {at : Position} {c n : ℕ} {es : List Element} → Asks e at → Builds g t v env (e ∷ es) (c ∷ cs) x n
       → Joined (Evaluates g t v env e c) (Builds g t v env es cs) x n
+  child_joined {env = env} {cs = cs} {at = at} {c = c} {n = n} {es = es} a (own-bytes {w = w} {y = y} _) = elim a [ ]
   child_joined a (next-child b d r) = (_, _, _, _, refl, refl, d, r)
 
   -- what stands before an item, and its text

@@ -56,6 +56,7 @@ data Ascending : ℕ → List Stream → Type 0 where
   one_stream : (n : ℕ) (s : Stream) (ss : List Stream) → n < stream_kind s → Ascending (stream_kind s) ss → Ascending n (s ∷ ss)
 
 kind_above : {n : ℕ} {s : Stream} {ss : List Stream} → Ascending n ss → In s ss → n < stream_kind s
+kind_above {s = s} (no_stream n) x4 = elim x4 [ ]
 kind_above (one_stream n s ss l a) (here us) = l
 kind_above (one_stream n s ss l a) (later u us i) = let m = kind_above a i in omega arith
 

@@ -31,6 +31,7 @@ numbered_leading n (p ∷ ps) = goes_on (n, p) (numbered (suc n) ps) p ps refl (
 
 in_numbered : (m : ℕ) (ps : List ℕ) {x : ℕ × ℕ} → In x (numbered m ps) → (j : ℕ) × (x.0 ≡ m + j) × (nth ps j ≡ some x.1)
 unfolding numbered nth
+in_numbered m [] x3 = elim x3 [ ]
 in_numbered m (p ∷ ps) (here xs) = (0, omega arith, refl)
 in_numbered m (p ∷ ps) (later y xs i) = let r = in_numbered (suc m) ps i in (suc r.0, omega arith, r.2)
 

@@ -3,7 +3,7 @@
 use Rattle.std.specs.Prelude.{◌≡◌, ◌↔◌, List, [], ◌∷◌, ◌++◌, Bool, ◌||◌, get_or, take, drop, eqb}
 use Rattle.std.proofs.Math.Path.{refl}
 use Rattle.std.proofs.Common.{sym, ◌∙◌, ap, subst, inl, inr, append-nil, arith, add-zero, length-take, get_or-take, get_or-drop, eqb-true, eq-eqb, ne_eqb}
-use Rattle.std.proofs.Math.Logic.{Iff·rfl}
+use Rattle.std.proofs.Math.Logic.{Iff.rfl as iff-rfl}
 use Prim.Native.Nat.{ℕ, zero, suc, ◌+◌, ◌-◌, ◌≤◌, ◌<◌}
 use Rattle.std.proofs.Math.Bool.{true, false}
 use Rattle.std.proofs.lemmas.Bool.{false≢true, eqb-false}
@@ -64,8 +64,8 @@ unfolding in_row then_read on_found
 row_of_one one p q = go (one p)
   where
     go : (o : Option ℕ) → (on_found o none (λ r. some r) ≡ some q) ↔ (o ≡ some q)
-    go none = Iff·rfl
-    go (some r) = Iff·rfl
+    go none = iff-rfl
+    go (some r) = iff-rfl
 
 row_exactly : {Thing : ℕ → ℕ → Type 0} (one : ℕ → Option ℕ) → ((p q : ℕ) → (one p ≡ some q) ↔ Thing p q)
     → (n p q : ℕ) → (in_row one n p ≡ some q) ↔ InRow Thing n p q
@@ -187,12 +187,12 @@ ranges_exactly g = row_exactly (range_end g) (range_exactly g)
 
 plain_exactly : (g : List ℕ) (n p q : ℕ) → (plain_end g n p ≡ some q) ↔ ((field_a g p ≡ n) × InRow (RangeAt g) (field_d g p) (p + 1) q)
 unfolding plain_end
-plain_exactly g n p q = simp (only_if_then, eqb_iff, ranges_exactly) Iff·rfl
+plain_exactly g n p q = simp (only_if_then, eqb_iff, ranges_exactly) iff-rfl
 
 escaped_exactly : (g : List ℕ) (n p q : ℕ)
     → (escaped_end g n p ≡ some q) ↔ (((field_a g p ≡ n) × ((field_c g p ≡ 0) × (field_d g p ≡ 0))) × (p + 1 ≡ q))
 unfolding escaped_end
-escaped_exactly g n p q = simp (only_if_iff, and_iff, eqb_iff) Iff·rfl
+escaped_exactly g n p q = simp (only_if_iff, and_iff, eqb_iff) iff-rfl
 
 pub class_from : (g : List ℕ) (n p q : ℕ) → is_class g p ≡ true → class_end g n p ≡ some q → ClassAt g n p q
 unfolding class_end
@@ -292,7 +292,7 @@ paths_exactly t = row_exactly (path_end t) (path_exactly t)
 -- the fields of a record or a variant
 fields_exactly : (t : List ℕ) (p q : ℕ) → (fields_end t p ≡ some q) ↔ (((field_b t p ≡ 0) × (field_c t p ≡ 0)) × InRow (NamingAt t 2) (field_d t p) (p + 1) q)
 unfolding fields_end
-fields_exactly t p q = simp (only_if_then, and_iff, eqb_iff, namings_exactly) Iff·rfl
+fields_exactly t p q = simp (only_if_then, and_iff, eqb_iff, namings_exactly) iff-rfl
 
 -- a type by its form; the kind is known where a type is read
 type_form : (t : List ℕ) (form p q : ℕ) → kind_of t p ≡ 1 → field_a t p ≡ form → type_form_end t form p ≡ some q → TypeAt t p q
@@ -339,10 +339,10 @@ sized_iff s p (some r) q = (
 node_step : (t : List ℕ) (k p q : ℕ)
     → (node_end t (suc k) p ≡ some q) ↔ ((kind_of t p ≡ 5) × ((form_end t (form_of t p) (node_end t k) p ≡ some q) × (p + field_c t p ≡ q)))
 unfolding node_end
-node_step t k p q = simp (only_if_then, eqb_iff, sized_iff) Iff·rfl
+node_step t k p q = simp (only_if_then, eqb_iff, sized_iff) iff-rfl
 
 as_nodes : {t : List ℕ} {n p q : ℕ} → InRow (NodeAt t) n p q → NodesAt t n p q
-as_nodes (no_thing p) = NodesAt.no_Node p
+as_nodes (no_thing p) = NodesAt.no_node p
 as_nodes (one_thing n p q r x xs) = NodesAt.one-node n p q r x (as_nodes xs)
 
 -- from a reader of nodes that is right, to what stands below a head by its form
@@ -399,7 +399,7 @@ mutual
       head_to k h (simp (only_if_then, eqb_iff, then_iff) (b, (r, (path_exactly t _ _).1 s, nodes_to ns k (let e = s.end in omega arith))))
 
   nodes_to : {t : List ℕ} {n p q : ℕ} → NodesAt t n p q → (k : ℕ) → q ≤ p + k → in_row (node_end t k) n p ≡ some q
-  nodes_to {t} (NodesAt.no_Node p) k l = row_none (node_end t k) p
+  nodes_to {t} (NodesAt.no_node p) k l = row_none (node_end t k) p
   nodes_to (NodesAt.one-node n p q r x xs) zero l = absurd (let a = node_grows x in let b = nodes_grow xs in omega arith)
   nodes_to {t} (NodesAt.one-node n p q r x xs) (suc k) l =
       let a = node_grows x in let b = nodes_grow xs in
@@ -440,13 +440,13 @@ as_values (one_thing n p q r x xs) = ValuesAt.one_value n p q r x (as_values xs)
 children_iff : (v : List ℕ) (value : ℕ → Option ℕ) (p q : ℕ)
     → (children_end v value p ≡ some q) ↔ (((field_a v p ≡ 0) × (field_b v p ≡ 0)) × ((in_row value (field_d v p) (p + 1) ≡ some q) × (p + field_c v p ≡ q)))
 unfolding children_end
-children_iff v value p q = simp (only_if_then, and_iff, eqb_iff, sized_iff) Iff·rfl
+children_iff v value p q = simp (only_if_then, and_iff, eqb_iff, sized_iff) iff-rfl
 
 -- a case's head and its one child
 case_iff : (v : List ℕ) (value : ℕ → Option ℕ) (p q : ℕ)
     → (case_end v value p ≡ some q) ↔ (((field_b v p ≡ 0) × (field_d v p ≡ 0)) × ((value (p + 1) ≡ some q) × (p + field_c v p ≡ q)))
 unfolding case_end
-case_iff v value p q = simp (only_if_then, and_iff, eqb_iff, sized_iff, row_of_one) Iff·rfl
+case_iff v value p q = simp (only_if_then, and_iff, eqb_iff, sized_iff, row_of_one) iff-rfl
 
 -- from a reader of values that is right, to a value by its kind
 module _ (v : List ℕ) (value : ℕ → Option ℕ) (right : (p q : ℕ) → value p ≡ some q → ValueAt v p q) where
@@ -515,7 +515,7 @@ value_read h (suc k) l = value_to h k (omega arith)
 -- no fault exactly if there is an end, and after it zero records only
 pub fault_iff : (s : List ℕ) (end : Option ℕ) → (layout_fault s end ≡ none) ↔ ((e : ℕ) × (end ≡ some e) × Tail s e)
 unfolding layout_fault
-fault_iff s end = simp (need_iff, on_found_true, tail_exactly) Iff·rfl
+fault_iff s end = simp (need_iff, on_found_true, tail_exactly) iff-rfl
 
 -- a row of one sort, then a row of another
 pub two_rows_from : {A B : ℕ → ℕ → ℕ → Type 0} (s : List ℕ) (is are : ℕ → Bool) (one other : ℕ → ℕ → Option ℕ)

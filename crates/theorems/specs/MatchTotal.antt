@@ -19,7 +19,7 @@ use Rattle.laws.specs.Faults.{In, here, later, nth_in}
 use Rattle.theorems.specs.Children.{ChildFor, this_child, past_keyword, past_child}
 use Rattle.theorems.specs.Finds.{Finds, FindsAll, list_is, case_is, finds_exactly, path_found, paths_found}
 use Rattle.theorems.specs.Judgement.{PathTyped, Arguments, Suits, by-build, by-literal, by_place, by-expand, by-if, by-for, by-sequence, as-item, by-match}
-use Rattle.theorems.specs.Judgement.{Fills, no-child, a_child, Items, no_item, an_item, Arms, OfType, AllOf, none_left, one_of, EachOf, no_field, a_field}
+use Rattle.theorems.specs.Judgement.{Fills, all-filled, no-child, a_child, Items, no_item, an_item, Arms, OfType, AllOf, none_left, one_of, EachOf, no_field, a_field}
 use Rattle.theorems.specs.OwnRule.{AsksText, Fits, a_build, a_literal, a_place, an_expand, an_if, a_for, a_sequence, a_match, Stands}
 use Rattle.theorems.specs.Lookups.{path_exactly}
 use Rattle.theorems.specs.Offences.{Misfit, unsuited}
@@ -83,6 +83,7 @@ item_typed {v = v} {item = item} {w} {u} o e k i =
     all_of os (subst (In u) ((list_is v w ws).0 is).1 i)
 
 child_suits : {g t vars : List ℕ} {es : List Element} {cs : List ℕ} {e : Element} {c : ℕ} → Fills g t vars es cs → ChildFor es cs e c → (at : Position) × Suits g t vars c at
+child_suits {g = g} {t = t} {e = e} {c = c} (all-filled vars) x5 = elim x5 [ ]
 child_suits (no-child vars x es cs fs) (past_keyword y e c es' cs' k) = child_suits fs k
 child_suits (no-child vars x es cs fs) (this_child e at c es' cs' a) = elim a [ ]
 child_suits (no-child vars x es cs fs) (past_child e e' at c c' es' cs' a k) = elim a [ ]

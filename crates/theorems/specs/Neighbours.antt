@@ -13,8 +13,12 @@ pub further_one : {g between : List ℕ} {n k : ℕ} {z : List ℕ} (x : List �
 further_one {z = z} x b d = rw (← append-nil (z ++ x)) (one_more_lem b d no_more)
 
 pub further_append : {g between x y : List ℕ} {n k l m : ℕ} → Further g n between k l x → Further g n between l m y → Further g n between k m (x ++ y)
-further_append no_more h = h
-further_append {y = y} (one_more_lem {z = z} {x} {y = r} b d f) h = rw (append_assoc (z ++ x) r y) (one_more_lem b d (further_append f h))
+further_append f h = go f h
+  where
+    go : {g between : List ℕ} {n k l : ℕ} {x : List ℕ} → Further g n between k l x → {y : List ℕ} {m : ℕ} → Further g n between l m y
+        → Further g n between k m (x ++ y)
+    go no_more h = h
+    go (one_more_lem {z = z} {x} {y = r} b d f) {y} h = rw (append_assoc (z ++ x) r y) (one_more_lem b d (go f h))
 
 -- "one separator between neighbours and none elsewhere": what follows an item is nothing, or a separator and then texts
 data Onward (g : List ℕ) (n : ℕ) (between : List ℕ) : List ℕ → Type 0 where
@@ -26,10 +30,12 @@ text_then {between} {n} x d nothing_more = rw (append-nil x) (last-text n betwee
 text_then {between} {n} x d (texts_more {x = y} h) = rw (← append_assoc x between y) (next_text n between x y d h)
 
 further_onward : {g between y : List ℕ} {n k l : ℕ} → Further g n between k l y → 1 ≤ k → Onward g n between y
-further_onward no_more h = nothing_more
-further_onward (one_more_lem the_first d f) h = absurd (omega arith)
-further_onward {between} (one_more_lem {x} {y = y} another d f) h =
-    rw (append_assoc between x y) (texts_more (text_then x d (further_onward f (omega arith))))
+further_onward f h = go f h
+  where
+    go : {g between : List ℕ} {n k l : ℕ} {y : List ℕ} → Further g n between k l y → 1 ≤ k → Onward g n between y
+    go no_more h = nothing_more
+    go (one_more_lem the_first d f) h = absurd (omega arith)
+    go {between} (one_more_lem {x} {y = y} another d f) h = rw (append_assoc between x y) (texts_more (text_then x d (go f (omega arith))))
 
 pub further_row : {g between y : List ℕ} {n k l : ℕ} → Further g n between k l y → k ≡ 0 → Row g n between y
 further_row {between} {n} no_more h = no_text n between

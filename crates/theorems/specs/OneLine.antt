@@ -112,6 +112,7 @@ module _ (i : Input) (fuel room : ℕ) where
   walks_line = (walk_both i fuel room OnLine line_kept).line
 
 past_begins : {s s' : State} {e : End} → Past s e → StateOf s' e → Begins s s'
+past_begins {s = s} at_stuck x3 = elim x3 [ ]
 past_begins (at_done s b) when_done = b
 past_begins (at_limit l p s b) (when_ended l' p') = b
 

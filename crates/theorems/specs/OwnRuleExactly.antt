@@ -224,8 +224,12 @@ below_stands {g} {t} s (under x c y d i b) = below_stands (below _ _ _ _ _ _ s (
 
 stands_below : {g t vars : List ℕ} {p q : ℕ} {at : Position} → Stands g t p vars q at → (d : ℕ) × Below (sites_below g t) (body_site t p) d (site vars at q)
 unfolding body_site
-stands_below the_body = (0, itself _)
-stands_below (below vars vars' q c at at' s k) = let (d, b) = stands_below s in (suc d, below_more b (child_form k))
+stands_below s = go s
+  where
+    go : {g t : List ℕ} {p : ℕ} {vars : List ℕ} {q : ℕ} {at : Position} → Stands g t p vars q at
+        → (d : ℕ) × Below (sites_below g t) (body_site t p) d (site vars at q)
+    go the_body = (0, itself _)
+    go (below vars vars' q c at at' s k) = let (d, b) = go s in (suc d, below_more b (child_form k))
 
 pub stands_exactly : (g t : List ℕ) (p : ℕ) (x : Site) → ((d : ℕ) × Below (sites_below g t) (body_site t p) d x) ↔ Stands g t p x.vars x.node x.position
 unfolding body_site site

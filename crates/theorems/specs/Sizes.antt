@@ -162,7 +162,7 @@ mutual
   node_grows (NodeAt.a_match p q r h b s ns) = let l = nodes_grow ns in let e = s.end in omega arith
 
   pub nodes_grow : {t : List ℕ} {n p q : ℕ} → NodesAt t n p q → p + n ≤ q
-  nodes_grow (NodesAt.no_Node p) = omega arith
+  nodes_grow (NodesAt.no_node p) = omega arith
   nodes_grow (NodesAt.one-node n p q r x xs) = let l = node_grows x in let m = nodes_grow xs in omega arith
 
 pub value_size_lem : {v : List ℕ} {p q : ℕ} → ValueAt v p q → q ≡ p + value_size v p

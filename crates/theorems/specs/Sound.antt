@@ -227,6 +227,8 @@ module _ (i : Input) (below : Asked → ℕ → List ℕ → State → End) (sou
       let (c, is, to, there, o) = shaped (cases tys) w.2 b in
       let (arm, y, su) = arm_there c.number to as' there in
       rw f (found_ends _ w.1 (found_ends _ is (found_ends _ y (sound.writes su a (each_more h o) s))))
+  form_sound bodies {vars = vars} {env = env} {p = p} {e = e} (by-for _ _ n ty item _ _ _ _) a h s = elim a [ ]
+  form_sound bodies {vars = vars} {env = env} {p = p} {e = e} (as-item _ _ n _) a h s = elim a [ ]
   form_sound bodies (by-sequence vars p n f is) (asks_repetition_lem n' x) h s =
       rw f (writes_map (λ y r. repeated n x y (further_row r.1 refl)) (items_sound p 0 is h s))
 

@@ -70,6 +70,7 @@ row_in (suc k) p n a b = go (eqb p n) refl (λ c. row_in k (p + 1) n (omega arit
 
 pub in_row : (k p : ℕ) {n : ℕ} → In n (row k p) → (p ≤ n) × (n < p + k)
 unfolding row heads
+in_row zero p {n = n} x' = elim x' [ ]
 in_row (suc k) p (here xs) = (omega arith, omega arith)
 in_row (suc k) p (later y xs i) = let r = in_row k (p + 1) i in (omega arith, omega arith)
 

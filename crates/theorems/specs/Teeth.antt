@@ -52,9 +52,9 @@ last_keyword : {g x w : List ℕ} (es : List Element) → Pieces g (es ++ keywor
 last_keyword [] ps =
     let (y, rest, p, qs, e) = first_piece ps in
     ([], e ∙ ap (λ (u : List ℕ). y ++ u) (no_pieces qs) ∙ append-nil y ∙ keyword_piece p)
-last_keyword (f ∷ es) ps =
+last_keyword {g = g} {x = x} {w = w} (f ∷ es) ps =
     let (y, rest, p, qs, e) = first_piece ps in
-    let (r, d) = last_keyword es qs in
+    let (r, d) = last_keyword {x = rest} es qs in
     (y ++ r, e ∙ ap (λ (u : List ℕ). y ++ u) d ∙ sym (append_assoc y r _))
 
 -- every production of nonterminal n has elements of such a shape

@@ -26,12 +26,15 @@ use Rattle.theorems.specs.Ranges.{below_leading, sites_leading}
 abbrev SuitsAt : List ℕ → List ℕ → Site → Type 0
 SuitsAt g t x = Suits g t x.vars x.node x.position
 
+item_asked : {m n : ℕ} → AsksText (Nonterminal n) m → AsksText (Item n) m
+item_asked (in_its_position n) = in_a_sequence n
+
 -- so it fits
 item_fits : {g t vars : List ℕ} {p n : ℕ} → Fits g t vars p (Nonterminal n) → Fits g t vars p (Item n)
-item_fits (a_build at q f e (in_its_position n) o) = a_build (Item n) q f e (in_a_sequence n) o
-item_fits (an_expand at q f e (in_its_position n) as') = an_expand (Item n) q f e (in_a_sequence n) as'
-item_fits (an_if at n ty f (in_its_position m) h e) = an_if (Item n) n ty f (in_a_sequence n) h e
-item_fits (a_match at n ty tys f (in_its_position m) h e l) = a_match (Item n) n ty tys f (in_a_sequence n) h e l
+item_fits (a_build at q f e a o) = a_build _ q f e (item_asked a) o
+item_fits (an_expand at q f e a as') = an_expand _ q f e (item_asked a) as'
+item_fits (an_if at n ty f a h e) = an_if _ n ty f (item_asked a) h e
+item_fits (a_match at n ty tys f a h e l) = a_match _ n ty tys f (item_asked a) h e l
 
 fills_one_each : {g t vars : List ℕ} {es : List Element} {cs : List ℕ} → Fills g t vars es cs → OneEach es cs
 fills_one_each (all-filled vars) = nothing_left

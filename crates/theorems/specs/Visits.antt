@@ -77,8 +77,11 @@ visit_unlisted i (suc k) f n c env s e u s' h =
     let z : ◌≡◌ {A = ℕ} 0 1 = cc in omega arith
 
 pub node_in : {t v env cs : List ℕ} {c n : ℕ} → NodeAfter t v env c cs n → In c cs
-node_in (first_node cs) = here cs
-node_in (later_node b m n cs h j) = later b cs (node_in j)
+node_in h = go h
+  where
+    go : {t v env : List ℕ} {c : ℕ} {cs : List ℕ} {n : ℕ} → NodeAfter t v env c cs n → In c cs
+    go (first_node cs) = here cs
+    go (later_node b m n cs h j) = later b cs (go j)
 
 if_no_for : {f : Form} → f ≡ If → f ≡ For → ⊥
 if_no_for e h = let z : ◌≡◌ {A = ℕ} 0 1 = cc in omega arith
