@@ -1,0 +1,6 @@
+use Rattle.lexeme.specs.Runs.{admitted}
+use Rattle.lexeme.proofs.runs.is_in.Goals as goal
+
+pub returns : goal.returns
+unfolding admitted
+returns c = rw (← c.wide-b.ensures.0) c.has.ensures
