@@ -45,8 +45,8 @@ module _ (head_end : ℕ → Option ℕ) (size below : ℕ → ℕ) (Has : ℕ �
   each_thing (over r) (link g z c) j l = absurd (omega arith)
   each_thing (this i n k x h) (last s) j l = absurd (omega arith)
   each_thing (this {q} {r} i n k x h) (link g z c) zero l = record { heads = this i n k x h; count = _; chain = link g z c; before = i }
-  each_thing (this {q} {r} i n k x h) (link g z c) (suc j) l =
-      let a = each_thing h (chain_then head_end size below k c) (below q + j) (omega arith) in
+  each_thing (this {q = q} {r = r} i n k x h) (link {n = n'} g z c) (suc j) l =
+      let a = each_thing {m = below q + n'} h (chain_then head_end size below k c) (below q + j) (omega arith) in
       let s : after size (below q + j) r ≡ after size j (q + size q) =
       after_add size (below q) j r ∙ ap (after size j) (chain_after head_end size below k) in
       subst HeadAt s a

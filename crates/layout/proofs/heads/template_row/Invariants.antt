@@ -1,0 +1,11 @@
+use Prim.Native.Nat.{◌-◌}
+use lib.ListN.{length}
+use Rattle.rules.specs.Records.{field_c, of_kind}
+use Rattle.layout.proofs.HeadsFillLaws.{FillingRow}
+use Rattle.layout.proofs.heads.template_row.Given as goal
+
+abbrev pub invariant-loop-head : goal.invariant-loop-head
+invariant-loop-head l = FillingRow l.t (of_kind l.t 3) (field_c l.t) l.start l.initial.table l.table l.n l.p
+
+abbrev pub decreases-loop-head : goal.decreases-loop-head
+decreases-loop-head l = length l.initial.table - l.n

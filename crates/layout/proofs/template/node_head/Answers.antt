@@ -1,0 +1,56 @@
+use Rattle.layout.proofs.TemplateHeads.{room_near, no_node, a_build, a_literal, not-literal, a_place, an_expand, an_if, a_for, a_sequence, not-sequence, a_match, unknown}
+use Rattle.layout.proofs.template.node_head.Goals as goal
+
+pub returns-then-r-ne5 : goal.returns-then-r-ne5
+returns-then-r-ne5 c = λ p e f. no_node _ p _ f c.if-r-ne5.true
+
+pub text_head-requires : goal.text_head-requires
+text_head-requires c = c.requires
+
+pub bare_path_head-requires : goal.bare_path_head-requires
+bare_path_head-requires c = room_near c.requires
+
+pub expand_head-requires : goal.expand_head-requires
+expand_head-requires c = room_near c.requires
+
+pub bare_path_head-requires-in-If : goal.bare_path_head-requires-in-If
+bare_path_head-requires-in-If c = room_near c.requires
+
+pub bare_path_head-requires-in-For : goal.bare_path_head-requires-in-For
+bare_path_head-requires-in-For c = room_near c.requires
+
+pub path_head-requires : goal.path_head-requires
+path_head-requires c = room_near c.requires
+
+pub returns-in-Build : goal.returns-in-Build
+returns-in-Build c = λ p e f. a_build _ p _ f c.if-r-ne5.false c.form_of.ensures c.in-Build.is
+
+pub returns-then-r-eq0 : goal.returns-then-r-eq0
+returns-then-r-eq0 c = λ p e f. a_literal _ p _ f c.if-r-ne5.false c.form_of.ensures c.in-Literal.is c.if-r-eq0.true _ (c.text_head.ensures p e f)
+
+pub returns-else-r-eq0 : goal.returns-else-r-eq0
+returns-else-r-eq0 c = λ p e f. not-literal _ p _ f c.if-r-ne5.false c.form_of.ensures c.in-Literal.is c.if-r-eq0.false
+
+pub returns-in-Place : goal.returns-in-Place
+returns-in-Place c = λ p e f. a_place _ p _ f c.if-r-ne5.false c.form_of.ensures c.in-Place.is _ (c.bare_path_head.ensures p e f)
+
+pub returns-in-Expand : goal.returns-in-Expand
+returns-in-Expand c = λ p e f. an_expand _ p _ f c.if-r-ne5.false c.form_of.ensures c.in-Expand.is _ (c.expand_head.ensures p e f)
+
+pub returns-in-If : goal.returns-in-If
+returns-in-If c = λ p e f. an_if _ p _ f c.if-r-ne5.false c.form_of.ensures c.in-If.is _ (c.bare_path_head-in-If.ensures p e f)
+
+pub returns-in-For : goal.returns-in-For
+returns-in-For c = λ p e f. a_for _ p _ f c.if-r-ne5.false c.form_of.ensures c.in-For.is _ (c.bare_path_head-in-For.ensures p e f)
+
+pub returns-then-r-eq0-2 : goal.returns-then-r-eq0-2
+returns-then-r-eq0-2 c = λ p e f. a_sequence _ p _ f c.if-r-ne5.false c.form_of.ensures c.in-Sequence.is c.if-r-eq0-2.true
+
+pub returns-else-r-eq0-2 : goal.returns-else-r-eq0-2
+returns-else-r-eq0-2 c = λ p e f. not-sequence _ p _ f c.if-r-ne5.false c.form_of.ensures c.in-Sequence.is c.if-r-eq0-2.false
+
+pub returns-in-Match : goal.returns-in-Match
+returns-in-Match c = λ p e f. a_match _ p _ f c.if-r-ne5.false c.form_of.ensures c.in-Match.is _ (c.path_head.ensures p e f)
+
+pub returns-in-Unknown : goal.returns-in-Unknown
+returns-in-Unknown c = λ p e f. unknown _ p _ f c.if-r-ne5.false c.form_of.ensures c.in-Unknown.is

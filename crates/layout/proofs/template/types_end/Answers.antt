@@ -1,0 +1,30 @@
+use native.Mathlib.Omega.{arith}
+use Rattle.layout.proofs.CommonLaws.{reach}
+use Rattle.layout.proofs.GrammarLaws.{near, inside, kind_here}
+use Rattle.layout.proofs.TemplateLaws.{types_start, types_stop, types-broken, types-go}
+use borrow.Author.Rules.{rules}
+use Rattle.layout.proofs.template.types_end.Goals as goal
+
+pub loop-at-init : goal.loop-at-init
+loop-at-init c = (omega arith, c.place_of-at.ensures, types_start _)
+
+pub returns-then-r-ne1 : goal.returns-then-r-ne1
+returns-then-r-ne1 c = types_stop c.requires (c.fetch_at-r.ensures _ c.loop-at.invariant.1) c.loop-at.invariant.2 c.if-r-ne1.true
+
+pub type_right-requires : goal.type_right-requires
+type_right-requires c = record { sized = c.requires; index = c.loop-at.p; place_is = c.loop-at.invariant.1; near = omega (arith, c.loop-at.invariant.0) }
+
+pub returns-then-not-type_right : goal.returns-then-not-type_right
+returns-then-not-type_right c = types-broken c.requires (c.fetch_at-r.ensures _ c.loop-at.invariant.1) c.loop-at.invariant.2 c.if-r-ne1.false _ (c.type_right.ensures _ c.loop-at.invariant.1 (c.fetch_at-r.ensures _ c.loop-at.invariant.1)) (c.if-not-type_right.true)
+
+pub overflow_add-p : goal.overflow_add-p
+overflow_add-p c = omega (arith, c.loop-at.invariant.0)
+
+pub forward-at-requires : goal.forward-at-requires
+forward-at-requires c = reach _ c.loop-at.invariant.1 (omega (arith, c.loop-at.invariant.0)) (search rules)
+
+pub loop-at-smaller : goal.loop-at-smaller
+loop-at-smaller c = omega (arith, inside _ c.requires _ 0 (kind_here (c.fetch_at-r.ensures _ c.loop-at.invariant.1) 1 c.if-r-ne1.false))
+
+pub loop-at-preserved : goal.loop-at-preserved
+loop-at-preserved c = (omega (arith, near (c.fetch_at-r.ensures _ c.loop-at.invariant.1) c.requires 0 c.if-r-ne1.false), c.forward-at.ensures _ c.loop-at.invariant.1, types-go c.requires (c.fetch_at-r.ensures _ c.loop-at.invariant.1) c.loop-at.invariant.2 c.if-r-ne1.false _ (c.type_right.ensures _ c.loop-at.invariant.1 (c.fetch_at-r.ensures _ c.loop-at.invariant.1)) (c.if-not-type_right.false))
