@@ -10,7 +10,6 @@ use lib.Dec.{eqb, ltb}
 use borrow.Author.Tests.{lt-ltb, le-ltb, eq-eqb, ne_eqb}
 use Rattle.rules.specs.Records.{field_a, field_b, field_c, text_of}
 use Rattle.rules.specs.Grammar.{element_at, production}
-use Rattle.rules.specs.Value.{children}
 use Rattle.rules.specs.Walk.{State, End, stuck, write, piece}
 use Rattle.rules.specs.declared.Form.TheVariants.{Build}
 use Rattle.stream.specs.Record.{Fetched}

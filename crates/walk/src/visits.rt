@@ -62,7 +62,7 @@ fn arm_of(t: &[u8], node: usize, case: u8) -> usize
 
 // A sequence visits its items in order, with its separator between them; n of them so far. A for among them brings any number. The two ways stay apart
 // until the next turn, as those of a build.
-#[cycle(build_items_expand_body_for_items_for_node_if_branch_match_arm_sequence_items_visit)]
+#[cycle(visits)]
 fn sequence_items(
     at: At,
     head: Record,
@@ -123,7 +123,7 @@ fn sequence_items(
 
 // A for in a sequence, which has had so many items before it: the body once for each item of its list. It is tried as any node, but here, since
 // it hands back how many items there are then.
-#[cycle(build_items_expand_body_for_items_for_node_if_branch_match_arm_sequence_items_visit)]
+#[cycle(visits)]
 fn for_node(
     at: At,
     sep: Separator,
@@ -165,7 +165,7 @@ fn for_node(
 }
 
 // A for visits its body once for each of the `count` items of the list at w, the item being one variable more.
-#[cycle(build_items_expand_body_for_items_for_node_if_branch_match_arm_sequence_items_visit)]
+#[cycle(visits)]
 fn for_items(
     at: At,
     w: u16,
@@ -212,7 +212,7 @@ fn for_items(
 
 // A build takes the elements of its production in order: it writes a keyword, and visits the next child for any other. The two ways stay apart
 // until the next turn: a function for both would be slower.
-#[cycle(build_items_expand_body_for_items_for_node_if_branch_match_arm_sequence_items_visit)]
+#[cycle(visits)]
 fn build_items(
     at: At,
     head: Record,
@@ -269,7 +269,7 @@ fn build_items(
 
 // An expand enters the body of its template with a fresh set of variables, those that its paths find, right behind its own. With no level
 // left below it they are only looked for: the body is not visited, and reads none.
-#[cycle(build_items_expand_body_for_items_for_node_if_branch_match_arm_sequence_items_visit)]
+#[cycle(visits)]
 fn expand_body(
     at: At,
     head: Record,
@@ -306,7 +306,7 @@ fn expand_body(
 }
 
 // An if visits only the branch taken.
-#[cycle(build_items_expand_body_for_items_for_node_if_branch_match_arm_sequence_items_visit)]
+#[cycle(visits)]
 fn if_branch(
     at: At,
     g: &[u8],
@@ -336,7 +336,7 @@ fn if_branch(
 }
 
 // A match visits only the arm of its case, with the case's content as one variable more.
-#[cycle(build_items_expand_body_for_items_for_node_if_branch_match_arm_sequence_items_visit)]
+#[cycle(visits)]
 fn match_arm(
     at: At,
     head: Record,
@@ -372,7 +372,7 @@ fn match_arm(
 }
 
 // A visit of a node: it is tried for 10, counts one step, and is tried for 11; then its form decides.
-#[cycle(build_items_expand_body_for_items_for_node_if_branch_match_arm_sequence_items_visit)]
+#[cycle(visits)]
 pub fn visit(
     at: At,
     g: &[u8],
