@@ -7,19 +7,20 @@ mod print;
 
 use file::read_file;
 use print::print_answer;
+use std::io;
 
 const FUEL: u32 = 1000000;
 
 // Each stream has room for one byte more than is legal: a longer file is then seen to be too long, and no more of it is read.
-fn main() {
+fn main(rt: HostRuntime) -> io::Result<()> {
     let mut grammar = [0u8; 65537];
     let mut templates = [0u8; 65537];
     let mut value = [0u8; 65537];
     let mut out = [0u8; 65536];
     let mut scratch = [0u16; 4800];
-    let g = read_file(b"grammar.blk", &mut grammar);
-    let t = read_file(b"template.blk", &mut templates);
-    let v = read_file(b"value.blk", &mut value);
+    let g = read_file(&rt, "grammar.blk", &mut grammar);
+    let t = read_file(&rt, "template.blk", &mut templates);
+    let v = read_file(&rt, "value.blk", &mut value);
     let answer = feed::evaluate(
         &grammar[..g],
         &templates[..t],
@@ -28,5 +29,5 @@ fn main() {
         &mut out,
         &mut scratch,
     );
-    print_answer(answer, &out);
+    print_answer(&rt, answer, &out)
 }

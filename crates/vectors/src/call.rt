@@ -1,6 +1,7 @@
 // The calls, and what is printed of each behind the arrow.
-use crate::print::{fields, hash, labelled, text};
+use crate::print::{fields, hash, labelled};
 use rules::Answer;
+use std::io;
 
 // What a call is given besides the streams: a number (the fuel, the kind, the start of a check), and the lengths of output and scratch.
 #[derive(Clone, Copy)]
@@ -11,28 +12,36 @@ pub struct Lent {
 }
 
 // The call on as many of the three streams as it takes, with an output of bytes of 165 and a scratch of numbers of 23130.
-pub fn make_call(call: u8, lent: Lent, first: &[u8], second: &[u8], third: &[u8]) {
+pub fn make_call(
+    rt: &impl Print,
+    call: u8,
+    lent: Lent,
+    first: &[u8],
+    second: &[u8],
+    third: &[u8],
+) -> io::Result<()> {
     let mut out = [165u8; 66048];
     let mut scratch = [23130u16; 8192];
     let room = lent.room;
     let numbers = lent.numbers;
-    if room <= 66048 {
-        if numbers <= 8192 {
-            dispatch(
-                call,
-                lent.number,
-                first,
-                second,
-                third,
-                &mut out[0..room],
-                &mut scratch[0..numbers],
-            );
-        }
+    if room <= 66048 && numbers <= 8192 {
+        return dispatch(
+            rt,
+            call,
+            lent.number,
+            first,
+            second,
+            third,
+            &mut out[0..room],
+            &mut scratch[0..numbers],
+        );
     }
+    Ok(())
 }
 
 // The call by its number. It prints what was answered and left.
 fn dispatch(
+    rt: &impl Print,
     call: u8,
     number: u32,
     first: &[u8],
@@ -40,97 +49,102 @@ fn dispatch(
     third: &[u8],
     out: &mut [u8],
     scratch: &mut [u16],
-) {
+) -> io::Result<()> {
     let kind = (number % 256) as u8;
     match call {
-        10 => hash(b" ", first),
-        11 => block_payload(first, number),
-        12 => pack(kind, first, out),
-        13 => unpack(kind, first, out),
-        14 => evaluate(first, second, third, number, out, scratch),
-        15 => unescape(first, out),
-        _ => text(b" no call"),
+        10 => hash(rt, " ", first),
+        11 => block_payload(rt, first, number),
+        12 => pack(rt, kind, first, out),
+        13 => unpack(rt, kind, first, out),
+        14 => evaluate(rt, first, second, third, number, out, scratch),
+        15 => unescape(rt, first, out),
+        _ => print!(rt; " no call"),
     }
 }
 
 // The length of what is handed back, and its bytes.
-fn block_payload(block: &[u8], start: u32) {
+fn block_payload(rt: &impl Print, block: &[u8], start: u32) -> io::Result<()> {
     let payload = feed::block_payload(block, start);
-    labelled(b" ", payload.len());
-    hash(b"  bytes-fnv=", payload);
+    labelled(rt, " ", payload.len())?;
+    hash(rt, "  bytes-fnv=", payload)
 }
 
 // The five fields, and the bytes that they count.
-fn written(a: Answer, out: &[u8]) {
-    fields(a);
+fn written(rt: &impl Print, a: Answer, out: &[u8]) -> io::Result<()> {
+    fields(rt, a)?;
     let n = a.bytes as usize;
     if n <= out.len() {
-        hash(b"  bytes-fnv=", &out[0..n]);
+        hash(rt, "  bytes-fnv=", &out[0..n])?;
     }
+    Ok(())
 }
 
-fn pack(kind: u8, payload: &[u8], out: &mut [u8]) {
+fn pack(rt: &impl Print, kind: u8, payload: &[u8], out: &mut [u8]) -> io::Result<()> {
     let a = feed::pack(kind, payload, out);
-    written(a, out);
+    written(rt, a, out)
 }
 
-fn unpack(kind: u8, stream: &[u8], out: &mut [u8]) {
+fn unpack(rt: &impl Print, kind: u8, stream: &[u8], out: &mut [u8]) -> io::Result<()> {
     let a = feed::unpack(kind, stream, out);
-    written(a, out);
+    written(rt, a, out)
 }
 
-fn unescape(escaped: &[u8], out: &mut [u8]) {
+fn unescape(rt: &impl Print, escaped: &[u8], out: &mut [u8]) -> io::Result<()> {
     let a = feed::unescape(escaped, out);
-    written(a, out);
+    written(rt, a, out)
 }
 
 fn all_bytes(s: &[u8], x: u8) -> bool {
-    let mut i = 0;
-    while i < s.len() {
-        if s[i] != x {
+    for y in s {
+        if *y != x {
             return false;
         }
-        i += 1;
     }
     true
 }
 
 fn all_numbers(s: &[u16], x: u16) -> bool {
-    let mut i = 0;
-    while i < s.len() {
-        if s[i] != x {
+    for y in s {
+        if *y != x {
             return false;
         }
-        i += 1;
     }
     true
 }
 
-fn rest(a: Answer, out: &[u8]) {
+fn rest(rt: &impl Print, a: Answer, out: &[u8]) -> io::Result<()> {
     let n = a.bytes as usize;
     if n <= out.len() && all_bytes(&out[n..], 165) {
-        text(b"  rest kept");
+        print!(rt; "  rest kept")
     } else {
-        text(b"  rest changed");
+        print!(rt; "  rest changed")
     }
 }
 
-fn scratched(scratch: &[u16]) {
+fn scratched(rt: &impl Print, scratch: &[u16]) -> io::Result<()> {
     if all_numbers(scratch, 23130) {
-        text(b"  scratch kept");
+        print!(rt; "  scratch kept")
     } else if all_numbers(scratch, 0) {
-        text(b"  scratch zero");
+        print!(rt; "  scratch zero")
     } else {
-        text(b"  scratch changed");
+        print!(rt; "  scratch changed")
     }
 }
 
 // The evaluate call, and then the check call on the same set.
-fn evaluate(g: &[u8], t: &[u8], v: &[u8], fuel: u32, out: &mut [u8], scratch: &mut [u16]) {
+fn evaluate(
+    rt: &impl Print,
+    g: &[u8],
+    t: &[u8],
+    v: &[u8],
+    fuel: u32,
+    out: &mut [u8],
+    scratch: &mut [u16],
+) -> io::Result<()> {
     let a = feed::evaluate(g, t, v, fuel, out, scratch);
-    written(a, out);
-    rest(a, out);
-    scratched(scratch);
-    text(b"  check ->");
-    fields(feed::check(g, t));
+    written(rt, a, out)?;
+    rest(rt, a, out)?;
+    scratched(rt, scratch)?;
+    print!(rt; "  check ->")?;
+    fields(rt, feed::check(g, t))
 }

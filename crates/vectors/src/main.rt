@@ -16,24 +16,24 @@ mod part;
 mod print;
 
 use part::next_part;
+use std::fs::File;
+use std::io;
+use std::io::Read;
 
-// A proved loop has to end, and nothing says that a file does, so its turns are counted down from a number that no run uses up.
-fn all_parts(fd: i32) {
+// A proved loop has to end, and nothing says that a file does, so its turns are counted, up to a number that no run uses up.
+fn all_parts(rt: &impl Print, file: &mut impl Read) -> io::Result<()> {
     let mut first = [0u8; 66048];
     let mut second = [0u8; 66048];
     let mut third = [0u8; 66048];
-    let mut turns = u64::MAX;
-    while turns > 0 && next_part(fd, &mut first, &mut second, &mut third) {
-        turns -= 1;
+    for _ in 0..u64::MAX {
+        if !next_part(rt, file, &mut first, &mut second, &mut third)? {
+            break;
+        }
     }
+    Ok(())
 }
 
-fn main() {
-    let fd = os::open_read(b"cases");
-    if fd < 0 {
-        os::fail(b"cases");
-        return;
-    }
-    all_parts(fd);
-    libc::close(fd);
+fn main(rt: HostRuntime) -> io::Result<()> {
+    let mut file = File::open(&rt, "cases")?;
+    all_parts(&rt, &mut file)
 }

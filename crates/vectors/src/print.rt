@@ -1,34 +1,22 @@
 // Text on standard output.
-use libc::STDOUT_FILENO;
 use rules::Answer;
+use std::io;
 use stream::fnv::{START, fnv1a};
 
-pub fn text(s: &[u8]) {
-    io::write_all(STDOUT_FILENO, s);
-}
-
 // A number after a label.
-pub fn labelled(label: &[u8], n: usize) {
-    text(label);
-    io::print_decimal(STDOUT_FILENO, n as u64);
+pub fn labelled(rt: &impl Print, label: &str, n: usize) -> io::Result<()> {
+    print!(rt; "{label}{n}")
 }
 
 // FNV-1a of some bytes after a label.
-pub fn hash(label: &[u8], s: &[u8]) {
-    text(label);
-    io::print_hex(STDOUT_FILENO, fnv1a(START, s) as u64, 8);
-}
-
-fn field(n: u64) {
-    text(b" ");
-    io::print_decimal(STDOUT_FILENO, n);
+pub fn hash(rt: &impl Print, label: &str, s: &[u8]) -> io::Result<()> {
+    print!(rt; "{label}{:08x}", fnv1a(START, s))
 }
 
 // The five fields of an answer.
-pub fn fields(a: Answer) {
-    field(a.number);
-    field(a.kind);
-    field(a.place);
-    field(a.steps);
-    field(a.bytes);
+pub fn fields(rt: &impl Print, a: Answer) -> io::Result<()> {
+    print!(rt;
+        " {} {} {} {} {}",
+        a.number, a.kind, a.place, a.steps, a.bytes
+    )
 }
