@@ -1,5 +1,5 @@
 // The calls of the page machine. Each is equal to its definition in crate rules, for any bytes of any lengths. Nothing stands here but the
-// stated order of the checks; the exports for other languages are in `c`.
+// stated order of the checks; the exports for other languages are crate feed_c.
 #![tactic(auto)]
 
 ghost use Rattle.std.specs.Prelude.{◌≡◌};
@@ -7,7 +7,6 @@ ghost use Rattle.rules.specs.Answers.{check, evaluate};
 ghost use Rattle.feed.specs.Asks.{GrammarRoom, CheckAsks, StreamsLaid, EvaluateAsks, MarkAsks, HeadsMarked};
 ghost use Rattle.feed.specs.Verdict.{outcome};
 
-pub mod c;
 mod set;
 mod streams;
 mod verdict;

@@ -1,4 +1,7 @@
-// The calls for other languages, as include/feed.h declares them. An answer's five numbers are number, stream kind, place, steps, bytes.
+// The calls for other languages, as include/feed.h declares them: each is that of crate feed. An answer's five numbers are number, stream kind,
+// place, steps, bytes.
+#![tactic(auto)]
+
 ghost use Rattle.std.specs.Prelude.{◌≡◌, length};
 ghost use Rattle.rules.specs.Blocks.{block_payload};
 ghost use Rattle.rules.specs.Answers.{check, evaluate, pack, unpack, unescape};
@@ -17,7 +20,7 @@ fn put(a: Answer, answer: &mut [u64; 5])
 pub extern "C" fn feed_check(g: &[u8], t: &[u8], answer: &mut [u64; 5])
     ensures { answer.new ≡ five_of (check g.now t.now) }
 {
-    put(crate::check(g, t), answer);
+    put(feed::check(g, t), answer);
 }
 
 #[unsafe(no_mangle)]
@@ -32,28 +35,28 @@ pub extern "C" fn feed_evaluate(
 )
     ensures { Left answer.new out.new scratch.new (evaluate g.now t.now v.now fuel out.old scratch.old) }
 {
-    put(crate::evaluate(g, t, v, fuel, out, scratch), answer);
+    put(feed::evaluate(g, t, v, fuel, out, scratch), answer);
 }
 
 #[unsafe(no_mangle)]
 pub extern "C" fn feed_pack(kind: u8, payload: &[u8], out: &mut [u8], answer: &mut [u64; 5])
     ensures { Filled answer.new out.new (pack kind payload.now out.old) }
 {
-    put(crate::pack(kind, payload, out), answer);
+    put(feed::pack(kind, payload, out), answer);
 }
 
 #[unsafe(no_mangle)]
 pub extern "C" fn feed_unpack(kind: u8, stream: &[u8], out: &mut [u8], answer: &mut [u64; 5])
     ensures { Filled answer.new out.new (unpack kind stream.now out.old) }
 {
-    put(crate::unpack(kind, stream, out), answer);
+    put(feed::unpack(kind, stream, out), answer);
 }
 
 #[unsafe(no_mangle)]
 pub extern "C" fn feed_unescape(text: &[u8], out: &mut [u8], answer: &mut [u64; 5])
     ensures { Filled answer.new out.new (unescape text.now out.old) }
 {
-    put(crate::unescape(text, out), answer);
+    put(feed::unescape(text, out), answer);
 }
 
 // The payload's length: 504 bytes that begin at byte 4 of the block, or 0. The check starts from `start`.
@@ -61,5 +64,5 @@ pub extern "C" fn feed_unescape(text: &[u8], out: &mut [u8], answer: &mut [u64; 
 pub extern "C" fn feed_block_payload(block: &[u8], start: u32) -> usize
     ensures { result ≡ length (block_payload block.now start) }
 {
-    crate::block_payload(block, start).len()
+    feed::block_payload(block, start).len()
 }
