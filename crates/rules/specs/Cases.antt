@@ -6,7 +6,6 @@ use mathlib.Core.List.{List, [], ◌∷◌, ◌++◌, map, flatten}
 use Rattle.rules.specs.Faults
 use Rattle.rules.specs.Records
 use Rattle.rules.specs.Blocks
-use Rattle.rules.specs.Escape
 use Rattle.rules.specs.Lexeme
 use Rattle.rules.specs.Grammar
 use Rattle.rules.specs.Templates

@@ -8,7 +8,7 @@ use Rattle.rules.specs.Records.{kind_of, field_a, field_b, field_c, row}
 use Rattle.rules.specs.Blocks.{stream_length, block_right, stream_blocks}
 use Rattle.rules.specs.Lexeme.{lowest, highest, ranges}
 use Rattle.rules.specs.Grammar.{classes}
-use Rattle.rules.specs.Templates.{type, templates, body, nodes_below}
+use Rattle.rules.specs.Templates.{templates, body, nodes_below}
 use Rattle.rules.specs.Value.{values_below}
 use Rattle.rules.specs.Layout.{layout_fault, grammar_layout, templates_layout, value_layout}
 use Rattle.rules.specs.Limits.{deepest, looped, looped_below, few_loops, template_limits, templates_limits, value_limits}
