@@ -77,7 +77,10 @@ module _ (i : Input) where
     pub of-piece : (e : Element) (p : ℕ) (env : List ℕ) (s s' : State) → go (piece e) p env s ≡ done s' → Wrote (Evaluates g t v env e p) s s'
     pub of_for : (f : Filled) (k p : ℕ) (env : List ℕ) (s s' : State) → form_of t p ≡ For → go (items f k) p env s ≡ done s' → Wrote (AFor f k env p) s s'
 
-  node_items : {f : Filled} {k l c m n : ℕ} {env cs x y : List ℕ} → ANode f k env c l x m → Items g t v env f.nonterminal f.separator l cs y n
+module _ (i : Input) where
+  open i use {grammar as g, templates as t, value as v}
+
+  node_items : {f : Filled} {k l c m n : ℕ} {env cs x y : List ℕ} → ANode i f k env c l x m → Items g t v env f.nonterminal f.separator l cs y n
       → Items g t v env f.nonterminal f.separator k (c ∷ cs) (x ++ y) (m + n)
   node_items (item-node h (z, u, q, b, d)) is = rw q (one_item h b d is)
   node_items (for-node h a r b) is = for h a r b is
