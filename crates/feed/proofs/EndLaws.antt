@@ -13,8 +13,8 @@ use Rattle.rules.specs.Typing.{templates_typing}
 use Rattle.rules.specs.Walk.{fuel_spent, too_deep, output_full, done, ended, stuck}
 use Rattle.rules.specs.Answers.{answer, evaluate_refusal, limit_number, Outcome, left, walked, unless_refused, input, evaluate}
 use Rattle.rules.specs.declared.Answer.{Answer}
-use Rattle.theorems.specs.Few.{paths_few}
-use Rattle.theorems.specs.Sound.{never_stuck}
+use Rattle.theorems.proofs.Few.{paths_few}
+use Rattle.theorems.proofs.Sound.{never_stuck}
 use Rattle.theorems.specs.Kept.{admitted_typed}
 use Rattle.walk.specs.declared.state.Run.{Run}
 use Rattle.walk.specs.Run.{state_of, end_numbered, view, Walked}

@@ -30,7 +30,6 @@ pub mod Refusals
 pub mod Accepted
 pub mod Offences
 pub mod FirstOffending
-pub mod FirstUnnamed
 pub mod FirstRefused
 pub mod Levels
 pub mod Handed
@@ -43,8 +42,6 @@ pub mod Evaluation
 pub mod Evaluated
 pub mod EvaluatesExactly
 pub mod Comes
-pub mod LimitsFind
-pub mod EvaluatesOne
 pub mod Neighbours
 pub mod Sound
 pub mod Kept
@@ -67,8 +64,6 @@ pub mod Published
 pub mod Teeth
 pub mod ReadAlike
 pub mod Unseparated
-pub mod UnseparatedLaid
 pub mod EmptySeparator
-pub mod Few
 pub mod MatchTotal
 pub mod Variants

@@ -1,4 +1,5 @@
 -- Refusals 4 and 5 as statements, and that the checks find no fault exactly where they hold.
+-- (Goes on in proofs/LimitsExactly.antt.)
 use Rattle.std.specs.Prelude.{◌≡◌, refl, ◌↔◌, ℕ, zero, suc, ◌+◌, ◌<◌, ◌≤◌, List, [], ◌∷◌, Bool, true, false, cond, ◌&&◌, ◌||◌, eqb, ltb}
 use Rattle.std.proofs.Common.{sym, ◌∙◌, subst, arith}
 use Rattle.std.proofs.lemmas.Bool.{false≢true}
@@ -8,14 +9,14 @@ use Rattle.rules.specs.Records.{kind_of, field_a, field_b, nth, numbered}
 use Rattle.rules.specs.Grammar.{class, plain_class, classes, production, productions, Element, keyword, lexeme, nonterminal, repetition, unknown, element_at, element_heads, has_production, nonterminal_exists}
 use Rattle.rules.specs.Templates.{TypeForm, text, yes_no_lem, list, fields, cases, no_type, type, types, type_at, field_heads, template, templates, parameter_heads, body, form_of, nodes_below}
 use Rattle.rules.specs.Value.{values_below}
-use Rattle.rules.specs.Limits.{deepest, Looped, looped, loops_below, looped_below, few_loops, template_limits, templates_limits, value_limits}
+use Rattle.rules.specs.Limits.{deepest, Looped, looped, loops_below, looped_below, value_limits}
 use Rattle.rules.specs.Names.{element_named, class_named, grammar_names, type_named, type_names, form_named, node_named, template_names, templates_names}
 use Rattle.rules.specs.declared.Form.{Form}
 use Rattle.rules.specs.declared.Form.TheVariants.{Build, Literal, Place, Expand, If, For, Sequence, Match, Unknown}
 use Rattle.theorems.specs.Readings.{Plain, plain_is}
-use Rattle.theorems.specs.Around.{Around, around_exactly}
+use Rattle.theorems.specs.Around.{Around}
 use Rattle.theorems.specs.Ranges.{below_leading, looped_leading}
-use Rattle.laws.specs.Faults.{need_none, need_iff, both_none, both_iff, In, here, later, in_map, every_in, in_every, every_nil, every_cons, exists_iff, and_iff, eqb_iff, leb_iff, ltb_iff, at_none, Below, itself, under, tree_in, in_tree}
+use Rattle.laws.specs.Faults.{need_none, need_iff, both_none, both_iff, In, here, later, in_map, every_in, in_every, every_nil, every_cons, exists_iff, and_iff, eqb_iff, ltb_iff, Below, itself, under, tree_in, in_tree}
 
 -- 4, of a template: the body counts 1, what stands d levels below it d + 1
 pub record TemplateWithin (t : List ℕ) (p : ℕ) : Type 0 where
@@ -35,28 +36,6 @@ looped_below_lem t l (under p c q d i b) =
 pub below_looped : (t : List ℕ) {d : ℕ} {x y : Looped} → Below (looped_below t) x d y → Below (nodes_below t) x.node d y.node
 unfolding looped_below looped
 below_looped t b = below_leading (λ x. x.node) (looped_below t) (nodes_below t) (looped_leading t) b
-
-template_limits_lem : (t : List ℕ) (p : ℕ) → (template_limits t p ≡ none) ↔ TemplateWithin t p
-unfolding template_limits few_loops deepest looped
-template_limits_lem t p = (
-  λ e. let a = both_none _ _ e in let r = (at_none _ _).0 a.1 in
-      record {
-        parameters_few = (leb_iff _ _).0 (need_none _ p a.0);
-        at_most_200_deep = λ d q b. let l = (tree_in _ _ 200 r (looped_below_lem t 0 b).1).0 in omega arith;
-        at_most_16_loops = λ n q k. (leb_iff _ _).0 (tree_in _ _ 200 r ((around_exactly t (body t p) (looped n q)).1 k).1).1;
-      },
-  λ w. (both_iff _ _).1 (
-    (need_iff _ p).1 ((leb_iff _ _).1 w.parameters_few),
-    (at_none _ _).1 (in_tree _ _ 200 _ (λ d x b. (
-      let l = w.at_most_200_deep d x.node (below_looped t b) in omega arith,
-      (leb_iff _ _).1 (w.at_most_16_loops x.loops x.node ((around_exactly t (body t p) x).0 (d, b))),
-    ))),
-  ),
-)
-
-pub limits_exactly : (t : List ℕ) → (templates_limits t ≡ none) ↔ ((p : ℕ) → In p (templates t) → TemplateWithin t p)
-unfolding templates_limits
-limits_exactly t = (λ e p i. (template_limits_lem t p).0 (every_in _ e i), λ h. in_every _ _ λ p i. (template_limits_lem t p).1 (h p i))
 
 pub value_limits_exactly : (v : List ℕ) → (value_limits v ≡ none) ↔ ((d w : ℕ) → Below (values_below v) 0 d w → d + 1 ≤ 200)
 unfolding value_limits deepest

@@ -1,20 +1,20 @@
 -- What packing, unpacking and the single-block call answer and leave, in every case.
+-- (Goes on in proofs/PackCalls.antt.)
 use Rattle.std.specs.Prelude.{◌≡◌, refl, ◌↔◌, ℕ, zero, suc, ◌-◌, ◌*◌, ◌/◌, ◌%◌, ◌≤◌, ◌<◌, List, [], ◌∷◌, ◌++◌, Bool, true, false, cond, ◌&&◌, length, take, drop, get_or, replicate, eqb, leb}
 use Rattle.std.proofs.Common.{sym, ◌∙◌, arith, leb-true, leb-false}
 use Rattle.std.proofs.lemmas.Bool.{false≢true}
-use Rattle.std.proofs.Math.Option.{Option, none, some}
-use Rattle.rules.specs.Faults.{need, both}
-use Rattle.rules.specs.Blocks.{fnv1a, check_of, sound, is_kind, block_payload, stream_length, stream_blocks, bytes32, checked, filled, packed_block, packed_blocks, packed, payload_length, unpacked}
-use Rattle.rules.specs.Answers.{answer, placed, try, accept, pack_refusal, unpack_refusal, Written, written, pack, unpack}
+use Rattle.std.proofs.Math.Option.{Option}
+use Rattle.rules.specs.Faults.{need}
+use Rattle.rules.specs.Blocks.{fnv1a, check_of, sound, is_kind, block_payload, bytes32, checked, filled, packed_block, packed_blocks, packed, payload_length, unpacked}
+use Rattle.rules.specs.Answers.{answer, placed, try, accept, pack_refusal, Written, written, pack}
 use Rattle.rules.specs.declared.Answer.{Answer}
 use Rattle.laws.specs.Blocks.{packed_length}
 use Rattle.laws.specs.Faults.{In, here, later, need_iff, and_iff, eqb_iff, leb_iff}
-use Rattle.theorems.specs.Streams.{WellSized, length_exactly, blocks_exactly}
+use Rattle.theorems.specs.Streams.{WellSized, blocks_exactly}
 use Rattle.theorems.specs.Accepted.{RightBlocks}
 use Rattle.theorems.specs.Least.{in_none}
 use Rattle.theorems.specs.HeadByHead.{in_cons}
 use Rattle.theorems.specs.Offences.{WrongBlock}
-use Rattle.theorems.specs.FirstOffending.{first_block}
 use Rattle.theorems.specs.Packing.{block_count, fill_count, packed_meets_neither, unpacked_packed}
 
 -- "Byte 2: stream kind (1 grammar, 2 templates, 3 value)."
@@ -77,7 +77,7 @@ pub data Payload (b : List ℕ) (start : ℕ) : List ℕ → Type 0 where
   empty_part : (RightAlone b start → ⊥) → Payload b start []
 
 -- each test in words
-kind_exactly : (kind : ℕ) → (is_kind kind ≡ true) ↔ StreamKind kind
+pub kind_exactly : (kind : ℕ) → (is_kind kind ≡ true) ↔ StreamKind kind
 unfolding is_kind
 kind_exactly kind = (
   λ e. let h = (and_iff _ _).0 e in record { from_1 = (leb_iff _ _).0 h.0; to_3 = (leb_iff _ _).0 h.1 },
@@ -93,7 +93,7 @@ try_need P number true next bytes out held failed = held refl
 try_need P number false next bytes out held failed = failed refl
 
 -- what fails is not so
-fails : {A : Type 0} {b : Bool} → (b ≡ true) ↔ A → b ≡ false → A → ⊥
+pub fails : {A : Type 0} {b : Bool} → (b ≡ true) ↔ A → b ≡ false → A → ⊥
 fails i e a = false≢true (sym e ∙ i.1 a)
 
 pub refused_by : (number place : ℕ) (out : List ℕ) → Refused number place out (record { result = answer number 0 place 0 0; output = out })
@@ -173,35 +173,6 @@ pack_answers kind payload out =
     (λ d. no_room h k (rw (← packed_length kind payload) (leb-false _ _ d)) (refused_by 12 0 out)))
     (λ f. wrong_kind h (fails (kind_exactly kind) f) (refused_by 2 0 out)))
     (λ e. wrong_length (fails (packable_test payload) e) (refused_by 1 0 out))
-
-sized_test : (s : List ℕ) → ((leb 1 (length s) && (leb (length s) 65536 && eqb (length s % 512) 0)) ≡ true) ↔ WellSized s
-unfolding stream_length
-sized_test s = (λ e. (length_exactly s).0 ((need_iff {A = ℕ} _ 0).1 e), λ w. (need_iff {A = ℕ} _ 0).0 ((length_exactly s).1 w))
-
--- the kind and then the blocks, with the place of the first wrong one
-try_blocks : (kind : ℕ) (s out : List ℕ) (next : Unit {0} → Option Answer) → WellSized s
-    → (StreamKind kind → RightBlocks kind s → Unpacks kind s out (written (next tt) (λ _. unpacked s) out))
-    → Unpacks kind s out (written (try 2 (placed 0 (both (need (is_kind kind) 0) (stream_blocks kind s))) next) (λ _. unpacked s) out)
-unfolding need both placed try written
-try_blocks kind s out next w held = go (is_kind kind) refl
-  where
-    blocks : StreamKind kind → (o : Option ℕ) → stream_blocks kind s ≡ o
-        → Unpacks kind s out (written (try 2 (placed 0 o) next) (λ _. unpacked s) out)
-    blocks k none e = held k ((blocks_exactly kind s).0 e)
-    blocks k (some n) e = let f = (first_block kind s).first_offends n e in wrong_block n w k f.0 f.1 (refused_by 2 n out)
-
-    go : (b : Bool) → is_kind kind ≡ b → Unpacks kind s out (written (try 2 (placed 0 (both (need b 0) (stream_blocks kind s))) next) (λ _. unpacked s) out)
-    go true e = blocks ((kind_exactly kind).0 e) (stream_blocks kind s) refl
-    go false e = wrong_kind w (fails (kind_exactly kind) e) (refused_by 2 0 out)
-
-pub unpack_answers : (kind : ℕ) (s out : List ℕ) → Unpacks kind s out (unpack kind s out)
-unfolding unpack unpack_refusal stream_length
-unpack_answers kind s out =
-    try_need (Unpacks kind s out) 1 _ _ _ out
-    (λ e. let w = (sized_test s).0 e in try_blocks kind s out _ w λ k r. try_need (Unpacks kind s out) 12 _ _ _ out
-    (λ d. unpacks w k r (leb-true _ _ d) (wrote_all (λ _. unpacked s) out))
-    (λ d. no_room w k r (leb-false _ _ d) (refused_by 12 0 out)))
-    (λ e. wrong_length (fails (sized_test s) e) (refused_by 1 0 out))
 
 alone_exactly : (b : List ℕ) (start : ℕ) → ((eqb (length b) 512 && (is_kind (get_or b 2 0) && sound (get_or b 2 0) start b)) ≡ true) ↔ RightAlone b start
 unfolding sound

@@ -1,4 +1,5 @@
 -- The evaluation rules give at most one text, with one number of steps.
+-- (In proofs/, as it rests on definitions that a must-fail edit changes.)
 use Rattle.std.specs.Prelude.{◌≡◌, refl, ℕ, suc, ◌+◌, List, [], ◌∷◌, ◌++◌, length, true, false, cond}
 use Rattle.std.proofs.Common.{sym, ◌∙◌, ap, subst, zero-add}
 use Rattle.std.proofs.Math.Option.{Option, some, some-injective}
@@ -12,7 +13,8 @@ use Rattle.rules.specs.declared.Form.TheVariants.{Build, Literal, Place, Expand,
 use Rattle.rules.specs.declared.Position.{Position}
 use Rattle.theorems.specs.Children.{Asks}
 use Rattle.theorems.specs.Finds.{Finds, text_is, yes_is, no_is, path_found, paths_found, case_is}
-use Rattle.theorems.specs.Places.{PlaceWrites, place_one}
+use Rattle.theorems.specs.Places.{PlaceWrites}
+use Rattle.theorems.proofs.Places.{place_one}
 use Rattle.theorems.specs.Evaluation.{BeforeItem, the_first, another, Evaluates, build, literal, place, expand, then, else, sequence, Builds, no_element, own-bytes, next-child, match}
 use Rattle.theorems.specs.Evaluation.{Items, no_item, one_item, for, Loops, no-turn, one-turn, EvaluatesSet}
 

@@ -1,4 +1,5 @@
 -- The first place of refusal 5: each check of names answers the first record that names what isn't there.
+-- (In proofs/, as it rests on definitions that a must-fail edit changes.)
 use Rattle.std.specs.Prelude.{◌≡◌, refl, ◌⊎◌, ℕ, suc, ◌+◌, List, [], ◌∷◌, false, ltb}
 use Rattle.std.proofs.Common.{sym, subst, inl, inr, arith, ltb-false, le-ltb}
 use Rattle.std.proofs.Math.Option.{none, some}
@@ -15,10 +16,12 @@ use Rattle.theorems.specs.Sizes.{element_size_lem, element_grows}
 use Rattle.theorems.specs.Heads.{class_spans}
 use Rattle.theorems.specs.Follows.{fields_row}
 use Rattle.theorems.specs.LimitsExactly.{nonterminal_iff, element_names, class_names, type_names_lem, node_names, numbered_in}
-use Rattle.theorems.specs.Least.{First, Least, first_same, least_same, least_wide, least_need, least_both, rows_heads, Some, least_every, least_heads, least_tests, Fails, failing, least_shallow}
+use Rattle.theorems.specs.Least.{First, Least, first_same, least_same, least_wide, least_need, rows_heads, Some, Fails, failing}
+use Rattle.theorems.proofs.Least.{least_both, least_every, least_heads, least_tests, least_shallow}
 use Rattle.theorems.specs.Ranges.{AnyProduction, class_rows, production_rows, type_rows, template_rows, Leading, stops, goes_on, rows_leading, nodes_standing}
 use Rattle.theorems.specs.Offences.{GrammarUnnamed, by_class, by_element, TypeUnnamed, by_type, by_field, TemplateUnnamed, by_template, by_parameter, by_node, TemplatesUnnamed, in_type, in_template}
-use Rattle.theorems.specs.FirstOffending.{fails_iff, least_row, at_itself, node_shallow}
+use Rattle.theorems.specs.FirstOffending.{fails_iff, at_itself}
+use Rattle.theorems.proofs.FirstOffending.{least_row, node_shallow}
 
 -- Of a class: its own test
 abbrev ClassIn : List ℕ → ℕ × ℕ → ℕ → Type 0

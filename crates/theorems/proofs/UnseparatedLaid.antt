@@ -1,4 +1,5 @@
 -- Two grammars that differ only in element 3 against element 4 with an empty separator are both laid out, or neither is.
+-- (In proofs/, as it rests on definitions that a must-fail edit changes.)
 use Rattle.std.specs.Prelude.{◌≡◌, refl, ℕ, ◌+◌, ◌-◌, ◌*◌, ◌/◌, ◌≤◌, ◌<◌, length, drop}
 use Rattle.std.proofs.Math.Path.{sym, ap, subst}
 use Rattle.std.proofs.Common.{◌∙◌, inl, inr, arith}
@@ -15,8 +16,10 @@ use Rattle.theorems.specs.LaidOut.ElementAt.{a_keyword, a_name, a_separated}
 use Rattle.theorems.specs.LayoutExactly.{grammar_laid_exactly}
 use Rattle.theorems.specs.Sizes.{each_in_row, class_size, keyword_text, separator_text, element_size_lem, production_size_lem}
 use Rattle.theorems.specs.Heads.{productions_are}
-use Rattle.theorems.specs.Unseparated.{ElementOf, Unseparated, same_bytes, three_or_four, DifferInForm, no_text, the_other_way}
-use Rattle.theorems.specs.Unseparated.{same_byte, same_kind, same_a, same_b, same_c, same_d, same_units}
+use Rattle.theorems.specs.Unseparated.{ElementOf, Unseparated, same_bytes, three_or_four, DifferInForm, no_text}
+use Rattle.theorems.proofs.Unseparated.{the_other_way}
+use Rattle.theorems.specs.Unseparated.{same_byte}
+use Rattle.theorems.proofs.Unseparated.{same_kind, same_a, same_b, same_c, same_d, same_units}
 
 -- things in a row, each with its place in the list of heads
 row_too : {A B : ℕ → ℕ → Type 0} (size : ℕ → ℕ) {n p r : ℕ} → ((p q : ℕ) → A p q → q ≡ p + size p)

@@ -1,4 +1,5 @@
 -- Why "24 for each depth" is enough: in templates that meet neither 4 nor 7 an expand has at most 8 paths, one for each parameter.
+-- (In proofs/, as it rests on definitions that a must-fail edit changes.)
 use Rattle.std.specs.Prelude.{◌≡◌, refl, ℕ, suc, ◌+◌, ◌≤◌, List, [], ◌∷◌, true, length}
 use Rattle.std.proofs.Common.{subst, ap, ◌∙◌, arith}
 use Rattle.std.proofs.Math.Option.{none, some}
@@ -13,13 +14,16 @@ use Rattle.rules.specs.declared.Position.{Position}
 use Rattle.laws.specs.Faults.{In, here, later, nth_in, Below, itself, under}
 use Rattle.laws.specs.Lists.{length_map}
 use Rattle.laws.specs.Rows.{length_heads}
-use Rattle.theorems.specs.LimitsExactly.{TemplateWithin, limits_exactly}
+use Rattle.theorems.specs.LimitsExactly.{TemplateWithin}
+use Rattle.theorems.proofs.LimitsExactly.{limits_exactly}
 use Rattle.theorems.specs.Children.{Asks, OneEach, nothing_left, no_child_for, one_child_for, ChildFor, this_child, past_keyword, past_child}
 use Rattle.theorems.specs.Judgement.{Arguments, no_argument, an_argument}
 use Rattle.theorems.specs.OwnRule.{Fits, a_build, a_literal, a_place, an_expand, an_if, a_for, a_sequence, ChildNode, build_child, first_branch, second_branch, loop_body, sequence_item, Stands, the_body, below, a_match, match_arm}
 use Rattle.theorems.specs.HeadByHead.{in_cons}
-use Rattle.theorems.specs.OwnRuleExactly.{FitsAt, expand_right, fits_exactly}
-use Rattle.theorems.specs.TypingExactly.{typing_exactly, EachFits, judged_node_by_node}
+use Rattle.theorems.specs.OwnRuleExactly.{FitsAt, expand_right}
+use Rattle.theorems.proofs.OwnRuleExactly.{fits_exactly}
+use Rattle.theorems.specs.TypingExactly.{EachFits}
+use Rattle.theorems.proofs.TypingExactly.{typing_exactly, judged_node_by_node}
 use Rattle.theorems.specs.Least.{in_none}
 
 -- Where a node fits, each node directly below it is a child with variables and a position

@@ -1,4 +1,5 @@
 -- Each limit finds the walk where it comes by the evaluation rules. No typing is assumed: any bytes of any streams.
+-- (In proofs/, as it rests on definitions that a must-fail edit changes.)
 use Rattle.std.specs.Prelude.{◌≡◌, Bool, cond}
 use Rattle.std.proofs.Math.Path.{refl}
 use Rattle.std.proofs.Common.{sym, ◌∙◌, ap, subst, add-zero, zero-add, add_assoc, leb-false}
@@ -24,14 +25,15 @@ use Rattle.theorems.specs.Children.{Asks, asks_class_lem, asks_nonterminal_lem, 
 use Rattle.theorems.specs.Finds.{Finds, text_is, yes_is, no_is, finds_exactly, finds_all_exactly, case_is}
 use Rattle.theorems.specs.Ends.{write_done}
 use Rattle.theorems.specs.Levels.{filling}
-use Rattle.theorems.specs.Places.{place_text}
+use Rattle.theorems.proofs.Places.{place_text}
 use Rattle.theorems.specs.Visits.{place_no_for}
 use Rattle.theorems.specs.Handed.{IsFor, a_for as is-a-for, no_for, is_for_lem, filled_by_lem, listed_is, for_visited, item_visited}
 use Rattle.theorems.specs.Comes.{BuildsTo, this_child, past_keyword, past_child, BuildsUpTo, this_keyword, an_arm}
 use Rattle.theorems.specs.Comes.{ItemsTo, this_node, past_item, past_for, TurnsTo, this_turn, past_turn, Before, a_child, a_body, on_yes, on_no, a_turn, an_item, a_for}
 use Rattle.theorems.specs.Comes.{Comes, root_body, one_deeper, Next, a_keyword, its_text, text_found, before_item, before_turn, Found, not_counted, counted_too, not_written}
 use Rattle.theorems.specs.Evaluation.{BeforeItem, the_first, another}
-use Rattle.theorems.specs.Evaluated.{Wrote, ANode, item-node, for-node, visit_evaluated, item_evaluated, node_evaluated}
+use Rattle.theorems.specs.Evaluated.{Wrote, ANode, item-node, for-node}
+use Rattle.theorems.proofs.Evaluated.{visit_evaluated, item_evaluated, node_evaluated}
 
 data Fair (i : Input) : End → Type 0 where
   is_done : (s : State) → Fair i (done s)
