@@ -1,2 +1,2 @@
-// What is proved of the definitions of `rules` alone. It stands in specs/; there is no code here.
+// What is proved of the definitions of `rules` alone. It stands in specs/ and proofs/; there is no code here.
 #![tactic(auto)]
