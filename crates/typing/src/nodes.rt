@@ -69,7 +69,7 @@ fn frame_in(
 
 // The first node that does not suit its position, of a row of nodes with so many variables in scope beside what they bring, and of all that stands
 // below them.
-#[cycle(check_row)]
+#[cycle(nodes)]
 fn row(
     g: &[u8],
     t: &[u8],
@@ -118,7 +118,7 @@ fn row(
 
 // The first node from the frame's on that does not suit its position, where `left` levels are left. A build, an if, a for, a sequence and a match
 // differ only in the row that stands below them. The node's head comes from the caller: a row needs it too, for the node's size.
-#[cycle(check_row)]
+#[cycle(nodes)]
 pub fn check(
     g: &[u8],
     t: &[u8],

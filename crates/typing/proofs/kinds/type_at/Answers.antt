@@ -1,0 +1,28 @@
+use mathlib.Core.Path.{sym, ◌∙◌}
+use Rattle.rules.specs.Templates.{type_at, type_numbered, field_heads}
+use Rattle.typing.proofs.KindLaws.{no_form}
+use Rattle.typing.proofs.kinds.type_at.Goals as goal
+
+pub returns-in-0 : goal.returns-in-0
+unfolding type_at type_numbered
+returns-in-0 c = sym (rw (sym c.fetch-r.ensures.a ∙ c.in-0.is, ← c.fetch-r.ensures.b))
+
+pub returns-in-1 : goal.returns-in-1
+unfolding type_at type_numbered
+returns-in-1 c = sym (rw (sym c.fetch-r.ensures.a ∙ c.in-1.is))
+
+pub returns-in-2 : goal.returns-in-2
+unfolding type_at type_numbered
+returns-in-2 c = sym (rw (sym c.fetch-r.ensures.a ∙ c.in-2.is, ← c.fetch-r.ensures.b))
+
+pub returns-in-3 : goal.returns-in-3
+unfolding type_at type_numbered field_heads
+returns-in-3 c = sym (rw (sym c.fetch-r.ensures.a ∙ c.in-3.is, ← c.fetch-r.ensures.d))
+
+pub returns-in-4 : goal.returns-in-4
+unfolding type_at type_numbered field_heads
+returns-in-4 c = sym (rw (sym c.fetch-r.ensures.a ∙ c.in-4.is, ← c.fetch-r.ensures.d))
+
+pub returns-in_default : goal.returns-in_default
+unfolding type_at
+returns-in_default c = no_form _ _ _ (λ q. c.in_default.in_default-own.rest.0.0.0.0.1 (c.fetch-r.ensures.a ∙ q)) (λ q. c.in_default.in_default-own.rest.0.0.0.1 (c.fetch-r.ensures.a ∙ q)) (λ q. c.in_default.in_default-own.rest.0.0.1 (c.fetch-r.ensures.a ∙ q)) (λ q. c.in_default.in_default-own.rest.0.1 (c.fetch-r.ensures.a ∙ q)) (λ q. c.in_default.in_default-own.rest.1 (c.fetch-r.ensures.a ∙ q))
