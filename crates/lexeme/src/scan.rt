@@ -90,6 +90,7 @@ fn most_next(b: usize) -> usize
 }
 
 // The first byte of a character of several.
+#[tactic(auto, using(crate::proofs::StepLaws::lead_low))]
 fn lead(count: usize, b: usize) -> Scan
     requires { 0x80 ≤ b }
     ensures { (g rs : List ℕ) → result ≡ judged g rs count (first_byte [] b) }
