@@ -1,5 +1,5 @@
 #!/usr/bin/env python3
-"""Brings the repository's own definitions and lemmas to today's spelling, run once after the toolchain's port.py.
+"""Brings the repository's own definitions and lemmas to today's spelling, run after the toolchain's port.py.
 
 Words are in snake case, types and modules in camel case: `grammarLayout` becomes `grammar_layout`, `on-found-none` becomes
 `on_found_none`. Renamed is what specs/ and proofs/ declare: definitions, lemmas, constructors and fields. What stands in src/ keeps its
@@ -15,8 +15,10 @@ import sys
 
 OWN = "entities|feed|finite|laws|layout|lexeme|limits|records|rules|stream|theorems|typing|walk"
 WORD = re.compile(r"[^\s(){}\[\].,;:@«»λ\"`|]+")
+# A constructor of rules and a definition of layout, which no file cites together.
+BOTH = ["yes-no", "yesNo"]
 # Lemmas that would come to the name of a definition: that of port.py's spelling, or of this one's.
-LEMMAS = "byte-of text-of kind-of place-of plain-of sites-of typed-of visit-at bit-and bit-or below_at first_byte no_plain one_more plain_end".split()
+LEMMAS = "end-at has-type type-named byte-of text-of kind-of place-of plain-of sites-of typed-of visit-at bit-and bit-or below_at first_byte no_plain one_more plain_end".split()
 
 
 def antt_files():
@@ -52,8 +54,8 @@ def declared(path):
             for name in member.group(1).split() if member else ():
                 yield name, "definition" if inside == "data" else "field"
         elif inside in ("module", "mutual"):
-            member = re.match(r"  (?:unfoldable |abbrev |pub )*([^\s(){}]+)", line)
-            if member and member.group(1) not in ("unfolding", "--"):
+            member = re.match(r" +(?:unfoldable |abbrev |pub )*([^\s(){}]+) (?:\{[^}]*\} |\([^)]*\) )*:", line)
+            if member and member.group(1) not in ("unfolding", "--", "let"):
                 yield member.group(1), "definition"
 
 
@@ -87,7 +89,7 @@ def main():
     for new, olds in together.items():
         if len(olds) > 1:
             for old in olds:
-                if "-" in old and "definition" in kinds[old]:
+                if "-" in old and "definition" in kinds[old] and old not in BOTH:
                     to[old] = new + "_lem"
     files = antt_files() + sorted(glob.glob("crates/*/src/**/*.rt", recursive=True)) + sorted(glob.glob("crates/*/must-fail/*.edit"))
     used = collections.Counter()

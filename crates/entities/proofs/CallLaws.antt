@@ -88,16 +88,16 @@ module _ (text out : List ℕ) (m : Measured) (e : measured m ≡ length_from ca
         let (x, i, j, k) = some_plain text m.length (measured_good g) in
         rw (answers_12 text out x j (omega arith)) (f, refl)
 
-    pub long-is : (x : List ℕ) → unescaped text ≡ some x → m.length ≡ length x
-    long-is y q =
+    pub long_is : (x : List ℕ) → unescaped text ≡ some x → m.length ≡ length x
+    long_is y q =
         let (x, i, j, k) = some_plain text m.length (measured_good g) in
         k ∙ ap length (some-injective x y (sym i ∙ q))
 
     pub plainly : m.length ≤ length out → Plainly text (length out)
     plainly l = let (x, i, j, k) = some_plain text m.length (measured_good g) in record { plain = x; is = i; fits = omega arith }
 
-    pub by-0 : m.length ≤ length out → {a : Answer} {last : List ℕ} → a ≡ answer 0 0 0 0 m.length
+    pub by_0 : m.length ≤ length out → {a : Answer} {last : List ℕ} → a ≡ answer 0 0 0 0 m.length
         → ((x : List ℕ) → unescaped text ≡ some x → last ≡ x ++ drop (length x) out) → (a ≡ (unescape text out).result) × (last ≡ (unescape text out).output)
-    by-0 l f p =
+    by_0 l f p =
         let (x, i, j, k) = some_plain text m.length (measured_good g) in
         rw (answers_0 text out x j (omega arith)) (f ∙ ap (answer 0 0 0 0) k, p x i)

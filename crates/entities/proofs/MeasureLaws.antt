@@ -80,22 +80,22 @@ module _ {text : List ℕ} {u : Utf8} {n at : ℕ} {r : Plain} (h : Measuring te
         ∙ length_turn u n r.byte (unescaped (drop r.length (drop at text)))
         ∙ ap (λ (x : List ℕ). length_from (next_shape u r.byte) (n + 1) (unescaped x)) (drop-drop r.length at text)
 
-    pub measure-inside : at + r.length ≤ length text
-    measure-inside = omega (arith, plain_here.inside, length-drop at text)
+    pub measure_inside : at + r.length ≤ length text
+    measure_inside = omega (arith, plain_here.inside, length-drop at text)
 
-    pub measure-grows : at < at + r.length
-    measure-grows = go r.length z
+    pub measure_grows : at < at + r.length
+    measure_grows = go r.length z
       where
         go : (k : ℕ) → (k ≡ 0 → ⊥) → at < at + k
         go zero w = absurd (w refl)
         go (suc k) w = omega arith
 
-    pub measure-bad : {v : Utf8} → v ≡ next_shape u r.byte → v.good ≡ false → length_from calm 0 (unescaped text) ≡ none
-    measure-bad e f = sym h.same ∙ turn ∙ length_bad u n r.byte _ (sym (ap (λ (w : Utf8). w.good) e) ∙ f)
+    pub measure_bad : {v : Utf8} → v ≡ next_shape u r.byte → v.good ≡ false → length_from calm 0 (unescaped text) ≡ none
+    measure_bad e f = sym h.same ∙ turn ∙ length_bad u n r.byte _ (sym (ap (λ (w : Utf8). w.good) e) ∙ f)
 
-    pub measure-turn : {v : Utf8} → v ≡ next_shape u r.byte → v.good ≡ true → Measuring text v (n + 1) (at + r.length)
-    measure-turn e f = record {
-      inside = measure-inside;
+    pub measure_turn : {v : Utf8} → v ≡ next_shape u r.byte → v.good ≡ true → Measuring text v (n + 1) (at + r.length)
+    measure_turn e f = record {
+      inside = measure_inside;
       good = f;
       fewer = omega (arith, h.fewer);
       same = rw e (sym turn ∙ h.same);

@@ -20,9 +20,9 @@ use Rattle.records.specs.Children.{Stands, whole, Children}
 use Rattle.layout.specs.Common.{most_records}
 use Rattle.layout.specs.Tree.{Value, chain, kind_head, kind_below, head_end, below, fills}
 use Rattle.layout.specs.Children.{PlacesLent, PlacesPut, TableLent, TablePut}
-use Rattle.layout.proofs.TreeLaws.{Chain, last, link, chain_few, chain_then, chain-sound}
+use Rattle.layout.proofs.TreeLaws.{Chain, last, link, chain_few, chain_then, chain_sound}
 use Rattle.layout.proofs.TreeThings.{head_grows}
-use Rattle.layout.proofs.TreeTurns.{rest, one_end, chain_done, chain-late, chain-empty, chain-go}
+use Rattle.layout.proofs.TreeTurns.{rest, one_end, chain_done, chain_late, chain_empty, chain_go}
 use Rattle.layout.proofs.ChildrenLaws.{after_one, Looked, nothing, another, HeadAt, has, ends, below_at_lem, whole_at, looked_keep}
 
 -- One row: k of n children are put down, and the next begins at q
@@ -60,12 +60,12 @@ module _ {v : List ℕ} {n p e used : ℕ} {before places : List ℕ} {q : ℕ} 
   put_end l = record { is = sym (chain_done (value_size v) n k q e l) ∙ s.same; put = λ z j i. s.put j (omega (arith, s.counted)); kept = s.kept }
 
   module _ (l : k < n) where
-    pub put-late : e ≤ q → PlacesPut v n p e used before places false
-    put-late g = put_broken (chain-late (value_size v) n k q e l g)
+    pub put_late : e ≤ q → PlacesPut v n p e used before places false
+    put_late g = put_broken (chain_late (value_size v) n k q e l g)
 
     module _ (g : q < e) {m : ℕ} (z : m ≡ value_size v q) where
-      pub put-empty : m < 1 → PlacesPut v n p e used before places false
-      put-empty i = put_broken (chain-empty (value_size v) n k q e l g m z i)
+      pub put_empty : m < 1 → PlacesPut v n p e used before places false
+      put_empty i = put_broken (chain_empty (value_size v) n k q e l g m z i)
 
       pub put_go : 1 ≤ m → m < 65536 → q < 2 ^ 40 → used + k < length places → {next : Place} → next ≡ place_of (q + m)
           → Putting v n p e used before (set places (used + k) q) (q + m) next (k + 1)
@@ -74,7 +74,7 @@ module _ {v : List ℕ} {n p e used : ℕ} {before places : List ℕ} {q : ℕ} 
         near = omega arith;
         counted = omega arith;
         apart = omega (arith, s.apart);
-        same = sym (chain-go (value_size v) n k q e l g m z i) ∙ s.same;
+        same = sym (chain_go (value_size v) n k q e l g m z i) ∙ s.same;
         after_is = ap (λ (x : ℕ). q + x) z ∙ ap (λ (x : ℕ). x + value_size v x) s.after_is ∙ sym (after_one (value_size v) k p);
         put = λ j h. go j h (ltb j k) refl;
         kept = λ j h. get_or-set_other places (used + k) j q 0 (λ x. omega arith) ∙ s.kept j h;
@@ -134,13 +134,13 @@ module _ {v : List ℕ} {e : ℕ} {firsts₀ places₀ firsts places : List ℕ}
   table_few = omega (arith, t.counted, chain_few (head_end Value v) (value_size v) (below Value v) t.chain)
 
   module _ (l : q < e) where
-    pub head-room : TableLent v e firsts₀ places₀ → q < length firsts
-    head-room a = omega (arith, a.inside, a.firsts_room, t.long_firsts)
+    pub head_room : TableLent v e firsts₀ places₀ → q < length firsts
+    head_room a = omega (arith, a.inside, a.firsts_room, t.long_firsts)
 
     -- the children of the head at q have room, which stand between next and where it ends
-    pub row-lent : TableLent v e firsts₀ places₀ → {size next : ℕ} → size ≡ value_size v q → q + size ≤ e → q < next → next < 2 ^ 50
+    pub row_lent : TableLent v e firsts₀ places₀ → {size next : ℕ} → size ≡ value_size v q → q + size ≤ e → q < next → next < 2 ^ 50
         → {at : Place} → at ≡ place_of next → PlacesLent v next at (q + size) used places
-    row-lent a z i g n is =
+    row_lent a z i g n is =
         let h = first_pending (head_end Value v) (value_size v) (below Value v) t.chain l in
         let f = chain_few (head_end Value v) (value_size v) (below Value v) h.2 in
         record {
@@ -172,12 +172,12 @@ module _ {v : List ℕ} {e : ℕ} {firsts₀ places₀ firsts places : List ℕ}
             rw (f, ← y) (omega (arith, is), p.put yes j (omega (arith, is)));
       }
 
-      pub table-go : length places' ≡ length places → Tabling v e firsts₀ places₀ (set firsts q used) places' next (used + n)
-      table-go long =
+      pub table_go : length places' ≡ length places → Tabling v e firsts₀ places₀ (set firsts q used) places' next (used + n)
+      table_go long =
           let g = head_grows Value v q next ends in
           let h = first_pending (head_end Value v) (value_size v) (below Value v) t.chain l in
           let c : Chain (head_end Value v) (value_size v) (below Value v) n next (q + value_size v q) =
-          chain-sound (head_end Value v) (value_size v) (below Value v) (head_grows Value v) n next (q + value_size v q) (rw (← z) (sym p.is ∙ yes)) in
+          chain_sound (head_end Value v) (value_size v) (below Value v) (head_grows Value v) n next (q + value_size v q) (rw (← z) (sym p.is ∙ yes)) in
           record {
             looked =
                 another

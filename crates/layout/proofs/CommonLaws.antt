@@ -224,18 +224,18 @@ module _ (s : List ℕ) (p : ℕ) where
   tail_nothing l = rw (lt-leb 1 p l)
 
   module _ (a : 1 ≤ p) (n : ℕ) (c : n ≡ record_count s) where
-    pub tail-past : n < p → false ≡ tail_right s p
+    pub tail_past : n < p → false ≡ tail_right s p
     unfolding tail_right
-    tail-past l = rw (le-leb 1 p a, ← c, lt-leb p n l)
+    tail_past l = rw (le-leb 1 p a, ← c, lt-leb p n l)
 
     module _ (b : p ≤ n) where
-      pub tail-long : 63 ≤ n - p → false ≡ tail_right s p
+      pub tail_long : 63 ≤ n - p → false ≡ tail_right s p
       unfolding tail_right
-      tail-long l = rw (le-leb 1 p a, ← c, le-leb p n b, le-ltb (n - p) 63 l)
+      tail_long l = rw (le-leb 1 p a, ← c, le-leb p n b, le-ltb (n - p) 63 l)
 
-      pub tail-is : n - p < 63 → zeros (records_from s (n - p) p) ≡ tail_right s p
+      pub tail_is : n - p < 63 → zeros (records_from s (n - p) p) ≡ tail_right s p
       unfolding tail_right
-      tail-is l = rw (le-leb 1 p a, ← c, le-leb p n b, lt-ltb (n - p) 63 l)
+      tail_is l = rw (le-leb 1 p a, ← c, le-leb p n b, lt-ltb (n - p) 63 l)
 
 -- Places
 

@@ -107,11 +107,11 @@ module _ {g : List ℕ} {p : ℕ} {r : Record} (f : Fetched g p r) where
     pub a_class : b ≡ true → is_class g p ≡ true
     a_class i = sym (class_is g p r f b e) ∙ i
 
-    pub not-a-class : b ≡ false → is_class g p ≡ false
-    not-a-class i = sym (class_is g p r f b e) ∙ i
+    pub not_a_class : b ≡ false → is_class g p ≡ false
+    not_a_class i = sym (class_is g p r f b e) ∙ i
 
-    pub class-stands : stream_length g ≡ none → b ≡ true → Stands g (is_class g) p
-    class-stands w i = record {
+    pub class_stands : stream_length g ≡ none → b ≡ true → Stands g (is_class g) p
+    class_stands w i = record {
       is_one = a_class i;
       inside = ⊎_elim (λ k. inside g w p 0 k) (λ k. inside g w p 4 k) (class_kinds g p (a_class i));
     }
@@ -146,17 +146,17 @@ module _ {g : List ℕ} {p : ℕ} {r : Record} (f : Fetched g p r) where
   class_head_is = rw (f.kind, f.c, f.d)
 
   module _ (n : ℕ) (a : r.a ≡ n) where
-    pub class-over : class_head r ≡ false → class_end g n p ≡ none
+    pub class_over : class_head r ≡ false → class_end g n p ≡ none
     unfolding class_end escaped_end only_if
-    class-over h = go (of_kind g 5 p) refl (sym class_head_is ∙ h)
+    class_over h = go (of_kind g 5 p) refl (sym class_head_is ∙ h)
       where
         go : (b : Bool) → of_kind g 5 p ≡ b → cond b (eqb (field_c g p) 0 && eqb (field_d g p) 0) true ≡ false → class_end g n p ≡ none
         go true e i = rw (e, eq-eqb _ _ (sym f.a ∙ a), i)
         go false e i = absurd (false≢true (sym i))
 
-    class-ranges : class_head r ≡ true → class_end g n p ≡ in_row (range_end g) r.d (p + 1)
+    class_ranges : class_head r ≡ true → class_end g n p ≡ in_row (range_end g) r.d (p + 1)
     unfolding class_end escaped_end plain_end in_row then_read on_found only_if
-    class-ranges h = go (of_kind g 5 p) refl (sym class_head_is ∙ h)
+    class_ranges h = go (of_kind g 5 p) refl (sym class_head_is ∙ h)
       where
         go : (b : Bool) → of_kind g 5 p ≡ b → cond b (eqb (field_c g p) 0 && eqb (field_d g p) 0) true ≡ true
             → class_end g n p ≡ in_row (range_end g) r.d (p + 1)
@@ -164,23 +164,23 @@ module _ {g : List ℕ} {p : ℕ} {r : Record} (f : Fetched g p r) where
         go false e i = rw (e, eq-eqb _ _ (sym f.a ∙ a), ← f.d)
 
     module _ {b : Bool} (h : class_head r ≡ true) (i : in_row (range_end g) r.d (p + 1) ≡ only_if b (p + 1 + r.d)) where
-      pub class-broken : b ≡ false → class_end g n p ≡ none
+      pub class_broken : b ≡ false → class_end g n p ≡ none
       unfolding only_if
-      class-broken z = class-ranges h ∙ i ∙ rw z
+      class_broken z = class_ranges h ∙ i ∙ rw z
 
-      pub class-right : b ≡ true → class_end g n p ≡ some (p + (1 + r.d))
+      pub class_right : b ≡ true → class_end g n p ≡ some (p + (1 + r.d))
       unfolding only_if
-      class-right z = class-ranges h ∙ i ∙ rw (z, add_assoc)
+      class_right z = class_ranges h ∙ i ∙ rw (z, add_assoc)
 
   -- a production's number, and then its elements
   module _ {m : ℕ} (e : ProductionNumber r m) where
-    pub production-out : (n : ℕ) → (m ≡ n → ⊥) → production_end g n p ≡ none
+    pub production_out : (n : ℕ) → (m ≡ n → ⊥) → production_end g n p ≡ none
     unfolding production_end then_read on_found only_if
-    production-out n l = rw (ne_eqb _ _ (λ z. l (e.is g p f ∙ z)))
+    production_out n l = rw (ne_eqb _ _ (λ z. l (e.is g p f ∙ z)))
 
-    pub production-elements : (n : ℕ) (o : Option ℕ) → m ≡ n → in_row (element_end g) r.d (p + 1) ≡ o → production_end g n p ≡ o
+    pub production_elements : (n : ℕ) (o : Option ℕ) → m ≡ n → in_row (element_end g) r.d (p + 1) ≡ o → production_end g n p ≡ o
     unfolding production_end then_read on_found only_if
-    production-elements n o l h = rw (eq-eqb _ _ (sym (e.is g p f) ∙ l), ← f.d) h
+    production_elements n o l h = rw (eq-eqb _ _ (sym (e.is g p f) ∙ l), ← f.d) h
 
   -- an element: its head, and then its text
   head_is : element_head r ≡ (eqb (kind_of g p) 4 && (leb (field_a g p) 4 && ((eqb (field_a g p) 4 || eqb (field_c g p) 0) && eqb (field_d g p) 0)))
@@ -193,13 +193,13 @@ module _ {g : List ℕ} {p : ℕ} {r : Record} (f : Fetched g p r) where
 
   -- where it ends, by the n bytes of its text
   module _ {n : ℕ} {b : Bool} (t : n ≡ text_length g p) (h : element_head r ≡ true) (z : b ≡ zeros (padding_of g n p)) where
-    pub element-unpadded : b ≡ false → element_end g p ≡ none
+    pub element_unpadded : b ≡ false → element_end g p ≡ none
     unfolding element_end text_end then_read on_found only_if
-    element-unpadded e = rw (sym head_is ∙ h, ← t, ← z, e)
+    element_unpadded e = rw (sym head_is ∙ h, ← t, ← z, e)
 
-    pub element-padded : b ≡ true → (m : ℕ) → m ≡ units n → element_end g p ≡ some (p + 1 + m)
+    pub element_padded : b ≡ true → (m : ℕ) → m ≡ units n → element_end g p ≡ some (p + 1 + m)
     unfolding element_end text_end then_read on_found only_if
-    element-padded e m u = rw (sym head_is ∙ h, ← t, ← z, e, u)
+    element_padded e m u = rw (sym head_is ∙ h, ← t, ← z, e, u)
 
   pub element_near : stream_length g ≡ none → element_head r ≡ true → p < most_records
   unfolding element_head

@@ -79,17 +79,17 @@ module _ {s : List ℕ} {is : ℕ → Bool} {size : ℕ → ℕ} {start : ℕ} {
     fill_begins : take (n + 1) (set table n p) ≡ heads size (n + 1) start
     fill_begins = let l = fill_room e f in rw (add-one n, take-suc-set table n p l, f.begins) (sym (more_heads f.done))
 
-    fill-rest : drop (n + 1) (set table n p) ≡ drop (n + 1) before
-    fill-rest = drop-set-lt (n + 1) table n p (omega arith) ∙ sym (drop-drop 1 n table) ∙ ap (λ xs. drop 1 xs) f.rest ∙ drop-drop 1 n before
+    fill_rest : drop (n + 1) (set table n p) ≡ drop (n + 1) before
+    fill_rest = drop-set-lt (n + 1) table n p (omega arith) ∙ sym (drop-drop 1 n table) ∙ ap (λ xs. drop 1 xs) f.rest ∙ drop-drop 1 n before
 
-    pub fill-go : FillingRow s is size start before (set table n p) (n + 1) q
-    fill-go =
+    pub fill_go : FillingRow s is size start before (set table n p) (n + 1) q
+    fill_go =
         let h = next e f.ahead in
         let l : length before - n - 1 ≡ length before - (n + 1) = omega arith in
         record {
           done = rw (z, add-one n) (more_things f.done h.here);
           begins = fill_begins;
-          rest = fill-rest;
+          rest = fill_rest;
           same = length-set table n p ∙ f.same;
           ahead = rw z (subst (λ r. RowAhead s is size (p + size p) r) l h.ahead);
         }

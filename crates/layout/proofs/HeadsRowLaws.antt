@@ -40,11 +40,11 @@ module _ {is : ℕ → Bool} {size : ℕ → ℕ} where
     resized : {n p q : ℕ} → InRow (Spans is size) n p q → InRow (Spans is other) n p q
     resized = each_in_row λ p q x. record { is_one = x.is_one; end = x.end ∙ ap (λ z. p + z) (f p x.is_one); grows = x.grows }
 
-    resized-heads : {n p q : ℕ} → InRow (Spans is size) n p q → heads size n p ≡ heads other n p
+    resized_heads : {n p q : ℕ} → InRow (Spans is size) n p q → heads size n p ≡ heads other n p
     unfolding heads
-    resized-heads (no_thing p) = refl
-    resized-heads (one_thing n p q r x xs) =
-        rw (← f p x.is_one, ← x.end) (ap (λ ys. p ∷ ys) (resized-heads xs))
+    resized_heads (no_thing p) = refl
+    resized_heads (one_thing n p q r x xs) =
+        rw (← f p x.is_one, ← x.end) (ap (λ ys. p ∷ ys) (resized_heads xs))
 
 -- a row of one sort, whose heads are `first`, at most so many, and then one of another, whose heads are `second`; and there is room for both
 pub record TwoRows (s : List ℕ) (is is' : ℕ → Bool) (size other : ℕ → ℕ) (most room : ℕ) (first second : List ℕ) : Type 0 where
@@ -88,8 +88,8 @@ module _ {s : List ℕ} {is is' : ℕ → Bool} {size other : ℕ → ℕ} {most
     pub in_table : one.count ≤ length xs
     in_table = let x = h.fit in let y = counted in omega arith
 
-    pub second-ahead : RowAhead s is' other one.next (length (take (length xs - one.count) (drop one.count xs)))
-    second-ahead =
+    pub second_ahead : RowAhead s is' other one.next (length (take (length xs - one.count) (drop one.count xs)))
+    second_ahead =
         let x = h.fit in
         let y = counted in
         rw (lent_from one.count xs in_table, length-drop, after_first)
@@ -109,9 +109,9 @@ module _ {s : List ℕ} {is is' : ℕ → Bool} {size other : ℕ → ℕ} {most
           let z : one.count - 0 ≡ one.count = omega arith in
           rw z (take_put one.count (length xs - one.count) xs ys in_table ∙ a.begins ∙ ap (λ n. heads size n 0) counted ∙ sym h.first_are)
 
-      second-part : part one.count (one.count + two.count) table ≡ second
+      second_part : part one.count (one.count + two.count) table ≡ second
       unfolding table
-      second-part =
+      second_part =
           let z : one.count + two.count - one.count ≡ two.count = omega arith in
           rw (z, back_from one.count xs in_table ys)
           (b.begins ∙ rw (counted', after_first) (sym h.second_are))
@@ -132,7 +132,7 @@ module _ {s : List ℕ} {is is' : ℕ → Bool} {size other : ℕ → ℕ} {most
           let y = counted' in
           let i = h.few in
           let k = h.fit in
-          record { few = omega arith; fit = omega arith; first_are = first_part; second_are = second-part; rest = rest_part }
+          record { few = omega arith; fit = omega arith; first_are = first_part; second_are = second_part; rest = rest_part }
 
 -- numbers of 8 bits
 few_numbered : {Thing : ℕ → ℕ → ℕ → Type 0} {n m p q : ℕ} → ((n p q : ℕ) → Thing n p q → n < 256) → Numbered Thing n m p q → n ≤ 256 → n + m ≤ 256
@@ -175,8 +175,8 @@ module _ {s : List ℕ} {is is' : ℕ → Bool} {whole : ℕ → ℕ} {m n q e :
         end = e;
         row = record { things = resized size f a; stops = not_first o b z };
         row' = record { things = resized other g b; stops = o.zero_second e z };
-        first_are = resized-heads size f a;
-        second_are = resized-heads other g b;
+        first_are = resized_heads size f a;
+        second_are = resized_heads other g b;
         few = i;
         fit = k;
         inside = let l = few_records s w in let k = t.inside in omega arith;

@@ -101,9 +101,9 @@ module _ (t : List ℕ) (p : ℕ) (r : Record) (f : Fetched t p r) (n : ℕ) whe
     unfolding only_if
     path_right w = right p _ 2 n n (head_is ∙ rw (w, add_assoc p 1 1)) refl
 
-    pub path-wrong : z ≡ false → Headed p Wrong (path_head t p) n
+    pub path_wrong : z ≡ false → Headed p Wrong (path_head t p) n
     unfolding only_if
-    path-wrong w = wrong p _ n (head_is ∙ rw w)
+    path_wrong w = wrong p _ n (head_is ∙ rw w)
 
   -- one that counts nothing
   pub bare_path : r.d ≡ 0 → (h : Head) → Headed p h (path_head t p) n → Headed p h (bare_path_head t p) n
@@ -143,58 +143,58 @@ module _ (t : List ℕ) (p : ℕ) (r : Record) (f : Fetched t p r) where
   no_node k = wrong p _ _ (rw (ne_eqb (kind_of t p) 5 (λ e. k (f.kind ∙ e))))
 
   module _ (k : r.kind ≡ 5) {form : Form} (is-form : form ≡ form_numbered r.a) where
-    end-at : head_end Node t p ≡ form_head t form p
+    end_at_lem : head_end Node t p ≡ form_head t form p
     unfolding head_end then_read on_found only_if
-    end-at = rw (eq-eqb (kind_of t p) 5 (sym f.kind ∙ k), ← form_is t p r f form is-form)
+    end_at_lem = rw (eq-eqb (kind_of t p) 5 (sym f.kind ∙ k), ← form_is t p r f form is-form)
 
     below_at_lem : below Node t p ≡ form_below t form p
     unfolding below
     below_at_lem = rw (← form_is t p r f form is-form)
 
     -- the head as its form has it
-    as-form : (other : Form) → form ≡ other → {h : Head} → Headed p h (form_head t other p) (form_below t other p) → Headed p h (head_end Node t p) (below Node t p)
-    as-form other e is = as_head (end-at ∙ ap (λ (x : Form). form_head t x p) e) (below_at_lem ∙ ap (λ (x : Form). form_below t x p) e) is
+    as_form : (other : Form) → form ≡ other → {h : Head} → Headed p h (form_head t other p) (form_below t other p) → Headed p h (head_end Node t p) (below Node t p)
+    as_form other e is = as_head (end_at_lem ∙ ap (λ (x : Form). form_head t x p) e) (below_at_lem ∙ ap (λ (x : Form). form_below t x p) e) is
 
     pub a_build : form ≡ Build → Headed p (Right 1 r.d) (head_end Node t p) (below Node t p)
     unfolding form_head form_below
-    a_build e = as-form Build e (right p _ 1 r.d _ refl f.d)
+    a_build e = as_form Build e (right p _ 1 r.d _ refl f.d)
 
     pub a_literal : form ≡ Literal → r.d ≡ 0 → (h : Head) → Headed p h (text_head t p) 0 → Headed p h (head_end Node t p) (below Node t p)
     unfolding form_head form_below then_read on_found only_if
-    a_literal e d h is = as-form Literal e (as_head (rw (eq-eqb (field_d t p) 0 (sym f.d ∙ d))) refl is)
+    a_literal e d h is = as_form Literal e (as_head (rw (eq-eqb (field_d t p) 0 (sym f.d ∙ d))) refl is)
 
-    pub not-literal : form ≡ Literal → (r.d ≡ 0 → ⊥) → Headed p Wrong (head_end Node t p) (below Node t p)
+    pub not_literal : form ≡ Literal → (r.d ≡ 0 → ⊥) → Headed p Wrong (head_end Node t p) (below Node t p)
     unfolding form_head then_read on_found only_if
-    not-literal e d = as-form Literal e (wrong p _ _ (rw (ne_eqb (field_d t p) 0 (λ e. d (f.d ∙ e)))))
+    not_literal e d = as_form Literal e (wrong p _ _ (rw (ne_eqb (field_d t p) 0 (λ e. d (f.d ∙ e)))))
 
     pub a_place : form ≡ Place → (h : Head) → Headed p h (bare_path_head t p) 0 → Headed p h (head_end Node t p) (below Node t p)
     unfolding form_head form_below
-    a_place e h is = as-form Place e is
+    a_place e h is = as_form Place e is
 
     pub an_expand : form ≡ Expand → (h : Head) → Headed p h (in_row (path_end t) (field_d t p) (p + 1)) 0 → Headed p h (head_end Node t p) (below Node t p)
     unfolding form_head form_below
-    an_expand e h is = as-form Expand e is
+    an_expand e h is = as_form Expand e is
 
     pub an_if : form ≡ If → (h : Head) → Headed p h (bare_path_head t p) 2 → Headed p h (head_end Node t p) (below Node t p)
     unfolding form_head form_below
-    an_if e h is = as-form If e is
+    an_if e h is = as_form If e is
 
     pub a_for : form ≡ For → (h : Head) → Headed p h (bare_path_head t p) 1 → Headed p h (head_end Node t p) (below Node t p)
     unfolding form_head form_below
-    a_for e h is = as-form For e is
+    a_for e h is = as_form For e is
 
     pub a_sequence : form ≡ Sequence → r.b ≡ 0 → Headed p (Right 1 r.d) (head_end Node t p) (below Node t p)
     unfolding form_head form_below only_if
-    a_sequence e b = as-form Sequence e (right p _ 1 r.d _ (rw (eq-eqb (field_b t p) 0 (sym f.b ∙ b))) f.d)
+    a_sequence e b = as_form Sequence e (right p _ 1 r.d _ (rw (eq-eqb (field_b t p) 0 (sym f.b ∙ b))) f.d)
 
-    pub not-sequence : form ≡ Sequence → (r.b ≡ 0 → ⊥) → Headed p Wrong (head_end Node t p) (below Node t p)
+    pub not_sequence : form ≡ Sequence → (r.b ≡ 0 → ⊥) → Headed p Wrong (head_end Node t p) (below Node t p)
     unfolding form_head only_if
-    not-sequence e b = as-form Sequence e (wrong p _ _ (rw (ne_eqb (field_b t p) 0 (λ e. b (f.b ∙ e)))))
+    not_sequence e b = as_form Sequence e (wrong p _ _ (rw (ne_eqb (field_b t p) 0 (λ e. b (f.b ∙ e)))))
 
     pub a_match : form ≡ Match → (h : Head) → Headed p h (path_head t p) r.d → Headed p h (head_end Node t p) (below Node t p)
     unfolding form_head form_below
-    a_match e h is = as-form Match e (as_head refl (sym f.d) is)
+    a_match e h is = as_form Match e (as_head refl (sym f.d) is)
 
     pub unknown : form ≡ Unknown → Headed p Wrong (head_end Node t p) (below Node t p)
     unfolding form_head
-    unknown e = as-form Unknown e (wrong p _ _ refl)
+    unknown e = as_form Unknown e (wrong p _ _ refl)

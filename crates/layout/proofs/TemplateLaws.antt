@@ -15,7 +15,7 @@ use Rattle.stream.specs.declared.record.Record.{Record}
 use Rattle.stream.specs.Record.{Fetched}
 use Rattle.layout.specs.Tree.{Node, thing_end, fills}
 use Rattle.layout.specs.Template.{types_end, rest_right, within, record_end}
-use Rattle.layout.proofs.CommonLaws.{tail-past}
+use Rattle.layout.proofs.CommonLaws.{tail_past}
 use Rattle.layout.proofs.GrammarLaws.{inside, ThingsLeft, left_start, left_stop, left_go, left_broken, of_another, kind_stands}
 use Rattle.laws.specs.Reads.{only_some, then_some}
 use Rattle.layout.proofs.TreeThings.{row_ends, thing_sized}
@@ -38,13 +38,13 @@ module _ {t : List ℕ} (w : stream_length t ≡ none) {p : ℕ} {r : Record} (f
   types_stop k = left_stop (of_another f 1 k) h.1
 
   module _ (k : r.kind ≡ 1) (z : Bool) (e : only_if z (p + 1 + field_d t p) ≡ type_end t p) where
-    pub types-broken : z ≡ false → none ≡ types_end t
+    pub types_broken : z ≡ false → none ≡ types_end t
     unfolding only_if
-    types-broken i = left_broken (kind_stands f w 0 k) h.1 (sym e ∙ rw i)
+    types_broken i = left_broken (kind_stands f w 0 k) h.1 (sym e ∙ rw i)
 
-    pub types-go : z ≡ true → TypesLeft t (p + (1 + r.d))
+    pub types_go : z ≡ true → TypesLeft t (p + (1 + r.d))
     unfolding only_if
-    types-go i =
+    types_go i =
         let q : p + 1 + field_d t p ≡ p + (1 + r.d) = omega (arith, f.d) in
         (h.0 + 1, left_go (kind_stands f w 0 k) h.1 (p + (1 + r.d)) (sym e ∙ rw (i, q)) (omega arith))
 
@@ -97,9 +97,9 @@ module _ (t : List ℕ) (p : ℕ) (r : Record) (f : Fetched t p r) where
     unfolding template_end record_end then_read on_found only_if
     end_is = rw (eq-eqb (field_d t p) 0 (sym f.d ∙ d), ← f.a, h)
 
-    pub template-row : z ≡ false → false ≡ within t (template_end t p)
+    pub template_row : z ≡ false → false ≡ within t (template_end t p)
     unfolding within sized on_found then_read only_if
-    template-row e = rw (end_is, e)
+    template_row e = rw (end_is, e)
 
     pub template_body : z ≡ true → p + r.c ≤ record_count t → (b : Bool) → b ≡ fills Node t (p + 1 + r.a) (p + r.c) → b ≡ within t (template_end t p)
     unfolding within fills thing_end sized
@@ -126,20 +126,20 @@ module _ {t : List ℕ} (w : stream_length t ≡ none) (p : ℕ) {q : ℕ} {r : 
   templates_stop k = ends_at t p q (left_stop (of_another f 3 k) h.1)
 
   module _ (k : r.kind ≡ 3) where
-    pub templates-wrong : false ≡ within t (template_end t q) → false ≡ rest_right t p
+    pub templates_wrong : false ≡ within t (template_end t q) → false ≡ rest_right t p
     unfolding rest_right within on_found
-    templates-wrong z = go (template_end t q) refl
+    templates_wrong z = go (template_end t q) refl
       where
         go : (o : Option ℕ) → template_end t q ≡ o → false ≡ rest_right t p
         go none i = rw (← left_broken (kind_stands f w 2 k) h.1 i)
         go (some e) i =
             let m : record_count t < e = leb-false e (record_count t) (sym (rw i at z)) in
             let g = left_go (kind_stands f w 2 k) h.1 e i (template_parts t q e i).0 in
-            tail-past t e (omega arith) (record_count t) refl m ∙ ends_at t p e (left_stop (ne_eqb (kind_of t e) 3 (λ j. absurd (let n = inside t w e 2 j in omega arith))) g)
+            tail_past t e (omega arith) (record_count t) refl m ∙ ends_at t p e (left_stop (ne_eqb (kind_of t e) 3 (λ j. absurd (let n = inside t w e 2 j in omega arith))) g)
 
-    pub templates-go : true ≡ within t (template_end t q) → (q < q + r.c) × TemplatesLeft t p (q + r.c)
+    pub templates_go : true ≡ within t (template_end t q) → (q < q + r.c) × TemplatesLeft t p (q + r.c)
     unfolding within on_found
-    templates-go z = go (template_end t q) refl
+    templates_go z = go (template_end t q) refl
       where
         go : (o : Option ℕ) → template_end t q ≡ o → (q < q + r.c) × TemplatesLeft t p (q + r.c)
         go none i = absurd (let x : ◌≡◌ {A = ℕ} 0 1 = cc (rw i at z) in omega arith)

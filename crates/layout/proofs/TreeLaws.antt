@@ -77,50 +77,50 @@ module _ (head_end : ℕ → Option ℕ) (size below : ℕ → ℕ) where
     -- and back
     mutual
       sized : {p e : ℕ} → Tree p e → (p < e) × (p + size p ≡ e)
-      sized (tree {p} {q} {e} h ns r) = (omega (arith, forward p q h, sized-all ns), r)
+      sized (tree {p} {q} {e} h ns r) = (omega (arith, forward p q h, sized_all ns), r)
 
-      sized-all : {n p e : ℕ} → Trees n p e → p ≤ e
-      sized-all (end r) = omega arith
-      sized-all (more m ns) = omega (arith, (sized m).0, sized-all ns)
+      sized_all : {n p e : ℕ} → Trees n p e → p ≤ e
+      sized_all (end r) = omega arith
+      sized_all (more m ns) = omega (arith, (sized m).0, sized_all ns)
 
     chained : {n p e : ℕ} → Trees n p e → Chain n p e
     chained (end r) = last r
     chained (more {n} {p} {q} {e} m ns) =
         let z = sized m in
-        link {p = p} {e = e} (omega (arith, z.0, sized-all ns)) (omega (arith, z.0, z.1)) (subst (λ (x : ℕ). Chain n x e) (sym z.1) (chained ns))
+        link {p = p} {e = e} (omega (arith, z.0, sized_all ns)) (omega (arith, z.0, z.1)) (subst (λ (x : ℕ). Chain n x e) (sym z.1) (chained ns))
 
-    scan-le : {p e : ℕ} → Scan p e → p ≤ e
-    scan-le (stop r) = omega arith
-    scan-le (step l h c s) = omega arith
+    scan_le : {p e : ℕ} → Scan p e → p ≤ e
+    scan_le (stop r) = omega arith
+    scan_le (step l h c s) = omega arith
 
     mutual
       scanned : {p e f : ℕ} → Tree p e → Scan e f → Scan p f
       scanned {f = f} (tree {p} {q} {e} h ns r) s =
-          step {p = p} {e = f} (omega (arith, scan-le s)) h (subst (λ (x : ℕ). Chain (below p) q x) (sym r) (chained ns)) (scanned-all ns s)
+          step {p = p} {e = f} (omega (arith, scan_le s)) h (subst (λ (x : ℕ). Chain (below p) q x) (sym r) (chained ns)) (scanned_all ns s)
 
-      scanned-all : {n p e f : ℕ} → Trees n p e → Scan e f → Scan p f
-      scanned-all {f = f} (end r) s = subst (λ (x : ℕ). Scan x f) (sym r) s
-      scanned-all (more m ns) s = scanned m (scanned-all ns s)
+      scanned_all : {n p e f : ℕ} → Trees n p e → Scan e f → Scan p f
+      scanned_all {f = f} (end r) s = subst (λ (x : ℕ). Scan x f) (sym r) s
+      scanned_all (more m ns) s = scanned m (scanned_all ns s)
 
     -- the tests and the relations
-    pub chain-sound : (n p e : ℕ) → chain size n p e ≡ true → Chain n p e
+    pub chain_sound : (n p e : ℕ) → chain size n p e ≡ true → Chain n p e
     unfolding chain
-    chain-sound zero p e t = last (eqb-true p e t)
-    chain-sound (suc n) p e t =
+    chain_sound zero p e t = last (eqb-true p e t)
+    chain_sound (suc n) p e t =
         let r : Bool = chain size n (p + size p) e in
         let u = (and_true (ltb p e) (ltb 0 (size p) && r) t).1 in
         link (ltb-true p e (and_true (ltb p e) (ltb 0 (size p) && r) t).0) (ltb-true 0 (size p) (and_true (ltb 0 (size p)) r u).0)
-        (chain-sound n (p + size p) e (and_true (ltb 0 (size p)) r u).1)
+        (chain_sound n (p + size p) e (and_true (ltb 0 (size p)) r u).1)
 
-    chain-complete : {n p e : ℕ} → Chain n p e → chain size n p e ≡ true
+    chain_complete : {n p e : ℕ} → Chain n p e → chain size n p e ≡ true
     unfolding chain
-    chain-complete (last {p} {e} r) = eq-eqb p e r
-    chain-complete (link {n} {p} {e} l g c) = rw (lt-ltb p e l, lt-ltb 0 (size p) g) (chain-complete c)
+    chain_complete (last {p} {e} r) = eq-eqb p e r
+    chain_complete (link {n} {p} {e} l g c) = rw (lt-ltb p e l, lt-ltb 0 (size p) g) (chain_complete c)
 
-    scan-sound : (k p e : ℕ) → scan head_end size below k p e ≡ true → Scan p e
+    scan_sound : (k p e : ℕ) → scan head_end size below k p e ≡ true → Scan p e
     unfolding scan on_found
-    scan-sound zero p e t = stop (eqb-true p e t)
-    scan-sound (suc k) p e t = go (scan-sound k) (ltb p e) refl (head_end p) refl
+    scan_sound zero p e t = stop (eqb-true p e t)
+    scan_sound (suc k) p e t = go (scan_sound k) (ltb p e) refl (head_end p) refl
       where
         go : ((q f : ℕ) → scan head_end size below k q f ≡ true → Scan q f) → (b : Bool) → ltb p e ≡ b → (x : Option ℕ) → head_end p ≡ x → Scan p e
         go ih false b x h = stop (eqb-true p e (rw (scan, b) at t))
@@ -131,46 +131,46 @@ module _ (head_end : ℕ → Option ℕ) (size below : ℕ → ℕ) where
             let i : Bool = leb (p + size p) e in
             let u : i && (a && r) ≡ true = rw (scan, b, h) at t in
             let v = (and_true i (a && r) u).1 in
-            step (leb-true (p + size p) e (and_true i (a && r) u).0) h (chain-sound (below p) q (p + size p) (and_true a r v).0) (ih q e (and_true a r v).1)
+            step (leb-true (p + size p) e (and_true i (a && r) u).0) h (chain_sound (below p) q (p + size p) (and_true a r v).0) (ih q e (and_true a r v).1)
 
-    scan-complete : {p e : ℕ} (k : ℕ) → Scan p e → e - p ≤ k → scan head_end size below k p e ≡ true
+    scan_complete : {p e : ℕ} (k : ℕ) → Scan p e → e - p ≤ k → scan head_end size below k p e ≡ true
     unfolding scan on_found
-    scan-complete {p} {e} zero s l = let w = scan-le s in eq-eqb p e (omega arith)
-    scan-complete (suc k) (stop {p} {e} r) l = rw (scan, le-ltb p e (omega arith)) (eq-eqb p e r)
-    scan-complete (suc k) (step {p} {q} {e} i h c s) l =
+    scan_complete {p} {e} zero s l = let w = scan_le s in eq-eqb p e (omega arith)
+    scan_complete (suc k) (stop {p} {e} r) l = rw (scan, le-ltb p e (omega arith)) (eq-eqb p e r)
+    scan_complete (suc k) (step {p} {q} {e} i h c s) l =
         let g = forward p q h in
-        let w = scan-le s in
-        rw (scan, lt-ltb p e (omega arith), le-leb (p + size p) e i, h, chain-complete c) (scan-complete k s (omega arith))
+        let w = scan_le s in
+        rw (scan, lt-ltb p e (omega arith), le-leb (p + size p) e i, h, chain_complete c) (scan_complete k s (omega arith))
 
-    row-sound : (one : ℕ → Option ℕ) → ((p e : ℕ) → one p ≡ some e → Tree p e) → (n p e : ℕ) → in_row one n p ≡ some e → Trees n p e
+    row_sound : (one : ℕ → Option ℕ) → ((p e : ℕ) → one p ≡ some e → Tree p e) → (n p e : ℕ) → in_row one n p ≡ some e → Trees n p e
     unfolding in_row
-    row-sound one f zero p e t = let w : p ≡ e = cc in end w
-    row-sound one f (suc n) p e t =
+    row_sound one f zero p e t = let w : p ≡ e = cc in end w
+    row_sound one f (suc n) p e t =
         let h = then_some (one p) (in_row one n) e t in
-        more (f p h.0 h.1) (row-sound one f n h.0 e h.2)
+        more (f p h.0 h.1) (row_sound one f n h.0 e h.2)
 
-    end-sound : (k p e : ℕ) → tree_end k p ≡ some e → Tree p e
+    end_sound : (k p e : ℕ) → tree_end k p ≡ some e → Tree p e
     unfolding tree_end
-    end-sound zero p e t = absurd (none-ne-some e t)
-    end-sound (suc k) p e t =
+    end_sound zero p e t = absurd (none-ne-some e t)
+    end_sound (suc k) p e t =
         let h = then_some (head_end p) _ e t in
         let r = then_some (in_row (tree_end k) (below p) h.0) _ e h.2 in
         let u = only_some (eqb (p + size p) r.0) r.0 e r.2 in
-        let ns = row-sound (tree_end k) (end-sound k) (below p) h.0 r.0 r.1 in
+        let ns = row_sound (tree_end k) (end_sound k) (below p) h.0 r.0 r.1 in
         tree h.1 (subst (λ (x : ℕ). Trees (below p) h.0 x) u.1 ns) (eqb-true (p + size p) r.0 u.0 ∙ u.1)
 
     mutual
       unfolding tree_end then_read on_found only_if in_row
 
-      end-complete : {p e : ℕ} → Tree p e → (k : ℕ) → e - p ≤ k → tree_end k p ≡ some e
-      end-complete (tree {p} {q} {e} h ns r) zero l = absurd (omega (arith, forward p q h, sized-all ns))
-      end-complete (tree {p} {q} {e} h ns r) (suc k) l =
-          rw (tree_end, h, row-complete ns k (omega (arith, forward p q h, sized-all ns)), eq-eqb (p + size p) e r)
+      end_complete : {p e : ℕ} → Tree p e → (k : ℕ) → e - p ≤ k → tree_end k p ≡ some e
+      end_complete (tree {p} {q} {e} h ns r) zero l = absurd (omega (arith, forward p q h, sized_all ns))
+      end_complete (tree {p} {q} {e} h ns r) (suc k) l =
+          rw (tree_end, h, row_complete ns k (omega (arith, forward p q h, sized_all ns)), eq-eqb (p + size p) e r)
 
-      row-complete : {n p e : ℕ} → Trees n p e → (k : ℕ) → e - p ≤ k → in_row (tree_end k) n p ≡ some e
-      row-complete (end r) k l = ap some r
-      row-complete (more {n} {p} {q} {e} m ns) k l =
-          rw (in_row, end-complete m k (omega (arith, (sized m).0, sized-all ns))) (row-complete ns k (omega (arith, (sized m).0, sized-all ns)))
+      row_complete : {n p e : ℕ} → Trees n p e → (k : ℕ) → e - p ≤ k → in_row (tree_end k) n p ≡ some e
+      row_complete (end r) k l = ap some r
+      row_complete (more {n} {p} {q} {e} m ns) k l =
+          rw (in_row, end_complete m k (omega (arith, (sized m).0, sized_all ns))) (row_complete ns k (omega (arith, (sized m).0, sized_all ns)))
 
     lone : {n p e : ℕ} → Trees n p e → n ≡ 1 → Tree p e
     lone (end r) z = absurd (omega arith)
@@ -178,30 +178,30 @@ module _ (head_end : ℕ → Option ℕ) (size below : ℕ → ℕ) where
     lone (more m (more k ns)) z = absurd (omega arith)
 
     -- exactly one thing from p to e
-    lone-end : ℕ → ℕ → ℕ → Bool
-    lone-end k p e = on_found (tree_end k p) false (λ q. eqb q e)
+    lone_end : ℕ → ℕ → ℕ → Bool
+    lone_end k p e = on_found (tree_end k p) false (λ q. eqb q e)
 
-    lone-sound : (k p e : ℕ) → lone-end k p e ≡ true → Tree p e
-    unfolding lone-end on_found
-    lone-sound k p e t = go (tree_end k p) refl
+    lone_sound : (k p e : ℕ) → lone_end k p e ≡ true → Tree p e
+    unfolding lone_end on_found
+    lone_sound k p e t = go (tree_end k p) refl
       where
         go : (x : Option ℕ) → tree_end k p ≡ x → Tree p e
-        go none h = absurd (false≢true (rw (lone-end, h) at t))
-        go (some q) h = end-sound k p e (h ∙ ap some (eqb-true q e (rw (lone-end, h) at t)))
+        go none h = absurd (false≢true (rw (lone_end, h) at t))
+        go (some q) h = end_sound k p e (h ∙ ap some (eqb-true q e (rw (lone_end, h) at t)))
 
-    lone-complete : (k p e : ℕ) → e - p ≤ k → Tree p e → lone-end k p e ≡ true
-    unfolding lone-end on_found
-    lone-complete k p e l m = rw (lone-end, end-complete m k l) (eq-eqb e e refl)
+    lone_complete : (k p e : ℕ) → e - p ≤ k → Tree p e → lone_end k p e ≡ true
+    unfolding lone_end on_found
+    lone_complete k p e l m = rw (lone_end, end_complete m k l) (eq-eqb e e refl)
 
     -- a thing laid out goes forward, to where its size says
-    pub end-sized : (k p e : ℕ) → tree_end k p ≡ some e → (p < e) × (p + size p ≡ e)
-    end-sized k p e t = sized (end-sound k p e t)
+    pub end_sized : (k p e : ℕ) → tree_end k p ≡ some e → (p < e) × (p + size p ≡ e)
+    end_sized k p e t = sized (end_sound k p e t)
 
     -- one thing from p to e by recursion is one thing by its size, and a scan of the heads that ends at e
-    pub fills-scan : (k p e : ℕ) → e - p ≤ k
+    pub fills_scan : (k p e : ℕ) → e - p ≤ k
         → on_found (tree_end k p) false (λ q. eqb q e) ≡ chain size 1 p e && scan head_end size below (e - p) p e
-    unfolding lone-end
-    fills-scan k p e l = same_bool (lone-end k p e) (a && b) there back
+    unfolding lone_end
+    fills_scan k p e l = same_bool (lone_end k p e) (a && b) there back
       where
         a : Bool
         a = chain size 1 p e
@@ -209,22 +209,22 @@ module _ (head_end : ℕ → Option ℕ) (size below : ℕ → ℕ) where
         b : Bool
         b = scan head_end size below (e - p) p e
 
-        there : lone-end k p e ≡ true → a && b ≡ true
+        there : lone_end k p e ≡ true → a && b ≡ true
         there t =
-            let m : Tree p e = lone-sound k p e t in
-            rw (chain-complete (chained (more m (end refl))), scan-complete (e - p) (scanned m (stop refl)) (omega arith))
+            let m : Tree p e = lone_sound k p e t in
+            rw (chain_complete (chained (more m (end refl))), scan_complete (e - p) (scanned m (stop refl)) (omega arith))
 
-        back : a && b ≡ true → lone-end k p e ≡ true
+        back : a && b ≡ true → lone_end k p e ≡ true
         back t =
-            lone-complete k p e l
-            (lone (laid (e - p) (scan-sound (e - p) p e (and_true a b t).1) (chain-sound 1 p e (and_true a b t).0) (omega arith) (omega arith)).0 refl)
+            lone_complete k p e l
+            (lone (laid (e - p) (scan_sound (e - p) p e (and_true a b t).1) (chain_sound 1 p e (and_true a b t).0) (omega arith) (omega arith)).0 refl)
 
     -- fuel beyond the length of the scan is of no account
-    scan-fuel : (j k p e : ℕ) → e - p ≤ j → e - p ≤ k → scan head_end size below j p e ≡ scan head_end size below k p e
-    scan-fuel j k p e a b =
+    scan_fuel : (j k p e : ℕ) → e - p ≤ j → e - p ≤ k → scan head_end size below j p e ≡ scan head_end size below k p e
+    scan_fuel j k p e a b =
         same_bool (scan head_end size below j p e) (scan head_end size below k p e)
-        (λ t. scan-complete k (scan-sound j p e t) b)
-        (λ t. scan-complete j (scan-sound k p e t) a)
+        (λ t. scan_complete k (scan_sound j p e t) b)
+        (λ t. scan_complete j (scan_sound k p e t) a)
 
     -- a turn of the scan
     pub scan_step : (p q e : ℕ) → p < e → p + size p ≤ e → head_end p ≡ some q → chain size (below p) q (p + size p) ≡ true
@@ -232,20 +232,20 @@ module _ (head_end : ℕ → Option ℕ) (size below : ℕ → ℕ) where
     unfolding scan on_found
     scan_step p q e l i h c =
         let g : p < q = forward p q h in
-        rw (one_less e p l, scan, lt-ltb p e l, le-leb (p + size p) e i, h, c) (scan-fuel (e - (p + 1)) (e - q) q e (omega arith) (omega arith))
+        rw (one_less e p l, scan, lt-ltb p e l, le-leb (p + size p) e i, h, c) (scan_fuel (e - (p + 1)) (e - q) q e (omega arith) (omega arith))
 
-    pub scan-long : (p e : ℕ) → p < e → e < p + size p → scan head_end size below (e - p) p e ≡ false
+    pub scan_long : (p e : ℕ) → p < e → e < p + size p → scan head_end size below (e - p) p e ≡ false
     unfolding scan
-    scan-long p e l i = rw (one_less e p l, scan, lt-ltb p e l, lt-leb (p + size p) e i)
+    scan_long p e l i = rw (one_less e p l, scan, lt-ltb p e l, lt-leb (p + size p) e i)
 
-    pub scan-no-head : (p e : ℕ) → p < e → p + size p ≤ e → head_end p ≡ none → scan head_end size below (e - p) p e ≡ false
+    pub scan_no_head : (p e : ℕ) → p < e → p + size p ≤ e → head_end p ≡ none → scan head_end size below (e - p) p e ≡ false
     unfolding scan on_found
-    scan-no-head p e l i h = rw (one_less e p l, scan, lt-ltb p e l, le-leb (p + size p) e i, h)
+    scan_no_head p e l i h = rw (one_less e p l, scan, lt-ltb p e l, le-leb (p + size p) e i, h)
 
-    pub scan-no-chain : (p q e : ℕ) → p < e → p + size p ≤ e → head_end p ≡ some q → chain size (below p) q (p + size p) ≡ false
+    pub scan_no_chain : (p q e : ℕ) → p < e → p + size p ≤ e → head_end p ≡ some q → chain size (below p) q (p + size p) ≡ false
         → scan head_end size below (e - p) p e ≡ false
     unfolding scan on_found
-    scan-no-chain p q e l i h c = rw (one_less e p l, scan, lt-ltb p e l, le-leb (p + size p) e i, h, c)
+    scan_no_chain p q e l i h c = rw (one_less e p l, scan, lt-ltb p e l, le-leb (p + size p) e i, h, c)
 
     pub scan_end : (p e : ℕ) → e ≤ p → scan head_end size below (e - p) p e ≡ eqb p e
     unfolding scan

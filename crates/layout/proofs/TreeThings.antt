@@ -17,7 +17,7 @@ use Rattle.rules.specs.declared.Form.{Form}
 use Rattle.rules.specs.declared.Form.TheVariants.{Build, Literal, Place, Expand, If, For, Sequence, Match, Unknown}
 use Rattle.layout.specs.Tree.{Thing, Node, Value, text_head, path_head, bare_path_head, form_head, form_below, kind_head, kind_below, head_end, below, thing_end}
 use Rattle.laws.specs.Reads.{only_some, then_some, some_then}
-use Rattle.layout.proofs.TreeLaws.{tree_end, end-sized}
+use Rattle.layout.proofs.TreeLaws.{tree_end, end_sized}
 
 -- A row of records
 
@@ -216,4 +216,4 @@ thing_is Value s (suc k) p =
 
 pub thing_sized : (thing : Thing) (s : List ℕ) (k p q : ℕ) → thing_end thing s k p ≡ some q → (p < q) × (p + value_size s p ≡ q)
 thing_sized thing s k p q e =
-    end-sized (head_end thing s) (value_size s) (below thing s) (head_grows thing s) k p q (sym (thing_is thing s k p) ∙ e)
+    end_sized (head_end thing s) (value_size s) (below thing s) (head_grows thing s) k p q (sym (thing_is thing s k p) ∙ e)

@@ -14,7 +14,7 @@ use Rattle.rules.specs.Layout.{then_read, text_end}
 use Rattle.layout.specs.declared.tree.Head.{Head}
 use Rattle.layout.specs.declared.tree.Head.TheVariants.{Right, Wrong}
 use Rattle.layout.specs.Tree.{Thing, chain, scan, text_head, head_end, below, fills, Headed}
-use Rattle.layout.proofs.TreeLaws.{fills-scan, scan_step, scan-long, scan-no-head, scan-no-chain, scan_end}
+use Rattle.layout.proofs.TreeLaws.{fills_scan, scan_step, scan_long, scan_no_head, scan_no_chain, scan_end}
 use Rattle.laws.specs.Rows.{one_less}
 use Rattle.layout.proofs.TreeThings.{thing_is, head_grows}
 
@@ -26,18 +26,18 @@ module _ (size : ℕ → ℕ) (n k q e : ℕ) where
   chain_done l = let z : n - k ≡ 0 = omega arith in rw z
 
   module _ (l : k < n) where
-    pub chain-late : e ≤ q → chain size (n - k) q e ≡ false
+    pub chain_late : e ≤ q → chain size (n - k) q e ≡ false
     unfolding chain
-    chain-late g = rw (one_less n k l, chain, le-ltb q e g)
+    chain_late g = rw (one_less n k l, chain, le-ltb q e g)
 
     module _ (g : q < e) (m : ℕ) (z : m ≡ size q) where
-      pub chain-empty : m < 1 → chain size (n - k) q e ≡ false
+      pub chain_empty : m < 1 → chain size (n - k) q e ≡ false
       unfolding chain
-      chain-empty i = rw (one_less n k l, chain, lt-ltb q e g, le-ltb 0 (size q) (omega arith))
+      chain_empty i = rw (one_less n k l, chain, lt-ltb q e g, le-ltb 0 (size q) (omega arith))
 
-      pub chain-go : 1 ≤ m → chain size (n - k) q e ≡ chain size (n - (k + 1)) (q + m) e
+      pub chain_go : 1 ≤ m → chain size (n - k) q e ≡ chain size (n - (k + 1)) (q + m) e
       unfolding chain
-      chain-go i = rw (one_less n k l, chain, lt-ltb q e g, lt-ltb 0 (size q) (omega arith), z)
+      chain_go i = rw (one_less n k l, chain, lt-ltb q e g, lt-ltb 0 (size q) (omega arith), z)
 
 -- What the code says of a head
 
@@ -105,7 +105,7 @@ module _ (thing : Thing) (s : List ℕ) where
   fills_is : (p e : ℕ) → e ≤ record_count s → fills thing s p e ≡ chain (value_size s) 1 p e && rest p e
   unfolding fills rest
   fills_is p e l =
-      rw (thing_is thing s (record_count s) p) (fills-scan (head_end thing s) (value_size s) (below thing s) (head_grows thing s) (record_count s) p e (omega arith))
+      rw (thing_is thing s (record_count s) p) (fills_scan (head_end thing s) (value_size s) (below thing s) (head_grows thing s) (record_count s) p e (omega arith))
 
   pub one_start : (p e : ℕ) → e ≤ record_count s → chain (value_size s) 1 p e ≡ true → rest p e ≡ fills thing s p e
   one_start p e l c = sym (fills_is p e l ∙ rw c)
@@ -119,32 +119,32 @@ module _ (thing : Thing) (s : List ℕ) where
 
   -- a turn, from what the code has of the head at q
   module _ (q e size : ℕ) (l : q < e) (z : size ≡ value_size s q) where
-    pub turn-long : e < q + size → rest q e ≡ false
+    pub turn_long : e < q + size → rest q e ≡ false
     unfolding rest
-    turn-long i = scan-long (head_end thing s) (value_size s) (below thing s) (head_grows thing s) q e l (omega arith)
+    turn_long i = scan_long (head_end thing s) (value_size s) (below thing s) (head_grows thing s) q e l (omega arith)
 
     module _ (i : q + size ≤ e) (h : Head) (is : Headed q h (head_end thing s q) (below thing s q)) where
-      pub turn-wrong : h ≡ Wrong → rest q e ≡ false
+      pub turn_wrong : h ≡ Wrong → rest q e ≡ false
       unfolding rest
-      turn-wrong w =
-          scan-no-head (head_end thing s) (value_size s) (below thing s) (head_grows thing s) q e l (omega arith)
+      turn_wrong w =
+          scan_no_head (head_end thing s) (value_size s) (below thing s) (head_grows thing s) q e l (omega arith)
           (head_wrong q h (head_end thing s q) (below thing s q) is w)
 
       module _ (own n : ℕ) (w : h ≡ Right own n) (b : Bool) (c : b ≡ chain (value_size s) n (q + own) (q + size)) where
-        chain-is : b ≡ chain (value_size s) (below thing s q) (q + own) (q + value_size s q)
-        chain-is = c ∙ rw (z, (head_right q h (head_end thing s q) (below thing s q) is own n w).1)
+        chain_is : b ≡ chain (value_size s) (below thing s q) (q + own) (q + value_size s q)
+        chain_is = c ∙ rw (z, (head_right q h (head_end thing s q) (below thing s q) is own n w).1)
 
-        pub turn-stop : b ≡ false → rest q e ≡ false
+        pub turn_stop : b ≡ false → rest q e ≡ false
         unfolding rest
-        turn-stop f =
-            scan-no-chain (head_end thing s) (value_size s) (below thing s) (head_grows thing s) q (q + own) e l (omega arith)
-            (head_right q h (head_end thing s q) (below thing s q) is own n w).0 (sym chain-is ∙ f)
+        turn_stop f =
+            scan_no_chain (head_end thing s) (value_size s) (below thing s) (head_grows thing s) q (q + own) e l (omega arith)
+            (head_right q h (head_end thing s q) (below thing s q) is own n w).0 (sym chain_is ∙ f)
 
-        pub turn-go : b ≡ true → rest q e ≡ rest (q + own) e
+        pub turn_go : b ≡ true → rest q e ≡ rest (q + own) e
         unfolding rest
-        turn-go f =
+        turn_go f =
             scan_step (head_end thing s) (value_size s) (below thing s) (head_grows thing s) q (q + own) e l (omega arith)
-            (head_right q h (head_end thing s q) (below thing s q) is own n w).0 (sym chain-is ∙ f)
+            (head_right q h (head_end thing s q) (below thing s q) is own n w).0 (sym chain_is ∙ f)
 
-      pub own-some : (own n : ℕ) → h ≡ Right own n → q < q + own
-      own-some own n w = head_grows thing s q (q + own) (head_right q h (head_end thing s q) (below thing s q) is own n w).0
+      pub own_some : (own n : ℕ) → h ≡ Right own n → q < q + own
+      own_some own n w = head_grows thing s q (q + own) (head_right q h (head_end thing s q) (below thing s q) is own n w).0

@@ -80,38 +80,38 @@ module _ (t : List ℕ) (p : ℕ) (r : Record) (f : Fetched t p r) where
       ∙ only_same (eqb (field_d t p) 0) end (p + 1) (λ e. let z : field_d t p ≡ 0 = eqb-true (field_d t p) 0 e in omega arith)
 
   module _ (c : r.c ≡ 0) where
-    zero-c : eqb (field_c t p) 0 ≡ true
-    zero-c = eq-eqb (field_c t p) 0 (sym f.c ∙ c)
+    zero_c : eqb (field_c t p) 0 ≡ true
+    zero_c = eq-eqb (field_c t p) 0 (sym f.c ∙ c)
 
-    pub type-named : (r.a ≡ 0) ⊎ (r.a ≡ 2) → only_if (eqb r.d 0) end ≡ type_end t p
+    pub type_named_lem : (r.a ≡ 0) ⊎ (r.a ≡ 2) → only_if (eqb r.d 0) end ≡ type_end t p
     unfolding type_form_end
-    type-named e = no_fields ∙ ⊎_elim (λ a. sym (type_at 0 a ∙ rw zero-c)) (λ a. sym (type_at 2 a ∙ rw zero-c)) e
+    type_named_lem e = no_fields ∙ ⊎_elim (λ a. sym (type_at 0 a ∙ rw zero_c)) (λ a. sym (type_at 2 a ∙ rw zero_c)) e
 
-    pub type-used-b : r.a ≡ 1 → (r.b ≡ 0 → ⊥) → only_if false end ≡ type_end t p
+    pub type_used_b : r.a ≡ 1 → (r.b ≡ 0 → ⊥) → only_if false end ≡ type_end t p
     unfolding type_form_end only_if
-    type-used-b a b = not_type 1 a (rw (ne_eqb (field_b t p) 0 (λ e. b (f.b ∙ e))))
+    type_used_b a b = not_type 1 a (rw (ne_eqb (field_b t p) 0 (λ e. b (f.b ∙ e))))
 
-    pub fields-used-b : (r.b ≡ 0 → ⊥) → only_if false end ≡ fields_end t p
+    pub fields_used_b : (r.b ≡ 0 → ⊥) → only_if false end ≡ fields_end t p
     unfolding fields_end only_if then_read on_found
-    fields-used-b b = sym (rw (ne_eqb (field_b t p) 0 (λ e. b (f.b ∙ e))))
+    fields_used_b b = sym (rw (ne_eqb (field_b t p) 0 (λ e. b (f.b ∙ e))))
 
     module _ (b : r.b ≡ 0) where
-      zero-b : eqb (field_b t p) 0 ≡ true
-      zero-b = eq-eqb (field_b t p) 0 (sym f.b ∙ b)
+      zero_b : eqb (field_b t p) 0 ≡ true
+      zero_b = eq-eqb (field_b t p) 0 (sym f.b ∙ b)
 
-      pub type-yes-no : r.a ≡ 1 → only_if (eqb r.d 0) end ≡ type_end t p
+      pub type_yes_no : r.a ≡ 1 → only_if (eqb r.d 0) end ≡ type_end t p
       unfolding type_form_end
-      type-yes-no a = no_fields ∙ sym (type_at 1 a ∙ rw (zero-b, zero-c))
+      type_yes_no a = no_fields ∙ sym (type_at 1 a ∙ rw (zero_b, zero_c))
 
       pub fields_row : (z : Bool) → only_if z (p + 1 + r.d) ≡ in_row (record_end t 2) r.d (p + 1) → only_if z end ≡ fields_end t p
       unfolding fields_end record_end then_read on_found only_if
       fields_row z h =
           let e : only_if z end ≡ in_row (naming_end t 2) (field_d t p) (p + 1) = rw (← f.d) h in
-          e ∙ sym (rw (zero-b, zero-c))
+          e ∙ sym (rw (zero_b, zero_c))
 
-    pub type-record : r.a ≡ 3 → (z : Bool) → only_if z end ≡ fields_end t p → only_if z end ≡ type_end t p
+    pub type_record : r.a ≡ 3 → (z : Bool) → only_if z end ≡ fields_end t p → only_if z end ≡ type_end t p
     unfolding type_form_end
-    type-record a z h = h ∙ sym (type_at 3 a)
+    type_record a z h = h ∙ sym (type_at 3 a)
 
     -- a variant has 1 to 256 cases
     module _ (a : r.a ≡ 4) where
@@ -120,10 +120,10 @@ module _ (t : List ℕ) (p : ℕ) (r : Record) (f : Fetched t p r) where
       no_case l = not_type 4 a (rw (lt-leb 1 (field_d t p) (omega (arith, f.d))))
 
       module _ (l : 1 ≤ r.d) where
-        pub many-cases : 256 < r.d → only_if false end ≡ type_end t p
+        pub many_cases : 256 < r.d → only_if false end ≡ type_end t p
         unfolding type_form_end only_if then_read on_found
-        many-cases m = not_type 4 a (rw (le-leb 1 (field_d t p) (omega (arith, f.d)), lt-leb (field_d t p) 256 (omega (arith, f.d))))
+        many_cases m = not_type 4 a (rw (le-leb 1 (field_d t p) (omega (arith, f.d)), lt-leb (field_d t p) 256 (omega (arith, f.d))))
 
-        pub type-variant : r.d ≤ 256 → (z : Bool) → only_if z end ≡ fields_end t p → only_if z end ≡ type_end t p
+        pub type_variant : r.d ≤ 256 → (z : Bool) → only_if z end ≡ fields_end t p → only_if z end ≡ type_end t p
         unfolding type_form_end only_if then_read on_found
-        type-variant m z h = h ∙ sym (type_at 4 a ∙ rw (le-leb 1 (field_d t p) (omega (arith, f.d)), le-leb (field_d t p) 256 (omega (arith, f.d))))
+        type_variant m z h = h ∙ sym (type_at 4 a ∙ rw (le-leb 1 (field_d t p) (omega (arith, f.d)), le-leb (field_d t p) 256 (omega (arith, f.d))))

@@ -17,7 +17,7 @@ use Rattle.layout.specs.declared.tree.Head.{Head}
 use Rattle.layout.specs.declared.tree.Head.TheVariants.{Right, Wrong}
 use Rattle.layout.specs.Tree.{Value, text_head, kind_head, kind_below, head_end, below, thing_end, fills, Headed, yes_no, case_head}
 use Rattle.laws.specs.Faults.{only_no}
-use Rattle.layout.proofs.CommonLaws.{tail-past}
+use Rattle.layout.proofs.CommonLaws.{tail_past}
 use Rattle.layout.proofs.TreeThings.{thing_sized}
 use Rattle.layout.proofs.TreeTurns.{wrong, right, as_head, found_true, found_false}
 
@@ -111,9 +111,9 @@ module _ (v : List ℕ) (p : ℕ) (r : Record) (f : Fetched v p r) where
     unfolding kind_head kind_below then_read on_found only_if
     a_text k d h is = as_head ((at_kind 1 k).0 ∙ rw (zero_a, eq-eqb (field_d v p) 0 (sym f.d ∙ d))) (at_kind 1 k).1 is
 
-    pub not-text : r.kind ≡ 1 → (r.d ≡ 0 → ⊥) → Headed p Wrong (head_end Value v p) (below Value v p)
+    pub not_text : r.kind ≡ 1 → (r.d ≡ 0 → ⊥) → Headed p Wrong (head_end Value v p) (below Value v p)
     unfolding kind_head
-    not-text k d = not_head 1 k (no_head _ p (text_head v) (rw (zero_a, ne_eqb (field_d v p) 0 (λ e. d (f.d ∙ e)))))
+    not_text k d = not_head 1 k (no_head _ p (text_head v) (rw (zero_a, ne_eqb (field_d v p) 0 (λ e. d (f.d ∙ e)))))
 
     pub a_list : 3 ≤ r.kind → r.kind < 5 → r.b ≡ 0 → Headed p (Right 1 r.d) (head_end Value v p) (below Value v p)
     unfolding only_if
@@ -122,8 +122,8 @@ module _ (v : List ℕ) (p : ℕ) (r : Record) (f : Fetched v p r) where
         let c = with_children v p r.kind l m in
         right p _ 1 r.d _ (k.0 ∙ c.0 ∙ rw (zero_a, eq-eqb (field_b v p) 0 (sym f.b ∙ b))) (f.d ∙ sym (k.1 ∙ c.1))
 
-    pub not-list : 3 ≤ r.kind → r.kind < 5 → (r.b ≡ 0 → ⊥) → Headed p Wrong (head_end Value v p) (below Value v p)
-    not-list l m b =
+    pub not_list : 3 ≤ r.kind → r.kind < 5 → (r.b ≡ 0 → ⊥) → Headed p Wrong (head_end Value v p) (below Value v p)
+    not_list l m b =
         not_head r.kind refl
         ((with_children v p r.kind l m).0 ∙ only_no _ (p + 1) (rw (zero_a, ne_eqb (field_b v p) 0 (λ e. b (f.b ∙ e)))))
 
@@ -151,7 +151,7 @@ module _ (v : List ℕ) (e : ℕ) (z : e ≡ value_size v 0) where
   broken l = ap (λ (b : Bool). need b 0) (sym (none_right (value_end v (record_count v) 0) l))
 
   pub value_past : record_count v < e → need false 0 ≡ value_layout v
-  value_past l = broken (λ q h. let i = ends_there q h in sym (tail-past v q (omega arith) (record_count v) refl (omega arith)))
+  value_past l = broken (λ q h. let i = ends_there q h in sym (tail_past v q (omega arith) (record_count v) refl (omega arith)))
 
   pub value_wrong : false ≡ fills Value v 0 e → need false 0 ≡ value_layout v
   unfolding fills thing_end

@@ -85,8 +85,8 @@ pub(crate) fn value_head(v: &[u8], at: Place, r: Record, size: usize) -> Head
 // has fewer than n, so that a small stream takes small rows.
 pub fn value_layout(v: &[u8], firsts: &mut [u16], places: &mut [u16]) -> bool
     requires v_value { stream_length v.now ≡ none }
-    requires v_in_bounds { record_count v.now ≤ length firsts.old }
-    requires v_in_bounds_2 { record_count v.now ≤ length places.old }
+    requires firsts_room { record_count v.now ≤ length firsts.old }
+    requires places_room { record_count v.now ≤ length places.old }
     ensures { (need result 0 ≡ value_layout v.now) × (result ≡ true → Children v.now firsts.new places.new) }
 {
     let e = size_of(fetch(v, 0));

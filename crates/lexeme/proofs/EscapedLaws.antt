@@ -118,19 +118,19 @@ module _ (g : List ℕ) (p : ℕ) (s : List ℕ) (t rest : Text) (state : Scan) 
         ∙ settles_on g p state r.byte (unescaped (text_in s rest'))
         ∙ ap (λ (x : Scan). settles g p x (unescaped (text_in s rest'))) (sym (f ∙ ap (scanned g (ranges g p) state) y))
 
-    pub unescape-turn : r.byte < 256 → next.good ≡ true → next.count ≤ field_c g p → Unescaping g p s t next rest'
-    unescape-turn b o m = record {
+    pub unescape_turn : r.byte < 256 → next.good ≡ true → next.count ≤ field_c g p → Unescaping g p s t next rest'
+    unescape_turn b o m = record {
       tidy = rw f (tidy_scanned g (ranges g p) part state h.tidy (rw y (one_byte r.byte b)) (rw f at o));
       most = m;
       there = rw (skipped, length-drop) (omega (arith, h.there, k.left));
       same = onward;
     }
 
-    pub unescape-bad : next.good ≡ false → false ≡ verdict g p s t
-    unescape-bad o = sym (onward ∙ settles_bad g p next (unescaped (text_in s rest')) o)
+    pub unescape_bad : next.good ≡ false → false ≡ verdict g p s t
+    unescape_bad o = sym (onward ∙ settles_bad g p next (unescaped (text_in s rest')) o)
 
-    pub unescape-past : field_c g p < next.count → false ≡ verdict g p s t
-    unescape-past m = sym (onward ∙ settles_past g p next (unescaped (text_in s rest')) m)
+    pub unescape_past : field_c g p < next.count → false ≡ verdict g p s t
+    unescape_past m = sym (onward ∙ settles_past g p next (unescaped (text_in s rest')) m)
 
 -- at the end of the text
 module _ (g : List ℕ) (p : ℕ) (s : List ℕ) (t : Text) (state : Scan) (rest : Text) (h : Unescaping g p s t state rest) (l : rest.left ≤ 0) where

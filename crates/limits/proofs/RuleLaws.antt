@@ -47,9 +47,9 @@ module _ (g : List ℕ) (p : ℕ) (escaped : Bool) (k : escaped ≡ of_kind g 5 
     unfolding class_bounds
     class_wrong l = sym (both_wrong _ (need_wrong p (rw (← h.b, ← h.c) (lt-leb _ _ l)))) ∙ plain_bounds e
 
-    pub class-ranges : x.b ≤ x.c → ranges_right g x.d p ≡ bounds_right g p
+    pub class_ranges : x.b ≤ x.c → ranges_right g x.d p ≡ bounds_right g p
     unfolding class_bounds ranges_right ranges
-    class-ranges l = sym (both_right _ (need_right p (rw (← h.b, ← h.c) (le-leb _ _ l))) ∙ rw h.d) ∙ plain_bounds e
+    class_ranges l = sym (both_right _ (need_right p (rw (← h.b, ← h.c) (le-leb _ _ l))) ∙ rw h.d) ∙ plain_bounds e
 
 -- what a grammar names: classes, then elements
 module _ (g cs ps : List ℕ) (hc : cs ≡ classes g) (hp : ps ≡ productions g) where

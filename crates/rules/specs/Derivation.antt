@@ -19,18 +19,18 @@ mutual
   -- "for a keyword its own bytes, for a class a lexeme of it, for a nonterminal a text that it derives, for a repetition any number of texts in a row";
   -- 02 c: the lexemes of an escaped class "are the plain lexemes with & < > " ' turned into the five predefined entities"
   pub data Piece (g : List ℕ) : Element → List ℕ → Type 0 where
-    own-bytes : (x : List ℕ) → Piece g (keyword x) x
-    a-lexeme : (c : ℕ) (x : List ℕ) → is_plain_lexeme g c x ≡ true → Piece g (lexeme c) x
-    an-escaped-lexeme : (c p : ℕ) (x : List ℕ) → escaped_class g c ≡ some p → is_plain_lexeme g (field_b g p) x ≡ true → Piece g (lexeme c) (escape x)
+    own_bytes : (x : List ℕ) → Piece g (keyword x) x
+    a_lexeme : (c : ℕ) (x : List ℕ) → is_plain_lexeme g c x ≡ true → Piece g (lexeme c) x
+    an_escaped_lexeme : (c p : ℕ) (x : List ℕ) → escaped_class g c ≡ some p → is_plain_lexeme g (field_b g p) x ≡ true → Piece g (lexeme c) (escape x)
     derived : (n : ℕ) (x : List ℕ) → Derives g n x → Piece g (nonterminal n) x
     repeated : (n : ℕ) (between x : List ℕ) → Row g n between x → Piece g (repetition n between) x
 
   -- "any number of texts in a row, none too, each derived by its nonterminal"
   pub data Row (g : List ℕ) : ℕ → List ℕ → List ℕ → Type 0 where
     no_text : (n : ℕ) (between : List ℕ) → Row g n between []
-    some-texts : (n : ℕ) (between x : List ℕ) → Texts g n between x → Row g n between x
+    some_texts : (n : ℕ) (between x : List ℕ) → Texts g n between x → Row g n between x
 
   -- 02 a: "one separator between neighbours and none elsewhere"
   pub data Texts (g : List ℕ) : ℕ → List ℕ → List ℕ → Type 0 where
-    last-text : (n : ℕ) (between x : List ℕ) → Derives g n x → Texts g n between x
+    last_text : (n : ℕ) (between x : List ℕ) → Derives g n x → Texts g n between x
     next_text : (n : ℕ) (between x rest : List ℕ) → Derives g n x → Texts g n between rest → Texts g n between (x ++ between ++ rest)

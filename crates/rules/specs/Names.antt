@@ -5,7 +5,7 @@ use Rattle.std.proofs.Math.Option.{Option}
 use Rattle.rules.specs.Faults.{need, both, every, tree, exists}
 use Rattle.rules.specs.Records.{field_b, of_kind, numbered}
 use Rattle.rules.specs.Grammar.{classes, class, plain_class, production, productions, Element, keyword, lexeme, nonterminal, repetition, unknown, element_at, element_heads, nonterminal_exists}
-use Rattle.rules.specs.Templates.{TypeForm, text, yes_no_lem, list, fields, cases, no_type, type, types, type_at, field_heads, template, templates, parameter_heads, body, form_of, nodes_below}
+use Rattle.rules.specs.Templates.{TypeForm, text, yes_no, list, fields, cases, no_type, type, types, type_at, field_heads, template, templates, parameter_heads, body, form_of, nodes_below}
 use Rattle.rules.specs.Limits.{deepest}
 use Rattle.rules.specs.declared.Form.{Form}
 use Rattle.rules.specs.declared.Form.TheVariants.{Build, Literal, Place, Expand, If, For, Sequence, Match, Unknown}
@@ -31,7 +31,7 @@ grammar_names g =
 -- a text type names a plain class, a list type a type; type n, a record, names earlier types in its fields; 02 g, of a variant: "every case an earlier type"
 unfoldable pub type_named : List ℕ → List ℕ → TypeForm → Bool
 type_named g t (text c) = exists (plain_class g c)
-type_named g t yes_no_lem = true
+type_named g t yes_no = true
 type_named g t (list n) = exists (type t n)
 type_named g t (fields ns) = true
 type_named g t (cases ns) = true

@@ -30,7 +30,7 @@ template t n = nth (templates t) n
 -- is a variant with d cases .., one field record each"
 pub data TypeForm : Type 0 where
   text : ℕ → TypeForm
-  yes_no_lem : TypeForm
+  yes_no : TypeForm
   list : ℕ → TypeForm
   fields : List ℕ → TypeForm
   cases : List ℕ → TypeForm
@@ -41,7 +41,7 @@ field_heads t p = row (field_d t p) (p + 1)
 
 unfoldable pub type_numbered : List ℕ → ℕ → ℕ → TypeForm
 type_numbered t zero p = text (field_b t p)
-type_numbered t (suc zero) p = yes_no_lem
+type_numbered t (suc zero) p = yes_no
 type_numbered t (suc (suc zero)) p = list (field_b t p)
 type_numbered t (suc (suc (suc zero))) p = fields (map (field_b t) (field_heads t p))
 type_numbered t (suc (suc (suc (suc zero)))) p = cases (map (field_b t) (field_heads t p))

@@ -5,7 +5,7 @@ use Rattle.rules.specs.Faults.{need, both, every, tree, on_found, exists, at}
 use Rattle.rules.specs.Records.{field_b, field_d, text_of, nth}
 use Rattle.rules.specs.Lexeme.{is_plain_lexeme, is_lexeme}
 use Rattle.rules.specs.Grammar.{plain_of, production, Element, keyword, lexeme, nonterminal, repetition, unknown, elements}
-use Rattle.rules.specs.Templates.{TypeForm, text, yes_no_lem, list, fields, cases, no_type, type_of, template, templates, parameters, body, form_of, nodes, paths, path, first, second, arms, variable, field_numbers}
+use Rattle.rules.specs.Templates.{TypeForm, text, yes_no, list, fields, cases, no_type, type_of, template, templates, parameters, body, form_of, nodes, paths, path, first, second, arms, variable, field_numbers}
 use Rattle.rules.specs.Value.{as_text, as_yes_no, as_list, as_record, as_case}
 use Rattle.rules.specs.Limits.{deepest}
 use Rattle.rules.specs.declared.Form.{Form}
@@ -54,7 +54,7 @@ positions (unknown ∷ es) = Nothing ∷ positions es
 -- a type's class if it is a text, its item type if a list, its fields' types if a record, its cases' types if a variant
 unfoldable pub text_class : TypeForm → Option ℕ
 text_class (text c) = some c
-text_class yes_no_lem = none
+text_class yes_no = none
 text_class (list n) = none
 text_class (fields ns) = none
 text_class (cases ns) = none
@@ -62,7 +62,7 @@ text_class no_type = none
 
 unfoldable pub is_yes_no : TypeForm → Bool
 is_yes_no (text c) = false
-is_yes_no yes_no_lem = true
+is_yes_no yes_no = true
 is_yes_no (list n) = false
 is_yes_no (fields ns) = false
 is_yes_no (cases ns) = false
@@ -70,7 +70,7 @@ is_yes_no no_type = false
 
 unfoldable pub item_type : TypeForm → Option ℕ
 item_type (text c) = none
-item_type yes_no_lem = none
+item_type yes_no = none
 item_type (list n) = some n
 item_type (fields ns) = none
 item_type (cases ns) = none
@@ -78,7 +78,7 @@ item_type no_type = none
 
 unfoldable pub field_types : TypeForm → Option (List ℕ)
 field_types (text c) = none
-field_types yes_no_lem = none
+field_types yes_no = none
 field_types (list n) = none
 field_types (fields ns) = some ns
 field_types (cases ns) = none
@@ -86,7 +86,7 @@ field_types no_type = none
 
 unfoldable pub case_types : TypeForm → Option (List ℕ)
 case_types (text c) = none
-case_types yes_no_lem = none
+case_types yes_no = none
 case_types (list n) = none
 case_types (fields ns) = none
 case_types (cases ns) = some ns
@@ -229,7 +229,7 @@ typed ty w = record { value = w; type = ty }
 -- 02 g: a case "is of the variant if there is such a case .."
 unfoldable pub has_form : List ℕ → List ℕ → TypeForm → ℕ → Bool
 has_form g v (text c) w = on_found (as_text v w) false (is_plain_lexeme g c)
-has_form g v yes_no_lem w = exists (as_yes_no v w)
+has_form g v yes_no w = exists (as_yes_no v w)
 has_form g v (list ty) w = exists (as_list v w)
 has_form g v (fields tys) w = on_found (as_record v w) false (λ ws. eqb (length ws) (length tys))
 has_form g v (cases tys) w = on_found (as_case v w) false (λ c. exists (nth tys c.number))
@@ -246,7 +246,7 @@ paired (ty ∷ tys) (w ∷ ws) = typed ty w ∷ paired tys ws
 
 unfoldable pub typed_of : List ℕ → TypeForm → ℕ → List Typed
 typed_of v (text c) w = []
-typed_of v yes_no_lem w = []
+typed_of v yes_no w = []
 typed_of v (list ty) w = on_found (as_list v w) [] (map (typed ty))
 typed_of v (fields tys) w = on_found (as_record v w) [] (paired tys)
 typed_of v (cases tys) w = on_found (as_case v w) [] λ c. on_found (nth tys c.number) [] λ ty. typed ty c.inside ∷ []

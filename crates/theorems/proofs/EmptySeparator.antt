@@ -20,7 +20,7 @@ use Rattle.rules.specs.declared.Answer.{Answer}
 use Rattle.laws.specs.Faults.{In, here, later}
 use Rattle.theorems.specs.Streams.{blocks_exactly}
 use Rattle.theorems.specs.ReadAlike.{ReadAlike}
-use Rattle.theorems.proofs.ReadAlike.{plain_alike, derives_alike, evaluates-set-alike, names-alike, typing-alike, value-alike, walk-alike}
+use Rattle.theorems.proofs.ReadAlike.{plain_alike, derives_alike, evaluates_set_alike, names_alike, typing_alike, value_alike, walk_alike}
 use Rattle.theorems.specs.Unseparated.{DifferInForm}
 use Rattle.theorems.proofs.Unseparated.{the_other_way, read_alike, same_element, same_elements}
 use Rattle.theorems.proofs.Unseparated.{same_kind, same_b, same_c, same_classes, same_productions, same_heads, same_bounds, same_ranges}
@@ -99,9 +99,9 @@ module _ (g g' : List ℕ) (right : RightBy2 g) (right' : RightBy2 g') (d : Diff
       try 2 (over_alike (λ s. stream_blocks (stream_kind s) (bytes_of s)) (templates t ∷ more) blocks_alike j) λ _.
       try 3 (over_alike layout_of (templates t ∷ more) (layout_alike g g' d right.well_sized) j) λ _.
       try 4 (over_alike limits_of (templates t ∷ more) refl j) λ _.
-      try 5 (both (placed 1 (grammar_names_alike g g' d j)) (placed 2 (names-alike g g' (read_alike g g' d) t j))) λ _.
+      try 5 (both (placed 1 (grammar_names_alike g g' d j)) (placed 2 (names_alike g g' (read_alike g g' d) t j))) λ _.
       try 6 (placed 1 (grammar_classes_alike g g' d j)) λ _.
-      try 7 (placed 2 (typing-alike g g' (read_alike g g' d) t j)) (e j)
+      try 7 (placed 2 (typing_alike g g' (read_alike g g' d) t j)) (e j)
 
   check_alike : (t : List ℕ) → check g t ≡ check g' t
   unfolding check check_refusal
@@ -112,8 +112,8 @@ module _ (g g' : List ℕ) (right : RightBy2 g) (right' : RightBy2 g') (d : Diff
   evaluated_alike t v fuel out scratch = λ j.
       unless_refused
       (refusal_alike t (value v ∷ [])
-      (λ k _. try 8 (placed 3 (value-alike g g' (read_alike g g' d) t v k)) λ _. try 9 (placed 0 (need (leb scratch_needed (length scratch)) 0)) accept) j)
-      (λ _. walk-alike g g' (read_alike g g' d) t v fuel out j) out scratch
+      (λ k _. try 8 (placed 3 (value_alike g g' (read_alike g g' d) t v k)) λ _. try 9 (placed 0 (need (leb scratch_needed (length scratch)) 0)) accept) j)
+      (λ _. walk_alike g g' (read_alike g g' d) t v fuel out j) out scratch
 
 pub empty_separator : (g g' : List ℕ) → RightBy2 g → RightBy2 g' → DifferInForm g g' → AnswerAlike g g'
 empty_separator g g' right right' d =
@@ -122,7 +122,7 @@ empty_separator g g' right right' d =
     record {
       same_elements = same_elements g g' d;
       derive_alike = λ n x. (derives_alike g g' r, derives_alike g' g r');
-      evaluate_alike = λ t v x n. (evaluates-set-alike g g' r t v, evaluates-set-alike g' g r' t v);
+      evaluate_alike = λ t v x n. (evaluates_set_alike g g' r t v, evaluates_set_alike g' g r' t v);
       check_call = check_alike g g' right right' d;
       evaluate_call = evaluated_alike g g' right right' d;
     }

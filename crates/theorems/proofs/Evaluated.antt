@@ -23,8 +23,8 @@ use Rattle.theorems.proofs.Places.{place_text}
 use Rattle.theorems.specs.Handed.{IsFor, a_for, no_for, is_for_lem, filled_by_lem, listed_is, for_visited, item_visited, one_brought, turns_brought}
 use Rattle.theorems.specs.Ends.{then_done, found_done, reached_done, write_done}
 use Rattle.theorems.specs.Evaluation.{BeforeItem, the_first, another, Evaluates, build, literal, place, expand, then, else, sequence, match}
-use Rattle.theorems.specs.Evaluation.{Builds, no_element, own-bytes, next-child, Items, no_item, one_item, for, Loops, no-turn, one-turn, EvaluatesSet}
-use Rattle.theorems.specs.Evaluated.{Wrote, AnItem, AFor, ANode, item-node, for-node, ByRules}
+use Rattle.theorems.specs.Evaluation.{Builds, no_element, own_bytes, next_child, Items, no_item, one_item, for, Loops, no_turn, one_turn, EvaluatesSet}
+use Rattle.theorems.specs.Evaluated.{Wrote, AnItem, AFor, ANode, item_node, for_node, ByRules}
 
 wrote_nothing : (P : List ℕ → ℕ → Type 0) (s s' : State) → done s ≡ done s' → P [] 0 → Wrote P s s'
 wrote_nothing P s s' e h =
@@ -57,8 +57,8 @@ module _ (i : Input) where
 
   node_items : {f : Filled} {k l c m n : ℕ} {env cs x y : List ℕ} → ANode i f k env c l x m → Items g t v env f.nonterminal f.separator l cs y n
       → Items g t v env f.nonterminal f.separator k (c ∷ cs) (x ++ y) (m + n)
-  node_items (item-node h (z, u, q, b, d)) is = rw q (one_item h b d is)
-  node_items (for-node h a r b) is = for h a r b is
+  node_items (item_node h (z, u, q, b, d)) is = rw q (one_item h b d is)
+  node_items (for_node h a r b) is = for h a r b is
 
 module _ (i : Input) (go : Asked → ℕ → List ℕ → State → End) (below : ByRules i go) where
   open i use {grammar as g, templates as t, value as v}
@@ -68,14 +68,14 @@ module _ (i : Input) (go : Asked → ℕ → List ℕ → State → End) (below 
       → with_child (λ c. go (piece e) c env) cs (pieces (write i.room p) (λ e c. go (piece e) c env) es) s ≡ done s' → Wrote (Builds g t v env (e ∷ es) cs) s s'
   unfolding with_child
   next_built p env e at es [] s s' a k h = absurd (let z : ◌≡◌ {A = ℕ} 0 1 = cc in omega arith)
-  next_built p env e at es (c ∷ cs) s s' a k h = then_wrote _ _ _ _ _ s s' h (λ s₁. below.of-piece e c env s s₁) (k cs) λ x y m n. next-child a
+  next_built p env e at es (c ∷ cs) s s' a k h = then_wrote _ _ _ _ _ s s' h (λ s₁. below.of_piece e c env s s₁) (k cs) λ x y m n. next_child a
 
   pieces_built : (p : ℕ) (env : List ℕ) (es : List Element) (cs : List ℕ) (s s' : State)
       → pieces (write i.room p) (λ e c. go (piece e) c env) es cs s ≡ done s' → Wrote (Builds g t v env es cs) s s'
   unfolding pieces
   pieces_built p env [] cs s s' e = wrote_nothing _ s s' e no_element
   pieces_built p env (keyword w ∷ es) cs s s' e =
-      then_wrote _ _ _ _ _ s s' e (write_wrote i.room p w s) (λ s₁. pieces_built p env es cs s₁ s') λ x y m n q b. rw (← q.0, ← q.1, zero-add) (own-bytes b)
+      then_wrote _ _ _ _ _ s s' e (write_wrote i.room p w s) (λ s₁. pieces_built p env es cs s₁ s') λ x y m n q b. rw (← q.0, ← q.1, zero-add) (own_bytes b)
   pieces_built p env (lexeme c ∷ es) cs s s' e = next_built p env _ _ es cs s s' (asks_class_lem c) (λ ds s₁. pieces_built p env es ds s₁ s') e
   pieces_built p env (nonterminal n ∷ es) cs s s' e = next_built p env _ _ es cs s s' (asks_nonterminal_lem n) (λ ds s₁. pieces_built p env es ds s₁ s') e
   pieces_built p env (repetition n x ∷ es) cs s s' e = next_built p env _ _ es cs s s' (asks_repetition_lem n x) (λ ds s₁. pieces_built p env es ds s₁ s') e
@@ -91,7 +91,7 @@ module _ (i : Input) (go : Asked → ℕ → List ℕ → State → End) (below 
   pub item_evaluated : (f : Filled) (k c : ℕ) (env : List ℕ) (s s' : State) → visit_item i.room go f k c env s ≡ done s' → Wrote (AnItem i f k env c) s s'
   unfolding visit_item
   item_evaluated f k c env s s' e =
-      then_wrote _ _ _ _ _ s s' e (separate_wrote f k s) (λ s₁. below.of-piece _ c env s₁ s') λ z y m n b d. rw (← b.1, zero-add) (z, y, refl, b.0, d)
+      then_wrote _ _ _ _ _ s s' e (separate_wrote f k s) (λ s₁. below.of_piece _ c env s₁ s') λ z y m n b d. rw (← b.1, zero-add) (z, y, refl, b.0, d)
 
   pub node_evaluated : (f : Filled) (k c : ℕ) (env : List ℕ) (s s' : State) → visit_in i go f env k c s ≡ done s'
       → Wrote (ANode i f k env c (k + items_of i env c)) s s'
@@ -100,10 +100,10 @@ module _ (i : Input) (go : Asked → ℕ → List ℕ → State → End) (below 
       one : (b : Bool) → IsFor (form_of t c) b → Wrote (ANode i f k env c (k + items_of i env c)) s s'
       one true (a_for h) =
           let (x, n, xt, xs, (w, m, q, a, r, b)) = below.of_for f k c env s s' h (rw (for_visited i env c go f k h) at e) in
-          (x, n, xt, xs, rw (q, turns_brought i env c h a r) (for-node h a r b))
+          (x, n, xt, xs, rw (q, turns_brought i env c h a r) (for_node h a r b))
       one false (no_for h) =
           let (x, n, xt, xs, b) = item_evaluated f k c env s s' (rw (item_visited i env c go f k h) at e) in
-          (x, n, xt, xs, rw (one_brought i env c h) (item-node h b))
+          (x, n, xt, xs, rw (one_brought i env c h) (item_node h b))
 
   items_evaluated : (f : Filled) (k : ℕ) (env cs : List ℕ) (s s' : State) → in_order (items_of i env) (visit_in i go f env) k cs s ≡ done s'
       → Wrote (Items g t v env f.nonterminal f.separator k cs) s s'
@@ -115,10 +115,10 @@ module _ (i : Input) (go : Asked → ℕ → List ℕ → State → End) (below 
   turns_evaluated : (f : Filled) (k : ℕ) (env : List ℕ) (p : ℕ) (ws : List ℕ) (s s' : State)
       → in_order (λ w. 1) (λ m w. visit_item i.room go f m p (env ++ w ∷ [])) k ws s ≡ done s' → Wrote (Loops g t v env f.nonterminal f.separator k p ws) s s'
   unfolding in_order
-  turns_evaluated f k env p [] s s' e = wrote_nothing _ s s' e no-turn
+  turns_evaluated f k env p [] s s' e = wrote_nothing _ s s' e no_turn
   turns_evaluated f k env p (w ∷ ws) s s' e =
       then_wrote (AnItem i f k (env ++ w ∷ []) p) _ _ _ _ s s' e (λ s₁. item_evaluated f k p _ s s₁) (λ s₁. turns_evaluated f (k + 1) env p ws s₁ s')
-      λ x y m n (z, u, q, b, d) r. rw q (one-turn b d r)
+      λ x y m n (z, u, q, b, d) r. rw q (one_turn b d r)
 
   -- from the state after the node's step
   for_evaluated : (f : Filled) (k p : ℕ) (env : List ℕ) (s s' : State) → visit_form i For go (items f k) p env (counted s) ≡ done s' → Wrote (AFor i f k env p) s s'
@@ -152,7 +152,7 @@ module _ (i : Input) (go : Asked → ℕ → List ℕ → State → End) (below 
   form_evaluated Expand el p env s s' f e =
       let (q, a, d) = found_done _ _ s' e in
       let (ws, b, h) = found_done _ _ s' d in
-      wrote_step _ _ s s' (below.of-piece _ _ ws (counted s) s' h) λ x n. expand f a ((finds_all_exactly t v env _ ws).0 b)
+      wrote_step _ _ s s' (below.of_piece _ _ ws (counted s) s' h) λ x n. expand f a ((finds_all_exactly t v env _ ws).0 b)
   form_evaluated If el p env s s' f e =
       let (w, a, d) = found_done _ _ s' e in
       let (y, b, h) = found_done _ _ s' d in
@@ -160,8 +160,8 @@ module _ (i : Input) (go : Asked → ℕ → List ℕ → State → End) (below 
     where
       taken : (w : ℕ) (y : Bool) → Finds t v env (path p) w → as_yes_no v w ≡ some y → go (piece el) (cond y (first p) (second t p)) env (counted s) ≡ done s'
           → Wrote (Evaluates g t v env el p) s s'
-      taken w true a b e = let (k, y) = (yes_is v w).0 b in wrote_step _ _ s s' (below.of-piece el _ env (counted s) s' e) λ x n. then f a k y
-      taken w false a b e = let (k, y) = (no_is v w).0 b in wrote_step _ _ s s' (below.of-piece el _ env (counted s) s' e) λ x n. else f a k y
+      taken w true a b e = let (k, y) = (yes_is v w).0 b in wrote_step _ _ s s' (below.of_piece el _ env (counted s) s' e) λ x n. then f a k y
+      taken w false a b e = let (k, y) = (no_is v w).0 b in wrote_step _ _ s s' (below.of_piece el _ env (counted s) s' e) λ x n. else f a k y
   form_evaluated For el p env s s' f e = absurd (let z : ◌≡◌ {A = ℕ} 0 1 = cc in omega arith)
   form_evaluated Sequence el p env s s' f e =
       let (h, a, d) = found_done _ _ s' e in
@@ -171,7 +171,7 @@ module _ (i : Input) (go : Asked → ℕ → List ℕ → State → End) (below 
       let (c, b, j) = found_done _ _ s' d in
       let (arm, y, h) = found_done _ _ s' j in
       let (k, is) = (case_is v w c).0 b in
-      wrote_step _ _ s s' (below.of-piece el arm _ (counted s) s' h) λ x n r.
+      wrote_step _ _ s s' (below.of_piece el arm _ (counted s) s' h) λ x n r.
       match f ((finds_exactly t v env _ w).0 a) k (ap (λ (z : Case). nth (arms t p) z.number) is ∙ y)
       (subst (λ (z : Case). Evaluates g t v (env ++ z.inside ∷ []) el arm x n) (sym is) r)
   form_evaluated Unknown el p env s s' f e = absurd (let z : ◌≡◌ {A = ℕ} 0 1 = cc in omega arith)
@@ -179,11 +179,11 @@ module _ (i : Input) (go : Asked → ℕ → List ℕ → State → End) (below 
 pub visit_evaluated : (i : Input) (k : ℕ) → ByRules i (visit i k)
 unfolding visit
 visit_evaluated i zero = record {
-  of-piece = λ e p env s s' h. absurd (let z : ◌≡◌ {A = ℕ} 0 1 = cc (reached_done _ p _ s s' h) in omega arith);
+  of_piece = λ e p env s s' h. absurd (let z : ◌≡◌ {A = ℕ} 0 1 = cc (reached_done _ p _ s s' h) in omega arith);
   of_for = λ f k p env s s' q h. absurd (let z : ◌≡◌ {A = ℕ} 0 1 = cc (reached_done _ p _ s s' h) in omega arith);
 }
 visit_evaluated i (suc k) = record {
-  of-piece = λ e p env s s' h. form_evaluated i (visit i k) (visit_evaluated i k) (form_of i.templates p) e p env s s' refl (reached_done _ p _ s s' h);
+  of_piece = λ e p env s s' h. form_evaluated i (visit i k) (visit_evaluated i k) (form_of i.templates p) e p env s s' refl (reached_done _ p _ s s' h);
   of_for = λ f j p env s s' q h. let d = reached_done _ p _ s s' h in for_evaluated i (visit i k) (visit_evaluated i k) f j p env s s' (rw q at d);
 }
 
@@ -195,4 +195,4 @@ pub finished_evaluated : (i : Input) (s : State) → walk i ≡ done s → Evalu
 unfolding walk
 finished_evaluated i s e =
     let (q, a, h) = found_done (template i.templates 0) _ s e in
-    record { head = q; template_0 = a; evaluates = wrote_whole _ s ((visit_evaluated i deepest).of-piece _ _ (0 ∷ []) start s h) }
+    record { head = q; template_0 = a; evaluates = wrote_whole _ s ((visit_evaluated i deepest).of_piece _ _ (0 ∷ []) start s h) }

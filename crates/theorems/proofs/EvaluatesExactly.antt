@@ -23,7 +23,7 @@ use Rattle.theorems.specs.Levels.{filling}
 use Rattle.theorems.specs.Handed.{pieces_child, is_listed, for_visited, item_visited, one_brought, turns_brought}
 use Rattle.theorems.proofs.Places.{place_exactly}
 use Rattle.theorems.specs.Evaluation.{BeforeItem, the_first, another, Evaluates, build, literal, place, expand, then, else, sequence, match}
-use Rattle.theorems.specs.Evaluation.{no_element, own-bytes, next-child, no_item, one_item, for, no-turn, one-turn, EvaluatesSet}
+use Rattle.theorems.specs.Evaluation.{no_element, own_bytes, next_child, no_item, one_item, for, no_turn, one_turn, EvaluatesSet}
 use Rattle.theorems.proofs.Evaluated.{finished_evaluated}
 use Rattle.theorems.specs.EvaluatesExactly.{Gives, whole, fuel_short, levels_short, room_short}
 
@@ -125,16 +125,16 @@ module _ (i : Input) where
         | match f w x y (b → h) ↦ λ k s. visit_gives _ _ k _ _ _ s f λ k.
             found_gives _ (path_found w) (found_gives _ ((case_is v _ _).1 (x, refl)) (found_gives _ y (h k (counted s))))
         | no_element ↦ λ k p s. nothing_gives s
-        | own-bytes {n} (b → h) ↦ λ k p s. rw (← zero-add n) (then_gives _ s _ _ 0 n (write_gives p _ s) (h k p))
-        | next-child {es} a (b → e) (c → h) ↦ λ k p s. rw (pieces_child (write i.room p) _ es _ s a) (then_gives _ s _ _ _ _ (e k s) (h k p))
+        | own_bytes {n} (b → h) ↦ λ k p s. rw (← zero-add n) (then_gives _ s _ _ 0 n (write_gives p _ s) (h k p))
+        | next_child {es} a (b → e) (c → h) ↦ λ k p s. rw (pieces_child (write i.room p) _ es _ s a) (then_gives _ s _ _ _ _ (e k s) (h k p))
         | no_item ↦ λ k p s. nothing_gives s
         | one_item {env} {between} {m} {k} {c} {i = n} f z (a → e) (b → h) ↦ λ l p s.
             rw (item_visited i env c (visit i l) (filling p m between) k f, one_brought i env c f) (then_gives _ s _ _ _ _ (item_gives p m k l c n env z (e l) s) (h l p))
         | for {env} {between} {m} {k} {c} f w r (a → e) (b → h) ↦ λ l p s.
             rw (for_visited i env c (visit i l) (filling p m between) k f, turns_brought i env c f w r)
             (then_gives _ s _ _ _ _ (visit_gives _ _ l _ _ _ s f λ l. found_gives _ (is_listed i env c w r) (e l p (counted s))) (h l p))
-        | no-turn ↦ λ k q s. nothing_gives s
-        | one-turn {m} {k} {p} {i = n} z (a → e) (b → h) ↦ λ l q s. then_gives _ s _ _ _ _ (item_gives q m k l p n _ z (e l) s) (h l q)
+        | no_turn ↦ λ k q s. nothing_gives s
+        | one_turn {m} {k} {p} {i = n} z (a → e) (b → h) ↦ λ l q s. then_gives _ s _ _ _ _ (item_gives q m k l p n _ z (e l) s) (h l q)
       ]
 
   pub evaluated_given : (x : List ℕ) (n : ℕ) → EvaluatesSet g t v x n → Gives i (record { steps = n; text = x }) (walk i)

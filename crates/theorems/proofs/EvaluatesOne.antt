@@ -15,8 +15,8 @@ use Rattle.theorems.specs.Children.{Asks}
 use Rattle.theorems.specs.Finds.{Finds, text_is, yes_is, no_is, path_found, paths_found, case_is}
 use Rattle.theorems.specs.Places.{PlaceWrites}
 use Rattle.theorems.proofs.Places.{place_one}
-use Rattle.theorems.specs.Evaluation.{BeforeItem, the_first, another, Evaluates, build, literal, place, expand, then, else, sequence, Builds, no_element, own-bytes, next-child, match}
-use Rattle.theorems.specs.Evaluation.{Items, no_item, one_item, for, Loops, no-turn, one-turn, EvaluatesSet}
+use Rattle.theorems.specs.Evaluation.{BeforeItem, the_first, another, Evaluates, build, literal, place, expand, then, else, sequence, Builds, no_element, own_bytes, next_child, match}
+use Rattle.theorems.specs.Evaluation.{Items, no_item, one_item, for, Loops, no_turn, one_turn, EvaluatesSet}
 
 -- something is found, and P holds of it
 abbrev Found : {A : Type 0} → Option A → (A → Type 0) → Type 0
@@ -89,13 +89,13 @@ module _ (g t v : List ℕ) where
   no_element_only y m no_element = (refl, refl)
 
   keyword_only : {env cs w y : List ℕ} {es : List Element} {n : ℕ} → Only (Builds g t v env es cs) y n → Only (Builds g t v env (keyword w ∷ es) cs) (w ++ y) n
-  keyword_only {env = env} {w = w} {y = y} {es = es} {n = n} h _ _ (next-child {cs = cs} {at = at} {c = c} {m = m} x23 _ _) = elim x23 [ ]
-  keyword_only {w = w} h z m (own-bytes b) = let u = h _ _ b in (ap (λ (a : List ℕ). w ++ a) u.0, u.1)
+  keyword_only {env = env} {w = w} {y = y} {es = es} {n = n} h _ _ (next_child {cs = cs} {at = at} {c = c} {m = m} x23 _ _) = elim x23 [ ]
+  keyword_only {w = w} h z m (own_bytes b) = let u = h _ _ b in (ap (λ (a : List ℕ). w ++ a) u.0, u.1)
 
   child_joined : {env cs x : List ℕ} {e : Element} {at : Position} {c n : ℕ} {es : List Element} → Asks e at → Builds g t v env (e ∷ es) (c ∷ cs) x n
       → Joined (Evaluates g t v env e c) (Builds g t v env es cs) x n
-  child_joined {env = env} {cs = cs} {at = at} {c = c} {n = n} {es = es} a (own-bytes {w = w} {y = y} _) = elim a [ ]
-  child_joined a (next-child b d r) = (_, _, _, _, refl, refl, d, r)
+  child_joined {env = env} {cs = cs} {at = at} {c = c} {n = n} {es = es} a (own_bytes {w = w} {y = y} _) = elim a [ ]
+  child_joined a (next_child b d r) = (_, _, _, _, refl, refl, d, r)
 
   -- what stands before an item, and its text
   abbrev AnItem : List ℕ → List ℕ → ℕ → ℕ → ℕ → List ℕ → ℕ → Type 0
@@ -122,13 +122,13 @@ module _ (g t v : List ℕ) where
 
   turn_joined : {env between ws x : List ℕ} {m k p w n : ℕ} → Loops g t v env m between k p (w ∷ ws) x n
       → Joined (AnItem (env ++ w ∷ []) between m k p) (Loops g t v env m between (k + 1) p ws) x n
-  turn_joined (one-turn b d r) = (_, _, _, _, refl, refl, (_, _, _, _, refl, zero-add _, (b, refl), d), r)
+  turn_joined (one_turn b d r) = (_, _, _, _, refl, refl, (_, _, _, _, refl, zero-add _, (b, refl), d), r)
 
   no_item_only : {env between : List ℕ} {m k : ℕ} → Only (Items g t v env m between k []) [] 0
   no_item_only y n no_item = (refl, refl)
 
   no_turn_only : {env between : List ℕ} {m k p : ℕ} → Only (Loops g t v env m between k p []) [] 0
-  no_turn_only y n no-turn = (refl, refl)
+  no_turn_only y n no_turn = (refl, refl)
 
   one_text : {env : List ℕ} {e : Element} {p n : ℕ} {x : List ℕ} → Evaluates g t v env e p x n → Only (Evaluates g t v env e p) x n
   one_text d = elim d as
@@ -147,13 +147,13 @@ module _ (g t v : List ℕ) where
         | match f w k a (b → h) ↦ by_form Match f λ y m r.
             h y m (found_one _ a (found_one _ ((case_is v _ _).1 (k, refl)) (found_one _ (path_found w) r)))
         | no_element ↦ no_element_only
-        | own-bytes (b → h) ↦ keyword_only h
-        | next-child a (b → k) (c → h) ↦ λ y m e. joined_only k h y m (child_joined a e)
+        | own_bytes (b → h) ↦ keyword_only h
+        | next_child a (b → k) (c → h) ↦ λ y m e. joined_only k h y m (child_joined a e)
         | no_item ↦ no_item_only
         | one_item f z (a → k) (b → h) ↦ λ y m e. joined_only (item_only z k) h y m (item_joined f e)
         | for f w r (a → k) (b → h) ↦ λ y m e. joined_only (stepped_only k) h y m (for_joined f w r e)
-        | no-turn ↦ no_turn_only
-        | one-turn z (a → k) (b → h) ↦ λ y m e. joined_only (item_only z k) h y m (turn_joined e)
+        | no_turn ↦ no_turn_only
+        | one_turn z (a → k) (b → h) ↦ λ y m e. joined_only (item_only z k) h y m (turn_joined e)
       ]
 
 pub evaluates_one : (g t v x y : List ℕ) (n m : ℕ) → EvaluatesSet g t v x n → EvaluatesSet g t v y m → (x ≡ y) × (n ≡ m)

@@ -4,7 +4,7 @@
 use Rattle.std.specs.Prelude.{◌≡◌, refl, ℕ, List, [], ◌++◌}
 use Rattle.std.proofs.Common.{sym, ◌∙◌, ap, inl, inr}
 use Rattle.rules.specs.Grammar.{Element, lexeme, repetition, productions, production, elements}
-use Rattle.rules.specs.Derivation.{Derives, produced, no_element, one_piece, Piece, own-bytes, a-lexeme, an-escaped-lexeme, derived, repeated, no_text, some-texts, last-text, next_text}
+use Rattle.rules.specs.Derivation.{Derives, produced, no_element, one_piece, Piece, own_bytes, a_lexeme, an_escaped_lexeme, derived, repeated, no_text, some_texts, last_text, next_text}
 use Rattle.rules.specs.Answers.{evaluate}
 use Rattle.laws.specs.Faults.{In, here, later, in_append, nth_in}
 use Rattle.theorems.specs.Least.{in_none}
@@ -54,14 +54,14 @@ derived_texts_are_xml g w d = elim d as
       | produced n k p x e f (ps → h) ↦ h (λ el i. (p, nth_in (productions g) k p e, i))
       | no_element ↦ λ t. nothing
       | one_piece e es x rest (p → h) (ps → k) ↦ λ t. then (h (t e (here es))) (k (λ f i. t f (later e es i)))
-      | own-bytes x ↦ λ (p, i, j). w.keywords p x i j
-      | a-lexeme c x e ↦ λ t. (class_pieces_are_xml g c x (a-lexeme c x e)).xml
-      | an-escaped-lexeme c p x k e ↦ λ t. (class_pieces_are_xml g c _ (an-escaped-lexeme c p x k e)).xml
+      | own_bytes x ↦ λ (p, i, j). w.keywords p x i j
+      | a_lexeme c x e ↦ λ t. (class_pieces_are_xml g c x (a_lexeme c x e)).xml
+      | an_escaped_lexeme c p x k e ↦ λ t. (class_pieces_are_xml g c _ (an_escaped_lexeme c p x k e)).xml
       | derived n x (d → h) ↦ λ t. h
       | repeated n between x (r → h) ↦ h
       | no_text n between ↦ λ t. nothing
-      | some-texts n between x (ts → h) ↦ h
-      | last-text n between x (d → h) ↦ λ t. h
+      | some_texts n between x (ts → h) ↦ h
+      | last_text n between x (d → h) ↦ λ t. h
       | next_text n between x rest (d → h) (ts → k) ↦ λ (p, i, j). then (then h (w.separators p n between i j)) (k (p, i, j))
     ]
 

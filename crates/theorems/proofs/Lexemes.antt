@@ -9,7 +9,7 @@ use Rattle.rules.specs.Faults.{on_found}
 use Rattle.rules.specs.Grammar.{lexeme, plain_class, escaped_class}
 use Rattle.rules.specs.Escape.{escape, unescaped}
 use Rattle.rules.specs.Lexeme.{within, characters_of, lowest, highest, ranges, in_some, is_xml_char, is_of_class, all_of_class, admits, is_plain_lexeme, is_lexeme}
-use Rattle.rules.specs.Derivation.{Piece, a-lexeme, an-escaped-lexeme}
+use Rattle.rules.specs.Derivation.{Piece, a_lexeme, an_escaped_lexeme}
 use Rattle.laws.specs.Faults.{In, here, later, on_found_true, and_iff, or_iff}
 use Rattle.theorems.specs.Readings.{plain_is, escaped_is, not_both}
 use Rattle.theorems.proofs.Entities.{escape_exactly, unescaped_exactly}
@@ -109,14 +109,14 @@ lexeme_exactly g c text = found_lexeme g c text (escaped_class g c) refl
 
 -- in the derivation, "for a class a lexeme of it", and nothing else
 class_piece : {g x : List ℕ} {c : ℕ} → Piece g (lexeme c) x → Lexeme g c x
-class_piece {g} (a-lexeme c x e) = a_plain ((plain_lexeme_exactly g c x).0 e)
-class_piece {g} (an-escaped-lexeme c p x k e) =
+class_piece {g} (a_lexeme c x e) = a_plain ((plain_lexeme_exactly g c x).0 e)
+class_piece {g} (an_escaped_lexeme c p x k e) =
     an_escaped p x ((escaped_is g c p).0 k) ((plain_lexeme_exactly g (field_b g p) x).0 e) ((escape_exactly x (escape x)).0 refl)
 
 piece_class : {g x : List ℕ} {c : ℕ} → Lexeme g c x → Piece g (lexeme c) x
-piece_class {g} {x} {c} (a_plain l) = a-lexeme c x ((plain_lexeme_exactly g c x).1 l)
+piece_class {g} {x} {c} (a_plain l) = a_lexeme c x ((plain_lexeme_exactly g c x).1 l)
 piece_class {g} {x} {c} (an_escaped p y k l f) =
-    subst (Piece g (lexeme c)) ((escape_exactly y x).1 f) (an-escaped-lexeme c p y ((escaped_is g c p).1 k) ((plain_lexeme_exactly g (field_b g p) y).1 l))
+    subst (Piece g (lexeme c)) ((escape_exactly y x).1 f) (an_escaped_lexeme c p y ((escaped_is g c p).1 k) ((plain_lexeme_exactly g (field_b g p) y).1 l))
 
 pub piece_exactly : (g : List ℕ) (c : ℕ) (x : List ℕ) → Piece g (lexeme c) x ↔ Lexeme g c x
 piece_exactly g c x = (class_piece, piece_class)

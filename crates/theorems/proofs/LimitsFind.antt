@@ -32,7 +32,7 @@ use Rattle.theorems.specs.Comes.{BuildsTo, this_child, past_keyword, past_child,
 use Rattle.theorems.specs.Comes.{ItemsTo, this_node, past_item, past_for, TurnsTo, this_turn, past_turn, Before, a_child, a_body, on_yes, on_no, a_turn, an_item, a_for}
 use Rattle.theorems.specs.Comes.{Comes, root_body, one_deeper, Next, a_keyword, its_text, text_found, before_item, before_turn, Found, not_counted, counted_too, not_written}
 use Rattle.theorems.specs.Evaluation.{BeforeItem, the_first, another}
-use Rattle.theorems.specs.Evaluated.{Wrote, ANode, item-node, for-node}
+use Rattle.theorems.specs.Evaluated.{Wrote, ANode, item_node, for_node}
 use Rattle.theorems.proofs.Evaluated.{visit_evaluated, item_evaluated, node_evaluated}
 
 data Fair (i : Input) : End → Type 0 where
@@ -106,8 +106,8 @@ module _ (i : Input) where
 
   past_node : {f : Filled} {k b l c j m n : ℕ} {env cs x y : List ℕ} → ANode i f k env b l x m → ItemsTo g t v env f.nonterminal f.separator l cs c j y n
       → ItemsTo g t v env f.nonterminal f.separator k (b ∷ cs) c j (x ++ y) (m + n)
-  past_node (item-node h (z, u, q, b, d)) to = rw q (past_item h b d to)
-  past_node (for-node h a r b) to = past_for h a r b to
+  past_node (item_node h (z, u, q, b, d)) to = rw q (past_item h b d to)
+  past_node (for_node h a r b) to = past_for h a r b to
 
   -- what is done has written by the rules, and then comes what follows
   then_wrote : {P : List ℕ → ℕ → Type 0} {s : State} (e : End) (next : State → End) → Fair i e → ((s₁ : State) → e ≡ done s₁ → Wrote P s s₁)
@@ -144,129 +144,129 @@ module _ (i : Input) where
     PiecesFair p env es = (cs : List ℕ) (s : State) → ChildrenFair env es cs s → KeywordsFair p env es cs s
         → Fair i (pieces (write i.room p) (λ e c. visit i k (piece e) c env) es cs s)
 
-    child-fair : (p : ℕ) (env : List ℕ) (e : Element) {at : Position} (es : List Element) (cs : List ℕ) (s : State) → Asks e at → ChildrenFair env (e ∷ es) cs s
+    child_fair : (p : ℕ) (env : List ℕ) (e : Element) {at : Position} (es : List Element) (cs : List ℕ) (s : State) → Asks e at → ChildrenFair env (e ∷ es) cs s
         → KeywordsFair p env (e ∷ es) cs s → PiecesFair p env es
         → Fair i (with_child (λ c. visit i k (piece e) c env) cs (pieces (write i.room p) (λ e c. visit i k (piece e) c env) es) s)
     unfolding with_child
-    child-fair p env e es [] s a hc hw rest = is_stuck
-    child-fair p env e es (c ∷ cs) s a hc hw rest =
-        then_wrote (visit i k (piece e) c env s) _ (hc e c 0 [] s (this_child a) (after_none s)) ((visit_evaluated i k).of-piece e c env s) λ x m s₁ d b.
+    child_fair p env e es [] s a hc hw rest = is_stuck
+    child_fair p env e es (c ∷ cs) s a hc hw rest =
+        then_wrote (visit i k (piece e) c env s) _ (hc e c 0 [] s (this_child a) (after_none s)) ((visit_evaluated i k).of_piece e c env s) λ x m s₁ d b.
         rest cs s₁ (λ f c n y s₂ to l. hc f c _ _ s₂ (past_child a d to) (after_more b l)) (λ w y n s₂ to l. hw w _ _ s₂ (past_child a d to) (after_more b l))
 
-    pieces-fair : (p : ℕ) (env : List ℕ) (es : List Element) → PiecesFair p env es
+    pieces_fair : (p : ℕ) (env : List ℕ) (es : List Element) → PiecesFair p env es
     unfolding pieces
-    pieces-fair p env [] cs s hc hw = is_done s
-    pieces-fair p env (keyword x ∷ es) cs s hc hw =
+    pieces_fair p env [] cs s hc hw = is_done s
+    pieces_fair p env (keyword x ∷ es) cs s hc hw =
         write_fair p x s (hw x [] 0 s this_keyword (after_none s)) λ s₁ b.
-        pieces-fair p env es cs s₁ (λ e c n y s₂ to l. hc e c n _ s₂ (past_keyword to) (after_text b l))
+        pieces_fair p env es cs s₁ (λ e c n y s₂ to l. hc e c n _ s₂ (past_keyword to) (after_text b l))
         (λ w y n s₂ to l. hw w _ n s₂ (past_keyword to) (after_text b l))
-    pieces-fair p env (lexeme c ∷ es) cs s hc hw = child-fair p env _ es cs s (asks_class_lem c) hc hw (pieces-fair p env es)
-    pieces-fair p env (nonterminal n ∷ es) cs s hc hw = child-fair p env _ es cs s (asks_nonterminal_lem n) hc hw (pieces-fair p env es)
-    pieces-fair p env (repetition n x ∷ es) cs s hc hw = child-fair p env _ es cs s (asks_repetition_lem n x) hc hw (pieces-fair p env es)
-    pieces-fair p env (unknown ∷ es) cs s hc hw = child-fair p env _ es cs s asks_nothing hc hw (pieces-fair p env es)
+    pieces_fair p env (lexeme c ∷ es) cs s hc hw = child_fair p env _ es cs s (asks_class_lem c) hc hw (pieces_fair p env es)
+    pieces_fair p env (nonterminal n ∷ es) cs s hc hw = child_fair p env _ es cs s (asks_nonterminal_lem n) hc hw (pieces_fair p env es)
+    pieces_fair p env (repetition n x ∷ es) cs s hc hw = child_fair p env _ es cs s (asks_repetition_lem n x) hc hw (pieces_fair p env es)
+    pieces_fair p env (unknown ∷ es) cs s hc hw = child_fair p env _ es cs s asks_nothing hc hw (pieces_fair p env es)
 
     -- an item: its separator has no room, or it is visited after that
-    item-fair : (f : Filled) (l c : ℕ) (env : List ℕ) (s : State)
+    item_fair : (f : Filled) (l c : ℕ) (env : List ℕ) (s : State)
         → ((m : ℕ) → l ≡ suc m → i.room < length s.text + length f.separator → Found i f.sequence s output_full)
         → ((z : List ℕ) (s₁ : State) → BeforeItem f.separator l z → After s z 0 s₁ → Fair i (visit i k (piece (nonterminal f.nonterminal)) c env s₁))
         → Fair i (visit_item i.room (visit i k) f l c env s)
     unfolding visit_item separate and_then
-    item-fair f zero c env s full h = h [] s the_first (after_none s)
-    item-fair f (suc l) c env s full h = write_fair f.sequence f.separator s (full l refl) λ s₁ a. h _ s₁ another a
+    item_fair f zero c env s full h = h [] s the_first (after_none s)
+    item_fair f (suc l) c env s full h = write_fair f.sequence f.separator s (full l refl) λ s₁ a. h _ s₁ another a
 
-    items-fair : (f : Filled) (env : List ℕ) (j : ℕ) (cs : List ℕ) (s : State)
+    items_fair : (f : Filled) (env : List ℕ) (j : ℕ) (cs : List ℕ) (s : State)
         → ((c l m : ℕ) (y : List ℕ) (s₁ : State) → ItemsTo g t v env f.nonterminal f.separator j cs c l y m → After s y m s₁
         → Fair i (visit_in i (visit i k) f env l c s₁))
         → Fair i (in_order (items_of i env) (visit_in i (visit i k) f env) j cs s)
     unfolding in_order
-    items-fair f env j [] s h = is_done s
-    items-fair f env j (c ∷ cs) s h =
+    items_fair f env j [] s h = is_done s
+    items_fair f env j (c ∷ cs) s h =
         then_wrote (visit_in i (visit i k) f env j c s) _ (h c j 0 [] s this_node (after_none s))
         (node_evaluated i (visit i k) (visit_evaluated i k) f j c env s) λ x m s₁ d b.
-        items-fair f env (j + items_of i env c) cs s₁ (λ c l n y s₂ to r. h c l _ _ s₂ (past_node d to) (after_more b r))
+        items_fair f env (j + items_of i env c) cs s₁ (λ c l n y s₂ to r. h c l _ _ s₂ (past_node d to) (after_more b r))
 
-    turns-fair : (f : Filled) (env : List ℕ) (p j : ℕ) (ws : List ℕ) (s : State)
+    turns_fair : (f : Filled) (env : List ℕ) (p j : ℕ) (ws : List ℕ) (s : State)
         → ((w l m : ℕ) (y : List ℕ) (s₁ : State) → TurnsTo g t v env f.nonterminal f.separator p j ws w l y m → After s y m s₁
         → Fair i (visit_item i.room (visit i k) f l p (env ++ w ∷ []) s₁))
         → Fair i (in_order (λ w. 1) (λ l w. visit_item i.room (visit i k) f l p (env ++ w ∷ [])) j ws s)
     unfolding in_order
-    turns-fair f env p j [] s h = is_done s
-    turns-fair f env p j (w ∷ ws) s h =
+    turns_fair f env p j [] s h = is_done s
+    turns_fair f env p j (w ∷ ws) s h =
         then_wrote (visit_item i.room (visit i k) f j p (env ++ w ∷ []) s) _ (h w j 0 [] s this_turn (after_none s))
         (item_evaluated i (visit i k) (visit_evaluated i k) f j p (env ++ w ∷ []) s) λ x m s₁ (z, u, q, d, e) b.
-        turns-fair f env p (j + 1) ws s₁ (λ c l n y s₂ to r. h c l _ _ s₂ (rw q (past_turn d e to)) (after_more b r))
+        turns_fair f env p (j + 1) ws s₁ (λ c l n y s₂ to r. h c l _ _ s₂ (rw q (past_turn d e to)) (after_more b r))
 
     -- from the state after the node's step
     module _ (d : ℕ) (a : Asked) (p : ℕ) (env : List ℕ) (s : State) (came : Comes g t v d a p env s.text s.steps) (shallow : d ≤ 200)
         (deeper : (b : Asked) (q : ℕ) (env' : List ℕ) (s₁ : State) → Comes g t v (suc d) b q env' s₁.text s₁.steps → Fair i (visit i k b q env' s₁)) where
-      under-it : {b : Asked} {q m : ℕ} {env' y : List ℕ} (s₁ : State) → Before g t v a p env b q env' y m → After (counted s) y m s₁ → Fair i (visit i k b q env' s₁)
+      under_it : {b : Asked} {q m : ℕ} {env' y : List ℕ} (s₁ : State) → Before g t v a p env b q env' y m → After (counted s) y m s₁ → Fair i (visit i k b q env' s₁)
       unfolding counted
-      under-it {b} {q} {m} {env'} {y} s₁ h r = deeper b q env' s₁ (rw (r.text_more, r.steps_more) (one_deeper came h))
+      under_it {b} {q} {m} {env'} {y} s₁ h r = deeper b q env' s₁ (rw (r.text_more, r.steps_more) (one_deeper came h))
 
       full : {k y : List ℕ} {m : ℕ} (s₁ : State) → Next g t v a p env k y m → After (counted s) y m s₁ → i.room < length s₁.text + length k → Found i p s₁ output_full
       unfolding counted
       full {k} {y} {m} s₁ b r l = not_written d s.steps m a env k s.text y came shallow b r.text_more r.steps_more l
 
-      branch-fair : (w : ℕ) (yes? : Bool) → form_of t p ≡ If → Finds t v env (path p) w → as_yes_no v w ≡ some yes?
+      branch_fair : (w : ℕ) (yes? : Bool) → form_of t p ≡ If → Finds t v env (path p) w → as_yes_no v w ≡ some yes?
           → Fair i (visit i k a (cond yes? (first p) (second t p)) env (counted s))
-      branch-fair w true f e b = let r = (yes_is v w).0 b in under-it _ (on_yes w f e r.0 r.1) (after_none (counted s))
-      branch-fair w false f e b = let r = (no_is v w).0 b in under-it _ (on_no w f e r.0 r.1) (after_none (counted s))
+      branch_fair w true f e b = let r = (yes_is v w).0 b in under_it _ (on_yes w f e r.0 r.1) (after_none (counted s))
+      branch_fair w false f e b = let r = (no_is v w).0 b in under_it _ (on_no w f e r.0 r.1) (after_none (counted s))
 
-      arm-fair : (w : ℕ) (c : Case) → form_of t p ≡ Match → Finds t v env (path p) w → as_case v w ≡ some c
+      arm_fair : (w : ℕ) (c : Case) → form_of t p ≡ Match → Finds t v env (path p) w → as_case v w ≡ some c
           → Fair i (on_found (nth (arms t p) c.number) stuck λ arm. visit i k a arm (env ++ c.inside ∷ []) (counted s))
-      arm-fair w c f e b =
+      arm_fair w c f e b =
           let (r, is) = (case_is v w c).0 b in
-          rw (← is) (found_fair _ _ λ arm y. under-it _ (an_arm w f e r y) (after_none (counted s)))
+          rw (← is) (found_fair _ _ λ arm y. under_it _ (an_arm w f e r y) (after_none (counted s)))
 
       -- a node of the sequence at p
-      node-fair : (n : ℕ) (x : List ℕ) {c l m : ℕ} {y : List ℕ} (s₁ : State) → form_of t p ≡ Sequence → a ≡ piece (repetition n x)
+      node_fair : (n : ℕ) (x : List ℕ) {c l m : ℕ} {y : List ℕ} (s₁ : State) → form_of t p ≡ Sequence → a ≡ piece (repetition n x)
           → ItemsTo g t v env n x 0 (nodes t p) c l y m → After (counted s) y m s₁ → Fair i (visit_in i (visit i k) (filling p n x) env l c s₁)
-      node-fair n x {c} {l} {m} {y} s₁ f r to b = go _ (is_for_lem (form_of t c))
+      node_fair n x {c} {l} {m} {y} s₁ f r to b = go _ (is_for_lem (form_of t c))
         where
           go : (z : Bool) → IsFor (form_of t c) z → Fair i (visit_in i (visit i k) (filling p n x) env l c s₁)
-          go true (is-a-for h) = rw (for_visited i env c (visit i k) (filling p n x) l h) (under-it s₁ (a_for n x f r to h) b)
+          go true (is-a-for h) = rw (for_visited i env c (visit i k) (filling p n x) l h) (under_it s₁ (a_for n x f r to h) b)
           go false (no_for h) =
               rw (item_visited i env c (visit i k) (filling p n x) l h)
-              (item-fair (filling p n x) l c env s₁
+              (item_fair (filling p n x) l c env s₁
               (λ j e less. full s₁ (before_item n f r (subst (λ (z : ℕ). ItemsTo g t v env n x 0 (nodes t p) c z y m) e to) h) b less)
-              (λ z s₂ q w. under-it s₂ (an_item n x f r to h q) (text_after b w)))
+              (λ z s₂ q w. under_it s₂ (an_item n x f r to h q) (text_after b w)))
 
-      for-fair : (b : Asked) → a ≡ b → form_of t p ≡ For → Fair i (visit_form i For (visit i k) b p env (counted s))
+      for_fair : (b : Asked) → a ≡ b → form_of t p ≡ For → Fair i (visit_form i For (visit i k) b p env (counted s))
       unfolding visit_form counted
-      for-fair (piece e) q f = is_stuck
-      for-fair (items h j) q f = found_fair _ _ λ ws b.
+      for_fair (piece e) q f = is_stuck
+      for_fair (items h j) q f = found_fair _ _ λ ws b.
           let (w, e, r, c) = listed_is i env p ws b in
-          turns-fair h env (first p) j ws (counted s) λ u l m y s₁ to z.
-          item-fair h l (first p) (env ++ u ∷ []) s₁
+          turns_fair h env (first p) j ws (counted s) λ u l m y s₁ to z.
+          item_fair h l (first p) (env ++ u ∷ []) s₁
           (λ n o less. separator_full (for_came (subst (λ (b : Asked). Comes g t v d b p env s.text s.steps) q came)) shallow refl refl e r
           (subst (λ (b : ℕ). TurnsTo g t v env h.nonterminal h.separator (first p) j (children v w) u b y m) o (rw c to)) z less)
-          (λ o s₂ n x. under-it s₂ (a_turn h j w f q e r (subst (λ (b : List ℕ). TurnsTo g t v env h.nonterminal h.separator (first p) j b u l y m) (sym c) to) n)
+          (λ o s₂ n x. under_it s₂ (a_turn h j w f q e r (subst (λ (b : List ℕ). TurnsTo g t v env h.nonterminal h.separator (first p) j b u l y m) (sym c) to) n)
           (text_after z x))
 
       -- a place has an element's position: items are asked of a for only
-      place-fair : (b : Asked) → a ≡ b → form_of t p ≡ Place → Fair i (visit_form i Place (visit i k) b p env (counted s))
+      place_fair : (b : Asked) → a ≡ b → form_of t p ≡ Place → Fair i (visit_form i Place (visit i k) b p env (counted s))
       unfolding visit_form
-      place-fair (piece el) q f = found_fair _ _ λ w e. found_fair _ _ λ x b. let r = (text_is v w x).0 b in
+      place_fair (piece el) q f = found_fair _ _ λ w e. found_fair _ _ λ x b. let r = (text_is v w x).0 b in
           write_alone p _ (counted s)
           (full (counted s) (text_found w el f q ((finds_exactly t v env _ w).0 e) r.0 (place_text g el r.1)) (after_none (counted s)))
-      place-fair (items h j) q f =
+      place_fair (items h j) q f =
           absurd (place_no_for f (for_form (for_came (subst (λ (b : Asked). Comes g t v d b p env s.text s.steps) q came))))
 
-      form-fair : (f : Form) → form_of t p ≡ f → Fair i (visit_form i f (visit i k) a p env (counted s))
+      form_fair : (f : Form) → form_of t p ≡ f → Fair i (visit_form i f (visit i k) a p env (counted s))
       unfolding visit_form
-      form-fair Build f = found_fair _ _ λ q e.
-          pieces-fair p env _ _ (counted s) (λ e' c m y s₁ b l. under-it s₁ (a_child q f e b) l) (λ w y m s₁ b l. full s₁ (a_keyword q f e b) l)
-      form-fair Literal f = write_alone p _ (counted s) (full (counted s) (its_text f) (after_none (counted s)))
-      form-fair Place f = place-fair a refl f
-      form-fair Expand f = found_fair _ _ λ q e. found_fair _ _ λ ws b.
-          under-it _ (a_body q ws f e ((finds_all_exactly t v env _ ws).0 b)) (after_none (counted s))
-      form-fair If f = found_fair _ _ λ w e. found_fair _ _ λ yes? b. branch-fair w yes? f ((finds_exactly t v env _ w).0 e) b
-      form-fair For f = for-fair a refl f
-      form-fair Sequence f = found_fair _ _ λ h b.
+      form_fair Build f = found_fair _ _ λ q e.
+          pieces_fair p env _ _ (counted s) (λ e' c m y s₁ b l. under_it s₁ (a_child q f e b) l) (λ w y m s₁ b l. full s₁ (a_keyword q f e b) l)
+      form_fair Literal f = write_alone p _ (counted s) (full (counted s) (its_text f) (after_none (counted s)))
+      form_fair Place f = place_fair a refl f
+      form_fair Expand f = found_fair _ _ λ q e. found_fair _ _ λ ws b.
+          under_it _ (a_body q ws f e ((finds_all_exactly t v env _ ws).0 b)) (after_none (counted s))
+      form_fair If f = found_fair _ _ λ w e. found_fair _ _ λ yes? b. branch_fair w yes? f ((finds_exactly t v env _ w).0 e) b
+      form_fair For f = for_fair a refl f
+      form_fair Sequence f = found_fair _ _ λ h b.
           let (n, x, r, e) = filled_by_lem p a h b in
-          rw e (items-fair (filling p n x) env 0 (nodes t p) (counted s) λ c l m y s₁ to z. node-fair n x s₁ f r to z)
-      form-fair Match f = found_fair _ _ λ w e. found_fair _ _ λ c b. arm-fair w c f ((finds_exactly t v env _ w).0 e) b
-      form-fair Unknown f = is_stuck
+          rw e (items_fair (filling p n x) env 0 (nodes t p) (counted s) λ c l m y s₁ to z. node_fair n x s₁ f r to z)
+      form_fair Match f = found_fair _ _ λ w e. found_fair _ _ λ c b. arm_fair w c f ((finds_exactly t v env _ w).0 e) b
+      form_fair Unknown f = is_stuck
 
   reached_fair : (b : Bool) (d : ℕ) (a : Asked) (p : ℕ) (env : List ℕ) (next : State → End) (s : State) → Comes g t v d a p env s.text s.steps → d ≤ 201
       → Fair i (next (counted s)) → Fair i (reached b p next s)
@@ -282,7 +282,7 @@ module _ (i : Input) where
       (is_ended too_deep p _ (counted_too s.steps a env (subst (λ (m : ℕ). Comes g t v m a p env s.text s.steps) z came) refl))
   visit_fair (suc k) d a p env s e came =
       reached_fair _ d a p env _ s came (omega arith)
-      (form-fair k d a p env s came (omega arith) (λ b q env' s₁ c. visit_fair k (suc d) b q env' s₁ (omega arith) c) _ refl)
+      (form_fair k d a p env s came (omega arith) (λ b q env' s₁ c. visit_fair k (suc d) b q env' s₁ (omega arith) c) _ refl)
 
   walk_fair : Fair i (walk i)
   unfolding walk deepest start

@@ -19,8 +19,8 @@ use Rattle.rules.specs.declared.Position.TheVariants.{Nonterminal, Item}
 use Rattle.laws.specs.Faults.{In, here, later, nth_in}
 use Rattle.theorems.specs.Children.{ChildFor, this_child, past_keyword, past_child}
 use Rattle.theorems.specs.Finds.{Finds, FindsAll, list_is, case_is, finds_exactly, path_found, paths_found}
-use Rattle.theorems.specs.Judgement.{PathTyped, Arguments, Suits, by-build, by-literal, by_place, by-expand, by-if, by-for, by-sequence, as-item, by-match}
-use Rattle.theorems.specs.Judgement.{Fills, all-filled, no-child, a_child, Items, no_item, an_item, Arms, OfType, AllOf, none_left, one_of, EachOf, no_field, a_field}
+use Rattle.theorems.specs.Judgement.{PathTyped, Arguments, Suits, by_build, by_literal, by_place, by_expand, by_if, by_for, by_sequence, as_item, by_match}
+use Rattle.theorems.specs.Judgement.{Fills, all_filled, no_child, a_child, Items, no_item, an_item, Arms, OfType, AllOf, none_left, one_of, EachOf, no_field, a_field}
 use Rattle.theorems.specs.TypingExactly.{SetTyped}
 use Rattle.theorems.specs.ValueExactly.{ValueTyped}
 use Rattle.theorems.proofs.Accepted.{accepted_exactly}
@@ -43,15 +43,15 @@ BelowIt g t vars p Match = (n ty : ℕ) × (tys : List ℕ) × PathTyped t vars 
 BelowIt g t vars p Unknown = Unit {0}
 
 below_it : {g t vars : List ℕ} {p : ℕ} {at : Position} → Suits g t vars p at → BelowIt g t vars p (form_of t p)
-below_it (by-build vars p n q f e b fs) = rw f (q, e, fs)
-below_it (by-literal vars p c f l) = rw f tt
+below_it (by_build vars p n q f e b fs) = rw f (q, e, fs)
+below_it (by_literal vars p c f l) = rw f tt
 below_it (by_place vars p c d ty f h e k) = rw f tt
-below_it (by-expand vars p n q f e b as') = rw f (q, e, as')
-below_it (by-if vars p n ty f h e su su') = rw f (n, su, su')
-below_it (by-for vars p n ty item f h e su) = rw f (n, ty, item, h, e, su)
-below_it (by-sequence vars p n f is) = rw f (n, is)
-below_it (as-item vars p n su) = below_it su
-below_it (by-match vars p n ty tys f h e as') = rw f (n, ty, tys, h, e, as')
+below_it (by_expand vars p n q f e b as') = rw f (q, e, as')
+below_it (by_if vars p n ty f h e su su') = rw f (n, su, su')
+below_it (by_for vars p n ty item f h e su) = rw f (n, ty, item, h, e, su)
+below_it (by_sequence vars p n f is) = rw f (n, is)
+below_it (as_item vars p n su) = below_it su
+below_it (by_match vars p n ty tys f h e as') = rw f (n, ty, tys, h, e, as')
 
 by_form : {g t v env : List ℕ} {p : ℕ} {f : Form} (h : TypedThere g t v p env) → form_of t p ≡ f → BelowIt g t h.vars p f
 by_form {g} {t} {p = p} h e = subst (BelowIt g t h.vars p) e (below_it h.suits)
@@ -75,10 +75,10 @@ item_typed {v = v} {item = item} {w} {u} o e k i =
     all_of os (subst (In u) ((list_is v w ws).0 is).1 i)
 
 child_suits : {g t vars : List ℕ} {es : List Element} {cs : List ℕ} {e : Element} {c : ℕ} → Fills g t vars es cs → ChildFor es cs e c → (at : Position) × Suits g t vars c at
-child_suits {g = g} {t = t} {e = e} {c = c} (all-filled vars) x5 = elim x5 [ ]
-child_suits (no-child vars x es cs fs) (past_keyword y e c es' cs' k) = child_suits fs k
-child_suits (no-child vars x es cs fs) (this_child e at c es' cs' a) = elim a [ ]
-child_suits (no-child vars x es cs fs) (past_child e e' at c c' es' cs' a k) = elim a [ ]
+child_suits {g = g} {t = t} {e = e} {c = c} (all_filled vars) x5 = elim x5 [ ]
+child_suits (no_child vars x es cs fs) (past_keyword y e c es' cs' k) = child_suits fs k
+child_suits (no_child vars x es cs fs) (this_child e at c es' cs' a) = elim a [ ]
+child_suits (no_child vars x es cs fs) (past_child e e' at c c' es' cs' a k) = elim a [ ]
 child_suits (a_child vars e at p es cs a su fs) (this_child e' at' c es' cs' b) = (at, su)
 child_suits (a_child vars e at p es cs a su fs) (past_keyword y e' c es' cs' k) = elim a [ ]
 child_suits (a_child vars e at p es cs a su fs) (past_child e' e'' at' c c' es' cs' b k) = child_suits fs k
@@ -152,16 +152,16 @@ module _ (i : Input) (a : Asked) (p : ℕ) (env : List ℕ) (m : form_of i.templ
       (refl, some-injective c arm (sym z ∙ ap (λ (n : ℕ). nth (arms t p) (field_a v n)) e ∙ y), ap (λ (n : ℕ). env ++ content n ∷ []) e)
 
   module _ {w arm : ℕ} (finds : Finds t v env (path p) w) (k : kind_of v w ≡ 5) (y : nth (arms t p) (field_a v w) ≡ some arm) where
-    arm-visited : (self : Asked → ℕ → List ℕ → State → End) (s : State) → visit_form i Match self a p env s ≡ self a arm (env ++ content w ∷ []) s
+    arm_visited : (self : Asked → ℕ → List ℕ → State → End) (s : State) → visit_form i Match self a p env s ≡ self a arm (env ++ content w ∷ []) s
     unfolding visit_form on_found
-    arm-visited self s = rw (path_found finds, (case_is v w _).1 (k, refl), y)
+    arm_visited self s = rw (path_found finds, (case_is v w _).1 (k, refl), y)
 
-    match-visited : (j : ℕ) (s : State) → visit i (suc j) a p env s ≡ reached (ltb s.steps i.fuel) p (visit i j a arm (env ++ content w ∷ [])) s
+    match_visited : (j : ℕ) (s : State) → visit i (suc j) a p env s ≡ reached (ltb s.steps i.fuel) p (visit i j a arm (env ++ content w ∷ [])) s
     unfolding visit reached
-    match-visited j s = rw m (go (ltb s.steps i.fuel))
+    match_visited j s = rw m (go (ltb s.steps i.fuel))
       where
         go : (b : Bool) → reached b p (visit_form i Match (visit i j) a p env) s ≡ reached b p (visit i j a arm (env ++ content w ∷ [])) s
-        go true = arm-visited (visit i j) (counted s)
+        go true = arm_visited (visit i j) (counted s)
         go false = refl
 
   one_arm : TypedThere g t v p env → TakesOneArm i a p env
@@ -179,7 +179,7 @@ module _ (i : Input) (a : Asked) (p : ℕ) (env : List ℕ) (m : form_of i.templ
         finds = f;
         a_case = k;
         of_its_number = l;
-        visited = match-visited f k l;
+        visited = match_visited f k l;
         no_other = only_arm f l;
       }
 

@@ -40,7 +40,7 @@ module _ (i : Input) (fuel room : ℕ) where
   data Line : End → End → Type 0 where
     alike : (e : End) → Line e e
     first_stops : (l : Limit) (p : ℕ) (s s₁ : State) (e : End) → Further i i.fuel i.room fuel room p s l s₁ → Past s₁ e → Line (ended l p s) e
-    second-stops : (l : Limit) (p : ℕ) (s s₁ : State) (e : End) → Further i fuel room i.fuel i.room p s l s₁ → Past s₁ e → Line e (ended l p s)
+    second_stops : (l : Limit) (p : ℕ) (s s₁ : State) (e : End) → Further i fuel room i.fuel i.room p s l s₁ → Past s₁ e → Line e (ended l p s)
 
   record OnLine (s : State) (e e' : End) : Type 0 where
     line : Line e e'
@@ -53,7 +53,7 @@ module _ (i : Input) (fuel room : ℕ) where
   then_line next next' (alike (ended l p s)) k = alike _
   then_line next next' (alike stuck) k = alike _
   then_line next next' (first_stops l p s s₁ e f b) k = first_stops l p s s₁ _ f (past_then next' b (λ s₂. (k s₂).second_past))
-  then_line next next' (second-stops l p s s₁ e f b) k = second-stops l p s s₁ _ f (past_then next b (λ s₂. (k s₂).first_past))
+  then_line next next' (second_stops l p s s₁ e f b) k = second_stops l p s s₁ _ f (past_then next b (λ s₂. (k s₂).first_past))
 
   write_past : (room p : ℕ) (x : List ℕ) (s : State) → Past s (write room p x s)
   write_past room p x s = write_leaves room p x s (λ fits. begins_written s x) (λ past. begins_itself s)
@@ -66,7 +66,7 @@ module _ (i : Input) (fuel room : ℕ) where
           → Line (cond b (done (written s x)) (ended output_full p s)) (cond b' (done (written s x)) (ended output_full p s))
       go true true e e' = alike _
       go true false e e' =
-          second-stops output_full p s _ _ (writes d a env x at w (leb-false _ _ e') (leb-true _ _ e)) (at_done _ (begins_itself (written s x)))
+          second_stops output_full p s _ _ (writes d a env x at w (leb-false _ _ e') (leb-true _ _ e)) (at_done _ (begins_itself (written s x)))
       go false true e e' =
           first_stops output_full p s _ _ (writes d a env x at w (leb-false _ _ e) (leb-true _ _ e')) (at_done _ (begins_itself (written s x)))
       go false false e e' = alike _
@@ -81,7 +81,7 @@ module _ (i : Input) (fuel room : ℕ) where
     where
       go : (b b' : Bool) → ltb s.steps i.fuel ≡ b → ltb s.steps fuel ≡ b' → Line (reached b p next s) (reached b' p next' s)
       go true true e e' = (k (counted s)).line
-      go true false e e' = second-stops fuel_spent p s _ _ (counts d a env at (ltb-false _ _ e') (ltb-true _ _ e)) (k (counted s)).first_past
+      go true false e e' = second_stops fuel_spent p s _ _ (counts d a env at (ltb-false _ _ e') (ltb-true _ _ e)) (k (counted s)).first_past
       go false true e e' = first_stops fuel_spent p s _ _ (counts d a env at (ltb-false _ _ e) (ltb-true _ _ e')) (k (counted s)).second_past
       go false false e e' = alike _
 
@@ -120,16 +120,16 @@ module _ {i : Input} {fuel room : ℕ} where
   line_begins : {s s' : State} {e e' : End} → Line i fuel room e e' → StateOf s e → StateOf s' e' → Begins s s' ⊎ Begins s' s
   line_begins (alike e) a b = inl (same_end a b)
   line_begins (first_stops l p s s₁ e f h) (when_ended l' p') b = inl (begins_then (further_begins f) (past_begins h b))
-  line_begins (second-stops l p s s₁ e f h) a (when_ended l' p') = inr (begins_then (further_begins f) (past_begins h a))
+  line_begins (second_stops l p s s₁ e f h) a (when_ended l' p') = inr (begins_then (further_begins f) (past_begins h a))
 
   line_finishes : {s : State} {e' : End} → i.fuel ≤ fuel → i.room ≤ room → Line i fuel room (done s) e' → e' ≡ done s
   line_finishes f r (alike e) = refl
-  line_finishes f r (second-stops l p s s₁ e less h) = absurd (not_less f r less)
+  line_finishes f r (second_stops l p s s₁ e less h) = absurd (not_less f r less)
 
   line_further : {l : Limit} {p : ℕ} {s : State} {e' : End} → i.fuel ≤ fuel → i.room ≤ room → Line i fuel room (ended l p s) e' → Onward i fuel room l p s e'
   line_further f r (alike e) = ends_alike
   line_further f r (first_stops l p s s₁ e more h) = goes_on s₁ e more (λ s' b. past_begins h b)
-  line_further f r (second-stops l p s s₁ e less h) = absurd (not_less f r less)
+  line_further f r (second_stops l p s s₁ e less h) = absurd (not_less f r less)
 
 pub one_line : (i : Input) (fuel room : ℕ) → OneLine i fuel room
 one_line i fuel room = record {

@@ -12,7 +12,7 @@ use Rattle.std.proofs.Math.Dec.{eqb}
 use Rattle.rules.specs.Faults.{need, both, every, tree, on_found, only_if, exists, at}
 use Rattle.rules.specs.Records.{field_b, field_d, text_of, numbered}
 use Rattle.rules.specs.Grammar.{plain_class, escaped_class, plain_of, production, Element, keyword, lexeme, nonterminal, repetition, unknown}
-use Rattle.rules.specs.Templates.{TypeForm, text, yes_no_lem, list, fields, cases, no_type, type, type_at, type_of, types, field_heads, template, templates, parameter_heads, body, form_of, nodes, nodes_below, path}
+use Rattle.rules.specs.Templates.{TypeForm, text, yes_no, list, fields, cases, no_type, type, type_at, type_of, types, field_heads, template, templates, parameter_heads, body, form_of, nodes, nodes_below, path}
 use Rattle.rules.specs.Value.{as_text}
 use Rattle.rules.specs.Answers.{input}
 use Rattle.rules.specs.Escape.{escape, unescaped}
@@ -22,15 +22,15 @@ use Rattle.rules.specs.Names.{type_named, type_names, form_named, node_named, te
 use Rattle.rules.specs.Typing.{positions, asks_nonterminal, asks_class, text_class, path_type, Site, suits_form, suits, sites, sites_of, sites_below, misfit, body_site, declared_type, templates_typing}
 use Rattle.rules.specs.Typing.{typed, has_form, has_type, typed_below, mistyped, value_typing}
 use Rattle.rules.specs.Walk.{State, start, End, stuck, path_value, pieces, write, Asked, piece, items, written_for, listed, items_of, visit_in, visit_form, reached, visit, walk}
-use Rattle.rules.specs.Derivation.{Derives, produced, Pieces, no_element, one_piece, Piece, own-bytes, a-lexeme, an-escaped-lexeme, derived, repeated}
-use Rattle.rules.specs.Derivation.{Row, no_text, some-texts, Texts, last-text, next_text}
+use Rattle.rules.specs.Derivation.{Derives, produced, Pieces, no_element, one_piece, Piece, own_bytes, a_lexeme, an_escaped_lexeme, derived, repeated}
+use Rattle.rules.specs.Derivation.{Row, no_text, some_texts, Texts, last_text, next_text}
 use Rattle.rules.specs.declared.Form.{Form}
 use Rattle.rules.specs.declared.Form.TheVariants.{Build, Literal, Place, Expand, If, For, Sequence, Match, Unknown}
 use Rattle.laws.specs.Sorts.{escaped_class_iff}
 use Rattle.theorems.specs.Places.{PlaceWrites}
 use Rattle.theorems.proofs.Places.{place_exactly}
-use Rattle.theorems.specs.Evaluation.{Evaluates, build, literal, place, expand, then, else, sequence, Builds, own-bytes as own-bytes-built, no_element as nothing-built, next-child, match}
-use Rattle.theorems.specs.Evaluation.{Items, no_item, one_item, for, Loops, no-turn, one-turn, EvaluatesSet}
+use Rattle.theorems.specs.Evaluation.{Evaluates, build, literal, place, expand, then, else, sequence, Builds, own_bytes as own-bytes-built, no_element as nothing-built, next_child, match}
+use Rattle.theorems.specs.Evaluation.{Items, no_item, one_item, for, Loops, no_turn, one_turn, EvaluatesSet}
 use Rattle.theorems.specs.ReadAlike.{ReadAlike, found_same}
 
 module _ (g g' : List ℕ) (r : ReadAlike g g') where
@@ -79,22 +79,22 @@ module _ (g g' : List ℕ) (r : ReadAlike g g') where
             produced n k p x (there k p e) (sym (r.same_nonterminal k p e) ∙ f) (subst (λ (es : List Element). Pieces g' es x) (r.same_elements k p e) h)
         | no_element ↦ no_element
         | one_piece e es x rest (p → h) (ps → k) ↦ one_piece e es x rest h k
-        | own-bytes x ↦ own-bytes x
-        | a-lexeme c x e ↦ a-lexeme c x (sym (r.same_lexemes c x) ∙ e)
-        | an-escaped-lexeme c p x k e ↦
-            an-escaped-lexeme c p x (sym (escaped_alike c) ∙ k)
+        | own_bytes x ↦ own_bytes x
+        | a_lexeme c x e ↦ a_lexeme c x (sym (r.same_lexemes c x) ∙ e)
+        | an_escaped_lexeme c p x k e ↦
+            an_escaped_lexeme c p x (sym (escaped_alike c) ∙ k)
             (subst (λ (d : ℕ). is_plain_lexeme g' d x ≡ true) (named_by_escaped c p k) (sym (r.same_lexemes (field_b g p) x) ∙ e))
         | derived n x (d → h) ↦ derived n x h
         | repeated n between x (d → h) ↦ repeated n between x h
         | no_text n between ↦ no_text n between
-        | some-texts n between x (d → h) ↦ some-texts n between x h
-        | last-text n between x (d → h) ↦ last-text n between x h
+        | some_texts n between x (d → h) ↦ some_texts n between x h
+        | last_text n between x (d → h) ↦ last_text n between x h
         | next_text n between x rest (d → h) (ts → k) ↦ next_text n between x rest h k
       ]
 
   module _ (t v : List ℕ) where
-    evaluates-alike : {env : List ℕ} {e : Element} {p n : ℕ} {x : List ℕ} → Evaluates g t v env e p x n → Evaluates g' t v env e p x n
-    evaluates-alike d = elim d as
+    evaluates_alike : {env : List ℕ} {e : Element} {p n : ℕ} {x : List ℕ} → Evaluates g t v env e p x n → Evaluates g' t v env e p x n
+    evaluates_alike d = elim d as
         (λ env e p x n d. Evaluates g' t v env e p x n) (λ env es cs x n d. Builds g' t v env es cs x n)
         (λ env m between k cs x n d. Items g' t v env m between k cs x n) (λ env m between k p ws x n d. Loops g' t v env m between k p ws x n) [
           | build {env} {p = p} {x = x} {n} f e (b → h) ↦
@@ -108,103 +108,103 @@ module _ (g g' : List ℕ) (r : ReadAlike g g') where
           | match f w k a (b → e) ↦ match f w k a e
           | nothing-built ↦ nothing-built
           | own-bytes-built (b → h) ↦ own-bytes-built h
-          | next-child a (b → e) (c → h) ↦ next-child a e h
+          | next_child a (b → e) (c → h) ↦ next_child a e h
           | no_item ↦ no_item
           | one_item f z (a → e) (b → h) ↦ one_item f z e h
           | for f w k (a → e) (b → h) ↦ for f w k e h
-          | no-turn ↦ no-turn
-          | one-turn z (a → e) (b → h) ↦ one-turn z e h
+          | no_turn ↦ no_turn
+          | one_turn z (a → e) (b → h) ↦ one_turn z e h
         ]
 
-    pub evaluates-set-alike : {x : List ℕ} {n : ℕ} → EvaluatesSet g t v x n → EvaluatesSet g' t v x n
-    evaluates-set-alike h = record { head = h.head; template_0 = h.template_0; evaluates = evaluates-alike h.evaluates }
+    pub evaluates_set_alike : {x : List ℕ} {n : ℕ} → EvaluatesSet g t v x n → EvaluatesSet g' t v x n
+    evaluates_set_alike h = record { head = h.head; template_0 = h.template_0; evaluates = evaluates_alike h.evaluates }
 
   -- 5, of the templates
   module _ (t : List ℕ) where
-    type-named-alike : (f : TypeForm) → type_named g t f ≡ type_named g' t f
+    type_named_alike : (f : TypeForm) → type_named g t f ≡ type_named g' t f
     unfolding type_named
-    type-named-alike (text c) = ap exists (plain_alike c)
-    type-named-alike yes_no_lem = refl
-    type-named-alike (list n) = refl
-    type-named-alike (fields ns) = refl
-    type-named-alike (cases ns) = refl
-    type-named-alike no_type = refl
+    type_named_alike (text c) = ap exists (plain_alike c)
+    type_named_alike yes_no = refl
+    type_named_alike (list n) = refl
+    type_named_alike (fields ns) = refl
+    type_named_alike (cases ns) = refl
+    type_named_alike no_type = refl
 
-    form-named-alike : (f : Form) (n : ℕ) → form_named g t f n ≡ form_named g' t f n
+    form_named_alike : (f : Form) (n : ℕ) → form_named g t f n ≡ form_named g' t f n
     unfolding form_named
-    form-named-alike Build n = ap exists (r.same_production n)
-    form-named-alike Literal n = refl
-    form-named-alike Place n = refl
-    form-named-alike Expand n = refl
-    form-named-alike If n = refl
-    form-named-alike For n = refl
-    form-named-alike Sequence n = refl
-    form-named-alike Match n = refl
-    form-named-alike Unknown n = refl
+    form_named_alike Build n = ap exists (r.same_production n)
+    form_named_alike Literal n = refl
+    form_named_alike Place n = refl
+    form_named_alike Expand n = refl
+    form_named_alike If n = refl
+    form_named_alike For n = refl
+    form_named_alike Sequence n = refl
+    form_named_alike Match n = refl
+    form_named_alike Unknown n = refl
 
-    template-names-alike : (p : ℕ) → template_names g t p ≡ template_names g' t p
+    template_names_alike : (p : ℕ) → template_names g t p ≡ template_names g' t p
     unfolding template_names node_named
-    template-names-alike p = λ j.
+    template_names_alike p = λ j.
         both (need (r.same_existence (field_b t p) j) p)
         (both (every (λ a. need (exists (type t (field_b t a))) a) (parameter_heads t p))
-        (tree (λ q. form-named-alike (form_of t q) (field_b t q) j) (nodes_below t) deepest (body t p)))
+        (tree (λ q. form_named_alike (form_of t q) (field_b t q) j) (nodes_below t) deepest (body t p)))
 
-    pub names-alike : templates_names g t ≡ templates_names g' t
+    pub names_alike : templates_names g t ≡ templates_names g' t
     unfolding templates_names type_names
-    names-alike = λ j.
+    names_alike = λ j.
         both
-        (every (λ x. both (need (type-named-alike (type_at t x.1) j) x.1) (every (λ f. need (ltb (field_b t f) x.0) f) (field_heads t x.1))) (numbered 0 (types t)))
-        (every (λ p. template-names-alike p j) (templates t))
+        (every (λ x. both (need (type_named_alike (type_at t x.1) j) x.1) (every (λ f. need (ltb (field_b t f) x.0) f) (field_heads t x.1))) (numbered 0 (types t)))
+        (every (λ p. template_names_alike p j) (templates t))
 
     -- 7 and 8
-    suits-alike : (f : Form) (x : Site) → suits_form g t f x ≡ suits_form g' t f x
+    suits_alike : (f : Form) (x : Site) → suits_form g t f x ≡ suits_form g' t f x
     unfolding suits_form
-    suits-alike Build x = ap (on_found (asks_nonterminal x.position) false) λ j n.
+    suits_alike Build x = ap (on_found (asks_nonterminal x.position) false) λ j n.
         found_same _ _ false _ _ (r.same_production (field_b t x.node))
         (λ q e. λ k. eqb (r.same_nonterminal _ q e k) n && eqb (length (positions (r.same_elements _ q e k))) (field_d t x.node)) j
-    suits-alike Literal x = ap (on_found (asks_class x.position) false) λ j c. lexeme_alike c (text_of t (field_b t x.node) x.node) j
-    suits-alike Place x = ap (on_found (asks_class x.position) false) λ j c.
+    suits_alike Literal x = ap (on_found (asks_class x.position) false) λ j c. lexeme_alike c (text_of t (field_b t x.node) x.node) j
+    suits_alike Place x = ap (on_found (asks_class x.position) false) λ j c.
         on_found (path_type t x.vars (path x.node)) false λ ty. on_found (text_class (type_of t ty)) false (eqb (plain_of_alike c j))
-    suits-alike Expand x = refl
-    suits-alike If x = refl
-    suits-alike For x = refl
-    suits-alike Sequence x = refl
-    suits-alike Match x = refl
-    suits-alike Unknown x = refl
+    suits_alike Expand x = refl
+    suits_alike If x = refl
+    suits_alike For x = refl
+    suits_alike Sequence x = refl
+    suits_alike Match x = refl
+    suits_alike Unknown x = refl
 
-    sites-alike : (f : Form) (x : Site) → sites_of g t f x ≡ sites_of g' t f x
+    sites_alike : (f : Form) (x : Site) → sites_of g t f x ≡ sites_of g' t f x
     unfolding sites_of
-    sites-alike Build x =
+    sites_alike Build x =
         found_same _ _ [] _ _ (r.same_production (field_b t x.node))
         λ q e. λ j. sites x.vars (positions (r.same_elements _ q e j)) (nodes t x.node)
-    sites-alike Literal x = refl
-    sites-alike Place x = refl
-    sites-alike Expand x = refl
-    sites-alike If x = refl
-    sites-alike For x = refl
-    sites-alike Sequence x = refl
-    sites-alike Match x = refl
-    sites-alike Unknown x = refl
+    sites_alike Literal x = refl
+    sites_alike Place x = refl
+    sites_alike Expand x = refl
+    sites_alike If x = refl
+    sites_alike For x = refl
+    sites_alike Sequence x = refl
+    sites_alike Match x = refl
+    sites_alike Unknown x = refl
 
-    pub typing-alike : templates_typing g t ≡ templates_typing g' t
+    pub typing_alike : templates_typing g t ≡ templates_typing g' t
     unfolding templates_typing misfit suits sites_below
-    typing-alike = λ j.
+    typing_alike = λ j.
         both (need (exists (declared_type t)) 0)
-        (every (λ p. at (λ x. x.node) (tree (λ x. suits-alike (form_of t x.node) x j) (λ x. sites-alike (form_of t x.node) x j) deepest (body_site t p))) (templates t))
+        (every (λ p. at (λ x. x.node) (tree (λ x. suits_alike (form_of t x.node) x j) (λ x. sites_alike (form_of t x.node) x j) deepest (body_site t p))) (templates t))
 
-    form-alike : (v : List ℕ) (f : TypeForm) (w : ℕ) → has_form g v f w ≡ has_form g' v f w
+    form_alike : (v : List ℕ) (f : TypeForm) (w : ℕ) → has_form g v f w ≡ has_form g' v f w
     unfolding has_form
-    form-alike v (text c) w = ap (on_found (as_text v w) false) λ j x. r.same_lexemes c x j
-    form-alike v yes_no_lem w = refl
-    form-alike v (list ty) w = refl
-    form-alike v (fields tys) w = refl
-    form-alike v (cases tys) w = refl
-    form-alike v no_type w = refl
+    form_alike v (text c) w = ap (on_found (as_text v w) false) λ j x. r.same_lexemes c x j
+    form_alike v yes_no w = refl
+    form_alike v (list ty) w = refl
+    form_alike v (fields tys) w = refl
+    form_alike v (cases tys) w = refl
+    form_alike v no_type w = refl
 
-    pub value-alike : (v : List ℕ) → value_typing g t v ≡ value_typing g' t v
+    pub value_alike : (v : List ℕ) → value_typing g t v ≡ value_typing g' t v
     unfolding value_typing mistyped has_type
-    value-alike v = ap (on_found (declared_type t) (some 0)) λ j ty.
-        at (λ x. x.value) (tree (λ x. form-alike v (type_of t x.type) x.value j) (typed_below t v) deepest (typed ty 0))
+    value_alike v = ap (on_found (declared_type t) (some 0)) λ j ty.
+        at (λ x. x.value) (tree (λ x. form_alike v (type_of t x.type) x.value j) (typed_below t v) deepest (typed ty 0))
 
   -- the walk
   module _ (t v : List ℕ) (fuel : ℕ) (out : List ℕ) where
@@ -225,13 +225,13 @@ module _ (g g' : List ℕ) (r : ReadAlike g g') where
     form_walked Match go a p env s = refl
     form_walked Unknown go a p env s = refl
 
-    visit-alike : (k : ℕ) (a : Asked) (p : ℕ) (env : List ℕ) (s : State) → visit (input g t v fuel out) k a p env s ≡ visit (input g' t v fuel out) k a p env s
+    visit_alike : (k : ℕ) (a : Asked) (p : ℕ) (env : List ℕ) (s : State) → visit (input g t v fuel out) k a p env s ≡ visit (input g' t v fuel out) k a p env s
     unfolding visit input
-    visit-alike zero a p env s = refl
-    visit-alike (suc k) a p env s = ap (λ (next : State → End). reached (ltb s.steps fuel) p next s) λ j s₁.
+    visit_alike zero a p env s = refl
+    visit_alike (suc k) a p env s = ap (λ (next : State → End). reached (ltb s.steps fuel) p next s) λ j s₁.
         (form_walked (form_of t p) (visit (input g t v fuel out) k) a p env s₁
-        ∙ ap (λ (go : Asked → ℕ → List ℕ → State → End). visit_form (input g' t v fuel out) (form_of t p) go a p env s₁) (λ i a p env s. visit-alike k a p env s i)) j
+        ∙ ap (λ (go : Asked → ℕ → List ℕ → State → End). visit_form (input g' t v fuel out) (form_of t p) go a p env s₁) (λ i a p env s. visit_alike k a p env s i)) j
 
-    pub walk-alike : walk (input g t v fuel out) ≡ walk (input g' t v fuel out)
+    pub walk_alike : walk (input g t v fuel out) ≡ walk (input g' t v fuel out)
     unfolding walk input
-    walk-alike = ap (on_found (template t 0) stuck) λ j q. visit-alike deepest (piece (nonterminal (field_b t q))) (body t q) (0 ∷ []) start j
+    walk_alike = ap (on_found (template t 0) stuck) λ j q. visit_alike deepest (piece (nonterminal (field_b t q))) (body t q) (0 ∷ []) start j

@@ -10,12 +10,12 @@ use Rattle.std.proofs.Math.ListN.{length}
 use Rattle.rules.specs.Faults.{on_found}
 use Rattle.rules.specs.Records.{field_b}
 use Rattle.rules.specs.Grammar.{Element, lexeme, nonterminal}
-use Rattle.rules.specs.Templates.{text, yes_no_lem, list, cases, template, parameters, body, form_of, is_for}
+use Rattle.rules.specs.Templates.{text, yes_no, list, cases, template, parameters, body, form_of, is_for}
 use Rattle.rules.specs.Limits.{deepest}
 use Rattle.rules.specs.Typing.{site, body_site, templates_typing, typed, value_typing}
 use Rattle.rules.specs.Walk.{Input, State, start, too_deep, End, done, stuck, and_then, write, with_child, pieces}
 use Rattle.rules.specs.Walk.{Filled, Asked, piece, items, filled_by, separate, visit_item, in_order, listed, items_of, visit_in, visit_form, counted, visit, walk}
-use Rattle.rules.specs.Derivation.{Derives, produced, Pieces, no_element, one_piece, Piece, own-bytes, derived, repeated}
+use Rattle.rules.specs.Derivation.{Derives, produced, Pieces, no_element, one_piece, Piece, own_bytes, derived, repeated}
 use Rattle.rules.specs.declared.Form.TheVariants.{For}
 use Rattle.rules.specs.declared.Position.{Position}
 use Rattle.rules.specs.declared.Position.TheVariants.{Nonterminal, Item}
@@ -30,8 +30,8 @@ use Rattle.theorems.specs.Neighbours.{Further, no_more, further_one, further_app
 use Rattle.theorems.specs.Judgement.{a_field}
 use Rattle.theorems.specs.Places.{place_lexeme}
 use Rattle.theorems.proofs.Places.{place_text}
-use Rattle.theorems.specs.Judgement.{Suits, by-build, by-literal, by_place, by-expand, by-if, by-for, by-sequence, as-item, by-match}
-use Rattle.theorems.specs.Judgement.{Fills, all-filled, no-child, a_child, Items, no_item, an_item}
+use Rattle.theorems.specs.Judgement.{Suits, by_build, by_literal, by_place, by_expand, by_if, by_for, by_sequence, as_item, by_match}
+use Rattle.theorems.specs.Judgement.{Fills, all_filled, no_child, a_child, Items, no_item, an_item}
 use Rattle.theorems.specs.Judgement.{AllOf, none_left, one_of, EachOf, no_field}
 use Rattle.theorems.specs.TypingExactly.{declared_exactly}
 use Rattle.theorems.proofs.TypingExactly.{misfit_suits}
@@ -83,14 +83,14 @@ piece_derived (derived n x d) = d
 
 -- a for suits an item's position only; an item that is no for suits its nonterminal's
 no_for_there : {g t vars : List ℕ} {p n : ℕ} → Suits g t vars p (Nonterminal n) → form_of t p ≡ For → ⊥
-no_for_there (by-build vars p n q f e b fs) h = let z : ◌≡◌ {A = ℕ} 0 1 = cc in omega arith
-no_for_there (by-expand vars p n q f e b as') h = let z : ◌≡◌ {A = ℕ} 0 1 = cc in omega arith
-no_for_there (by-if vars p n ty f e b su su') h = let z : ◌≡◌ {A = ℕ} 0 1 = cc in omega arith
-no_for_there (by-match vars p n ty tys f e b as') h = let z : ◌≡◌ {A = ℕ} 0 1 = cc in omega arith
+no_for_there (by_build vars p n q f e b fs) h = let z : ◌≡◌ {A = ℕ} 0 1 = cc in omega arith
+no_for_there (by_expand vars p n q f e b as') h = let z : ◌≡◌ {A = ℕ} 0 1 = cc in omega arith
+no_for_there (by_if vars p n ty f e b su su') h = let z : ◌≡◌ {A = ℕ} 0 1 = cc in omega arith
+no_for_there (by_match vars p n ty tys f e b as') h = let z : ◌≡◌ {A = ℕ} 0 1 = cc in omega arith
 
 no_for_suits : {g t vars : List ℕ} {p n : ℕ} → Suits g t vars p (Item n) → (form_of t p ≡ For → ⊥) → Suits g t vars p (Nonterminal n)
-no_for_suits (by-for vars p n ty item f e b su) h = absurd (h f)
-no_for_suits (as-item vars p n su) h = su
+no_for_suits (by_for vars p n ty item f e b su) h = absurd (h f)
+no_for_suits (as_item vars p n su) h = su
 
 -- The visits one deeper being sound, so is what a form does with them.
 module _ (i : Input) (below : Asked → ℕ → List ℕ → State → End) (sound : Sound i below) where
@@ -99,8 +99,8 @@ module _ (i : Input) (below : Asked → ℕ → List ℕ → State → End) (sou
   fills_sound : {vars env : List ℕ} {es : List Element} {cs : List ℕ} (p : ℕ) → Fills g t vars es cs → EachOf g t v vars env
       → (s : State) → Ends (Wrote (Pieces g es) s.text) (pieces (write room p) (λ e c. below (piece e) c env) es cs s)
   unfolding pieces with_child
-  fills_sound p (all-filled vars) h s = writes_none s no_element
-  fills_sound p (no-child vars x es cs fs) h s = writes_then _ (one_piece _ es) (writes_whole _ p x s (own-bytes x)) (fills_sound p fs h)
+  fills_sound p (all_filled vars) h s = writes_none s no_element
+  fills_sound p (no_child vars x es cs fs) h s = writes_then _ (one_piece _ es) (writes_whole _ p x s (own_bytes x)) (fills_sound p fs h)
   fills_sound p (a_child vars e at q es cs a su fs) h s =
       rw (pieces_child _ _ es _ s a) (writes_then _ (one_piece e es) (sound.writes su a h s) (fills_sound p fs h))
 
@@ -144,38 +144,38 @@ module _ (i : Input) (below : Asked → ℕ → List ℕ → State → End) (sou
   form_sound : BodiesSuit g t → {vars env : List ℕ} {p : ℕ} {e : Element} {at : Position} → Suits g t vars p at → Asks e at → EachOf g t v vars env
       → (s : State) → Ends (Wrote (Piece g e) s.text) (visit_form i (form_of t p) below (piece e) p env s)
   unfolding visit_form filled_by on_found
-  form_sound bodies (by-build vars p n q f e b fs) (asks_nonterminal_lem n') h s =
+  form_sound bodies (by_build vars p n q f e b fs) (asks_nonterminal_lem n') h s =
       rw f (found_ends _ e (writes_map (λ x ps. derived n x (produced n (field_b t p) q x e b ps)) (fills_sound p fs h s)))
-  form_sound bodies (by-literal vars p c f e) (asks_class_lem c') h s = rw f (writes_whole room p _ s ((piece_exactly g c _).1 e))
+  form_sound bodies (by_literal vars p c f e) (asks_class_lem c') h s = rw f (writes_whole room p _ s ((piece_exactly g c _).1 e))
   form_sound bodies (by_place vars p c d ty f e b k) (asks_class_lem c') h s =
       let w = path_of e h in
       let x = shaped (text d) w.2 b in
       rw f (found_ends _ w.1 (found_ends _ x.1 (writes_whole room p _ s ((piece_exactly g c _).1 (place_lexeme k x.2 (place_text g (lexeme c) refl))))))
-  form_sound bodies (by-expand vars p n q f e b as') (asks_nonterminal_lem n') h s =
+  form_sound bodies (by_expand vars p n q f e b as') (asks_nonterminal_lem n') h s =
       let ws = arguments_of as' h in
       rw (f, ← b) (found_ends _ e (found_ends _ ws.1 (sound.writes (bodies _ q e) (asks_nonterminal_lem _) ws.2 s)))
-  form_sound bodies (by-if vars p n ty f e b su su') a h s =
+  form_sound bodies (by_if vars p n ty f e b su su') a h s =
       let w = path_of e h in
-      let y = shaped yes_no_lem w.2 b in
+      let y = shaped yes_no w.2 b in
       rw f (found_ends _ w.1 (found_ends _ y.1 (sound.writes (either_suits y.0 su su') a h s)))
-  form_sound bodies (by-match vars p n ty tys f e b as') a h s =
+  form_sound bodies (by_match vars p n ty tys f e b as') a h s =
       let w = path_of e h in
       let (c, is, to, there, o) = shaped (cases tys) w.2 b in
       let (arm, y, su) = arm_there c.number to as' there in
       rw f (found_ends _ w.1 (found_ends _ is (found_ends _ y (sound.writes su a (each_more h o) s))))
-  form_sound bodies {vars = vars} {env = env} {p = p} {e = e} (by-for _ _ n ty item _ _ _ _) a h s = elim a [ ]
-  form_sound bodies {vars = vars} {env = env} {p = p} {e = e} (as-item _ _ n _) a h s = elim a [ ]
-  form_sound bodies (by-sequence vars p n f is) (asks_repetition_lem n' x) h s =
+  form_sound bodies {vars = vars} {env = env} {p = p} {e = e} (by_for _ _ n ty item _ _ _ _) a h s = elim a [ ]
+  form_sound bodies {vars = vars} {env = env} {p = p} {e = e} (as_item _ _ n _) a h s = elim a [ ]
+  form_sound bodies (by_sequence vars p n f is) (asks_repetition_lem n' x) h s =
       rw f (writes_map (λ y r. repeated n x y (further_row r.1 refl)) (items_sound p 0 is h s))
 
   for_sound : {vars env : List ℕ} {p : ℕ} (f : Filled) (k : ℕ) → form_of t p ≡ For → Suits g t vars p (Item f.nonterminal) → EachOf g t v vars env
       → (s : State) → Ends (Wrote (Further g f.nonterminal f.separator k (k + items_of i env p)) s.text) (visit_form i (form_of t p) below (items f k) p env s)
   unfolding visit_form listed items_of is_for on_found
-  for_sound f k q (by-for vars p n ty item f' e b su) h s =
+  for_sound f k q (by_for vars p n ty item f' e b su) h s =
       let w = path_of e h in
       let ws = shaped (list item) w.2 b in
       rw (q, w.1, ws.1) (loop_sound f k ws.2 su h s)
-  for_sound f k q (as-item vars p n su) h s = absurd (no_for_there su q)
+  for_sound f k q (as_item vars p n su) h s = absurd (no_for_there su q)
 
 module _ (i : Input) (h : WellTyped i) where
   open i use {grammar as g, templates as t, value as v}

@@ -4,8 +4,8 @@ use Rattle.std.specs.Prelude.{◌≡◌, refl, ℕ, suc, ◌+◌, ◌-◌, ◌*�
 use Rattle.std.proofs.Common.{sym, ◌∙◌, ap, subst, suc-mul, arith, true≢false, length-append}
 use mathlib.Core.List.{List, [], ◌∷◌, ◌++◌, append_assoc, append-nil, flatten}
 use Rattle.rules.specs.Grammar.{productions, production, Element, keyword, nonterminal, repetition, unknown, nonterminal_exists}
-use Rattle.rules.specs.Derivation.{Derives, produced, Pieces, no_element, one_piece, Piece, own-bytes, derived, repeated}
-use Rattle.rules.specs.Derivation.{Row, no_text, some-texts, Texts, last-text, next_text}
+use Rattle.rules.specs.Derivation.{Derives, produced, Pieces, no_element, one_piece, Piece, own_bytes, derived, repeated}
+use Rattle.rules.specs.Derivation.{Row, no_text, some_texts, Texts, last_text, next_text}
 use Rattle.laws.specs.Faults.{In, here, later, nth_in}
 use Rattle.theorems.specs.LimitsExactly.{has_in}
 use Rattle.theorems.proofs.Lexemes.{piece_exactly}
@@ -17,7 +17,7 @@ production_of (produced n k p x e f ps) = (k, p, e, f, ps)
 
 -- "for a keyword its own bytes", and nothing else
 keyword_piece : {g w x : List ℕ} → Piece g (keyword w) x → x ≡ w
-keyword_piece (own-bytes x) = refl
+keyword_piece (own_bytes x) = refl
 
 -- "for a nonterminal a text that it derives", "for a repetition any number of texts in a row", and nothing else
 nonterminal_piece : {g x : List ℕ} {n : ℕ} → Piece g (nonterminal n) x → Derives g n x
@@ -63,7 +63,7 @@ derived_exists {g} (produced n k p x e f ps) = has_in g n (nth_in (productions g
 texts_of : {g between x : List ℕ} {n : ℕ} → Texts g n between x
     → (y : List ℕ) × (ys : List (List ℕ)) × (x ≡ y ++ each_after between ys) × ((z : List ℕ) → In z (y ∷ ys) → Derives g n z)
 unfolding each_after
-texts_of {g} (last-text n between x d) = (x, [], sym (append-nil x), λ z i. in_cons (Derives g n) d (λ z i. elim i [ ]) i)
+texts_of {g} (last_text n between x d) = (x, [], sym (append-nil x), λ z i. in_cons (Derives g n) d (λ z i. elim i [ ]) i)
 texts_of {g} (next_text n between x rest d ts) =
     let (y, ys, e, h) = texts_of ts in (
       x,
@@ -75,11 +75,11 @@ texts_of {g} (next_text n between x rest d ts) =
 row_texts : {g between x : List ℕ} {n : ℕ} → Row g n between x → InARow g n between x
 unfolding joined
 row_texts (no_text n between) = ([], refl, λ y i. elim i [ ])
-row_texts (some-texts n between x ts) = let (y, ys, e, h) = texts_of ts in (y ∷ ys, e, h)
+row_texts (some_texts n between x ts) = let (y, ys, e, h) = texts_of ts in (y ∷ ys, e, h)
 
 texts_from : {g : List ℕ} {n : ℕ} (between y : List ℕ) (ys : List (List ℕ)) → ((z : List ℕ) → In z (y ∷ ys) → Derives g n z) → Texts g n between (y ++ each_after between ys)
 unfolding each_after
-texts_from {n} between y [] h = rw (append-nil y) (last-text n between y (h y (here [])))
+texts_from {n} between y [] h = rw (append-nil y) (last_text n between y (h y (here [])))
 texts_from {n} between y (z ∷ zs) h =
     rw (append_assoc between z (each_after between zs), ← append_assoc y between (z ++ each_after between zs))
     (next_text n between y _ (h y (here _)) (texts_from between z zs (λ u i. h u (later y _ i))))
@@ -87,7 +87,7 @@ texts_from {n} between y (z ∷ zs) h =
 texts_row : {g : List ℕ} {n : ℕ} (between : List ℕ) (texts : List (List ℕ)) → ((y : List ℕ) → In y texts → Derives g n y) → Row g n between (joined between texts)
 unfolding joined
 texts_row {n} between [] h = no_text n between
-texts_row {n} between (y ∷ ys) h = some-texts n between _ (texts_from between y ys h)
+texts_row {n} between (y ∷ ys) h = some_texts n between _ (texts_from between y ys h)
 
 -- k texts have k - 1 separators between them
 each_length : (between : List ℕ) (texts : List (List ℕ)) → length (each_after between texts) ≡ length (flatten texts) + length texts * length between
@@ -125,7 +125,7 @@ derivation_has_teeth g = record {
   none_without = λ n x e d. true≢false (sym (derived_exists d) ∙ e);
   no_element_only = λ x. (no_pieces, λ e. subst (Pieces g []) (sym e) no_element);
   elements_only = λ e es x. (first_piece, λ (y, rest, p, ps, q). subst (Pieces g (e ∷ es)) (sym q) (one_piece e es y rest p ps));
-  keyword_only = λ w x. (keyword_piece, λ e. subst (Piece g (keyword w)) (sym e) (own-bytes w));
+  keyword_only = λ w x. (keyword_piece, λ e. subst (Piece g (keyword w)) (sym e) (own_bytes w));
   lexeme_only = piece_exactly g;
   nonterminal_only = λ n x. (nonterminal_piece, derived n x);
   repetition_only = λ n between x. (

@@ -15,9 +15,9 @@ use Rattle.rules.specs.declared.Position.TheVariants.{Nonterminal, Item}
 use Rattle.laws.specs.Faults.{need_none, need_iff, both_none, both_iff, In, here, later, every_in, in_every, exists_iff, at_none, Below}
 use Rattle.theorems.specs.LimitsExactly.{TemplateWithin}
 use Rattle.theorems.specs.Children.{Asks, OneEach, nothing_left, no_child_for, one_child_for, ChildFor, this_child, past_keyword, past_child}
-use Rattle.theorems.specs.Judgement.{Suits, by-build, by-literal, by_place, by-expand, by-if, by-for, by-sequence, as-item, Fills, all-filled, no-child, a_child, Items, no_item, an_item, by-match, Arms, no_arm, an_arm}
+use Rattle.theorems.specs.Judgement.{Suits, by_build, by_literal, by_place, by_expand, by_if, by_for, by_sequence, as_item, Fills, all_filled, no_child, a_child, Items, no_item, an_item, by_match, Arms, no_arm, an_arm}
 use Rattle.theorems.specs.OwnRule.{AsksText, in_its_position, in_a_sequence, Fits, a_build, a_literal, a_place, an_expand, an_if, a_for, a_sequence, ChildNode, build_child, first_branch, second_branch, loop_body, sequence_item, a_match, match_arm}
-use Rattle.theorems.specs.HeadByHead.{in_cons, tree_judged, judged-exactly, each-exactly}
+use Rattle.theorems.specs.HeadByHead.{in_cons, tree_judged, judged_exactly, each_exactly}
 use Rattle.theorems.specs.Lookups.{path_exactly}
 use Rattle.theorems.specs.OwnRuleExactly.{position_of, child_exactly, stands_exactly}
 use Rattle.theorems.proofs.OwnRuleExactly.{fits_exactly}
@@ -35,8 +35,8 @@ item_fits (an_if at n ty f a h e) = an_if _ n ty f (item_asked a) h e
 item_fits (a_match at n ty tys f a h e l) = a_match _ n ty tys f (item_asked a) h e l
 
 fills_one_each : {g t vars : List ℕ} {es : List Element} {cs : List ℕ} → Fills g t vars es cs → OneEach es cs
-fills_one_each (all-filled vars) = nothing_left
-fills_one_each (no-child vars x es cs fs) = no_child_for x es cs (fills_one_each fs)
+fills_one_each (all_filled vars) = nothing_left
+fills_one_each (no_child vars x es cs fs) = no_child_for x es cs (fills_one_each fs)
 fills_one_each (a_child vars e at c es cs a s fs) = one_child_for e at c es cs a (fills_one_each fs)
 
 arms_length : {g t vars tys ps : List ℕ} {n : ℕ} → Arms g t vars n tys ps → length ps ≡ length tys
@@ -44,21 +44,21 @@ arms_length (no_arm vars n) = refl
 arms_length (an_arm vars n ty p tys ps s as') = ap suc (arms_length as')
 
 suits_fits : {g t vars : List ℕ} {p : ℕ} {at : Position} → Suits g t vars p at → Fits g t vars p at
-suits_fits (by-build vars p n q f e b fs) = a_build (Nonterminal n) q f e (rw b (in_its_position n)) (fills_one_each fs)
-suits_fits (by-literal vars p c f l) = a_literal c f l
+suits_fits (by_build vars p n q f e b fs) = a_build (Nonterminal n) q f e (rw b (in_its_position n)) (fills_one_each fs)
+suits_fits (by_literal vars p c f l) = a_literal c f l
 suits_fits (by_place vars p c d ty f h e k) = a_place c d ty f h e k
-suits_fits (by-expand vars p n q f e b as') = an_expand (Nonterminal n) q f e (rw b (in_its_position n)) as'
-suits_fits (by-if vars p n ty f h e s₁ s₂) = an_if (Nonterminal n) n ty f (in_its_position n) h e
-suits_fits (by-for vars p n ty item f h e s) = a_for n ty item f h e
-suits_fits (by-sequence vars p n f is) = a_sequence n f
-suits_fits (as-item vars p n s) = item_fits (suits_fits s)
-suits_fits (by-match vars p n ty tys f h e as') = a_match (Nonterminal n) n ty tys f (in_its_position n) h e (arms_length as')
+suits_fits (by_expand vars p n q f e b as') = an_expand (Nonterminal n) q f e (rw b (in_its_position n)) as'
+suits_fits (by_if vars p n ty f h e s₁ s₂) = an_if (Nonterminal n) n ty f (in_its_position n) h e
+suits_fits (by_for vars p n ty item f h e s) = a_for n ty item f h e
+suits_fits (by_sequence vars p n f is) = a_sequence n f
+suits_fits (as_item vars p n s) = item_fits (suits_fits s)
+suits_fits (by_match vars p n ty tys f h e as') = a_match (Nonterminal n) n ty tys f (in_its_position n) h e (arms_length as')
 
 -- and all directly below it suits
 fills_in : {g t vars : List ℕ} {es : List Element} {cs : List ℕ} → Fills g t vars es cs → (y : Site) → In y (sites vars (positions es) cs) → SuitsAt g t y
 unfolding positions sites site
-fills_in (all-filled vars) y i = elim i [ ]
-fills_in (no-child vars x es cs fs) y i = fills_in fs y i
+fills_in (all_filled vars) y i = elim i [ ]
+fills_in (no_child vars x es cs fs) y i = fills_in fs y i
 fills_in {g} {t} (a_child vars e at c es cs a s fs) y i = in_cons (SuitsAt g t) s (fills_in fs) (rw (position_of es a) at i)
 
 items_in : {g t vars : List ℕ} {n : ℕ} {cs : List ℕ} → Items g t vars n cs → (y : Site) → In y (map (site vars (Item n)) cs) → SuitsAt g t y
@@ -73,32 +73,32 @@ arms_suit {g} {t} (an_arm vars n ty p tys ps s as') y i = in_cons (SuitsAt g t) 
 
 item_same : {g t vars : List ℕ} {p n : ℕ} → Suits g t vars p (Nonterminal n) → sites_below g t (site vars (Item n) p) ≡ sites_below g t (site vars (Nonterminal n) p)
 unfolding sites_below sites_of site asks_nonterminal
-item_same (by-build vars p n q f e b fs) = rw f
-item_same (by-expand vars p n q f e b as') = rw f
-item_same (by-if vars p n ty f h e s₁ s₂) = rw f
-item_same (by-match vars p n ty tys f h e as') = rw f
+item_same (by_build vars p n q f e b fs) = rw f
+item_same (by_expand vars p n q f e b as') = rw f
+item_same (by_if vars p n ty f h e s₁ s₂) = rw f
+item_same (by_match vars p n ty tys f h e as') = rw f
 
 suits_below : {g t vars : List ℕ} {p : ℕ} {at : Position} → Suits g t vars p at → (y : Site) → In y (sites_below g t (site vars at p)) → SuitsAt g t y
 unfolding sites_below sites_of site asks_nonterminal asks_item asks_repetition item_type case_types on_found
-suits_below (by-build vars p n q f e b fs) y i = fills_in fs y (rw (f, e) at i)
-suits_below (by-literal vars p c f l) y i = absurd (in_none (rw f at i))
+suits_below (by_build vars p n q f e b fs) y i = fills_in fs y (rw (f, e) at i)
+suits_below (by_literal vars p c f l) y i = absurd (in_none (rw f at i))
 suits_below (by_place vars p c d ty f h e k) y i = absurd (in_none (rw f at i))
-suits_below (by-expand vars p n q f e b as') y i = absurd (in_none (rw f at i))
-suits_below {g} {t} (by-if vars p n ty f h e s₁ s₂) y i = in_cons (SuitsAt g t) s₁ (λ z. in_cons (SuitsAt g t) s₂ (λ w j. elim j [ ])) (rw f at i)
-suits_below {g} {t} (by-for vars p n ty item f h e s) y i = in_cons (SuitsAt g t) s (λ z j. elim j [ ]) (rw (f, (path_exactly t vars (path p) ty).1 h, e) at i)
-suits_below (by-sequence vars p n f is) y i = items_in is y (rw f at i)
-suits_below (as-item vars p n s) y i = suits_below s y (rw (item_same s) at i)
-suits_below {t = t} (by-match vars p n ty tys f h e as') y i = arms_suit as' y (rw (f, (path_exactly t vars (path p) ty).1 h, e) at i)
+suits_below (by_expand vars p n q f e b as') y i = absurd (in_none (rw f at i))
+suits_below {g} {t} (by_if vars p n ty f h e s₁ s₂) y i = in_cons (SuitsAt g t) s₁ (λ z. in_cons (SuitsAt g t) s₂ (λ w j. elim j [ ])) (rw f at i)
+suits_below {g} {t} (by_for vars p n ty item f h e s) y i = in_cons (SuitsAt g t) s (λ z j. elim j [ ]) (rw (f, (path_exactly t vars (path p) ty).1 h, e) at i)
+suits_below (by_sequence vars p n f is) y i = items_in is y (rw f at i)
+suits_below (as_item vars p n s) y i = suits_below s y (rw (item_same s) at i)
+suits_below {t = t} (by_match vars p n ty tys f h e as') y i = arms_suit as' y (rw (f, (path_exactly t vars (path p) ty).1 h, e) at i)
 
 -- and these two are enough
 text_suits : {g t vars : List ℕ} {p n : ℕ} {at : Position} → AsksText at n → Suits g t vars p (Nonterminal n) → Suits g t vars p at
 text_suits (in_its_position n) s = s
-text_suits {vars = vars} {p} (in_a_sequence n) s = as-item vars p n s
+text_suits {vars = vars} {p} (in_a_sequence n) s = as_item vars p n s
 
 children_fill : {g t : List ℕ} (vars : List ℕ) {es : List Element} {cs : List ℕ} → OneEach es cs
     → ((e : Element) (at : Position) (c : ℕ) → ChildFor es cs e c → Asks e at → Suits g t vars c at) → Fills g t vars es cs
-children_fill vars nothing_left h = all-filled vars
-children_fill vars (no_child_for x es cs o) h = no-child vars x es cs (children_fill vars o (λ e at c k. h e at c (past_keyword x e c es cs k)))
+children_fill vars nothing_left h = all_filled vars
+children_fill vars (no_child_for x es cs o) h = no_child vars x es cs (children_fill vars o (λ e at c k. h e at c (past_keyword x e c es cs k)))
 children_fill vars (one_child_for e at c es cs a o) h =
     a_child vars e at c es cs a (h e at c (this_child e at c es cs a) a) (children_fill vars o (λ e' at' c' k. h e' at' c' (past_child e' e at c' c es cs a k)))
 
@@ -117,15 +117,15 @@ each_arm vars n (ty ∷ tys) (p ∷ ps) l h = an_arm vars n ty p tys ps (h 0 ty 
 fits_suits : {g t vars : List ℕ} {p : ℕ} {at : Position} → Fits g t vars p at
     → ((vars' : List ℕ) (c : ℕ) (at' : Position) → ChildNode g t vars p at vars' c at' → Suits g t vars' c at') → Suits g t vars p at
 fits_suits {vars = vars} {p} (a_build at q f e a o) h =
-    text_suits a (by-build vars p _ q f e refl (children_fill vars o (λ el at' c k b. h vars c at' (build_child at at' el q c f e k b))))
-fits_suits {vars = vars} {p} (a_literal c f l) h = by-literal vars p c f l
+    text_suits a (by_build vars p _ q f e refl (children_fill vars o (λ el at' c k b. h vars c at' (build_child at at' el q c f e k b))))
+fits_suits {vars = vars} {p} (a_literal c f l) h = by_literal vars p c f l
 fits_suits {vars = vars} {p} (a_place c d ty f k e l) h = by_place vars p c d ty f k e l
-fits_suits {vars = vars} {p} (an_expand at q f e a as') h = text_suits a (by-expand vars p _ q f e refl as')
-fits_suits {vars = vars} {p} (an_if at n ty f a k e) h = text_suits a (by-if vars p n ty f k e (h _ _ _ (first_branch at n f a)) (h _ _ _ (second_branch at n f a)))
-fits_suits {vars = vars} {p} (a_for n ty item f k e) h = by-for vars p n ty item f k e (h _ _ _ (loop_body n ty item f k e))
-fits_suits {vars = vars} {p} (a_sequence n f) h = by-sequence vars p n f (each_item vars n _ (λ c i. h _ _ _ (sequence_item n c f i)))
+fits_suits {vars = vars} {p} (an_expand at q f e a as') h = text_suits a (by_expand vars p _ q f e refl as')
+fits_suits {vars = vars} {p} (an_if at n ty f a k e) h = text_suits a (by_if vars p n ty f k e (h _ _ _ (first_branch at n f a)) (h _ _ _ (second_branch at n f a)))
+fits_suits {vars = vars} {p} (a_for n ty item f k e) h = by_for vars p n ty item f k e (h _ _ _ (loop_body n ty item f k e))
+fits_suits {vars = vars} {p} (a_sequence n f) h = by_sequence vars p n f (each_item vars n _ (λ c i. h _ _ _ (sequence_item n c f i)))
 fits_suits {vars = vars} {p} (a_match at n ty tys f a k e l) h =
-    text_suits a (by-match vars p n ty tys f k e (each_arm vars n tys _ l (λ j to c x y. h _ _ _ (match_arm at n ty j to c tys f a k e x y))))
+    text_suits a (by_match vars p n ty tys f k e (each_arm vars n tys _ l (λ j to c x y. h _ _ _ (match_arm at n ty j to c tys f a k e x y))))
 
 suits_by_parts : (g t : List ℕ) (x : Site) → SuitsAt g t x ↔ ((suits g t x ≡ true) × ((y : Site) → In y (sites_below g t x) → SuitsAt g t y))
 unfolding site
@@ -151,7 +151,7 @@ typing_exactly g t within = (
 )
   where
     body-judged : (p : ℕ) → In p (templates t) → (misfit g t deepest (body_site t p) ≡ none) ↔ SuitsAt g t (body_site t p)
-    body-judged p i = judged-exactly (suits g t) (sites_below g t) (SuitsAt g t) (suits_by_parts g t) deepest (body_site t p) (sites_shallow g t p (within p i))
+    body-judged p i = judged_exactly (suits g t) (sites_below g t) (SuitsAt g t) (suits_by_parts g t) deepest (body_site t p) (sites_shallow g t p (within p i))
 
 pub judged_node_by_node : (g t : List ℕ) → ((p : ℕ) → In p (templates t) → TemplateWithin t p) → SetTyped g t ↔ EachFits g t
 unfolding body_site site
@@ -170,4 +170,4 @@ judged_node_by_node g t within = (
 )
   where
     each : (p : ℕ) → In p (templates t) → SuitsAt g t (body_site t p) ↔ ((d : ℕ) (y : Site) → Below (sites_below g t) (body_site t p) d y → suits g t y ≡ true)
-    each p i = each-exactly (suits g t) (sites_below g t) (SuitsAt g t) (suits_by_parts g t) deepest (body_site t p) (sites_shallow g t p (within p i))
+    each p i = each_exactly (suits g t) (sites_below g t) (SuitsAt g t) (suits_by_parts g t) deepest (body_site t p) (sites_shallow g t p (within p i))

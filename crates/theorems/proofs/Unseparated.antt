@@ -19,7 +19,7 @@ use Rattle.laws.specs.Faults.{In, here, later, nth_in}
 use Rattle.laws.specs.Sorts.{no_class, plain_class_iff}
 use Rattle.theorems.specs.Streams.{in_row}
 use Rattle.theorems.specs.Sizes.{keyword_text, separator_text}
-use Rattle.theorems.specs.Apart.{one_thing, first_ends, second_ends, heads_within, heads_apart, things-apart, those_in}
+use Rattle.theorems.specs.Apart.{one_thing, first_ends, second_ends, heads_within, heads_apart, things_apart, those_in}
 use Rattle.theorems.specs.ReadAlike.{ReadAlike, found_same}
 use Rattle.theorems.specs.Unseparated.{ElementOf, Unseparated, same_bytes, three_or_four, DifferInForm, no_text, same_byte, same_word, same_run}
 
@@ -44,7 +44,7 @@ unfolding productions grammar_things element_heads
 in_no_text {g} {e} {f} a b l m =
     let (i, j) = element_within a in
     let (k, n) = element_within b in
-    elim (things-apart (grammar_size g) g (record_count g) 0 (those_in (of_kind g 3) _ a.a_production).0 (those_in (of_kind g 3) _ b.a_production).0) [
+    elim (things_apart (grammar_size g) g (record_count g) 0 (those_in (of_kind g 3) _ a.a_production).0 (those_in (of_kind g 3) _ b.a_production).0) [
       | first_ends h ↦ omega arith
       | second_ends h ↦ omega arith
       | one_thing h ↦
@@ -63,7 +63,7 @@ in_no_class {g} {p} {f} a b l m =
     let x = eqb-true (kind_of g b.head) 3 w in
     let (k, n) = element_within b in
     let z : grammar_size g p ≡ 1 + field_d g p = rw u in
-    elim (things-apart (grammar_size g) g (record_count g) 0 i j) [
+    elim (things_apart (grammar_size g) g (record_count g) 0 i j) [
       | one_thing h ↦ false≢true (sym (no_class g b.head (λ z. omega arith) (λ z. omega arith)) ∙ ap (is_class g) (sym h) ∙ u)
       | first_ends h ↦ omega arith
       | second_ends h ↦ omega arith

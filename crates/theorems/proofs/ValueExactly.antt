@@ -7,16 +7,16 @@ use Rattle.std.proofs.lemmas.Bool.{false≢true}
 use Rattle.std.proofs.Math.Option.{none, some}
 use Rattle.rules.specs.Faults.{on_found, exists}
 use Rattle.rules.specs.Records.{field_b, text_of, nth}
-use Rattle.rules.specs.Templates.{TypeForm, text, yes_no_lem, list, fields, cases, no_type, type_of}
+use Rattle.rules.specs.Templates.{TypeForm, text, yes_no, list, fields, cases, no_type, type_of}
 use Rattle.rules.specs.Value.{children, as_text, as_yes_no, as_list, as_record, Case, as_case}
 use Rattle.rules.specs.Limits.{deepest, value_limits}
 use Rattle.rules.specs.Typing.{Typed, typed, has_form, has_type, paired, typed_of, typed_below, mistyped, declared_type, value_typing}
 use Rattle.laws.specs.Faults.{In, here, later, exists_iff, on_found_true, on_found_none, eqb_iff, at_none, Below}
 use Rattle.theorems.proofs.Lexemes.{plain_lexeme_exactly}
 use Rattle.theorems.specs.Finds.{of_kind_lem, kind_of_lem}
-use Rattle.theorems.specs.Judgement.{OfType, of-text, of-yes-no, of-list, of-record, AllOf, none_left, one_of, EachOf, no_field, a_field, of_case}
+use Rattle.theorems.specs.Judgement.{OfType, of_text, of_yes_no, of_list, of_record, AllOf, none_left, one_of, EachOf, no_field, a_field, of_case}
 use Rattle.theorems.specs.OwnRule.{OfForm, a_text, a_yes_no, a_list, a_record, ChildValue, list_item, record_field, a_case, case_content}
-use Rattle.theorems.specs.HeadByHead.{in_cons, tree_judged, judged-exactly, each-exactly}
+use Rattle.theorems.specs.HeadByHead.{in_cons, tree_judged, judged_exactly, each_exactly}
 use Rattle.theorems.specs.TypingExactly.{declared_exactly}
 use Rattle.theorems.specs.Least.{in_none}
 use Rattle.theorems.specs.ValueExactly.{case_at, child_value_exactly, should_exactly, OfTypeAt, values_shallow, ValueTyped, EachOfForm}
@@ -28,7 +28,7 @@ form_right g t v (text c) ty w f e =
     let a = (on_found_true (as_text v w) _).0 e in
     let k = of_kind_lem v w 1 (text_of v (field_b v w) w) a.0 a.1 in
     a_text c f k.0 (rw k.1 ((plain_lexeme_exactly g c a.0).0 a.2))
-form_right g t v yes_no_lem ty w f e = let a = (exists_iff (as_yes_no v w)).0 e in a_yes_no f (of_kind_lem v w 2 _ a.0 a.1).0
+form_right g t v yes_no ty w f e = let a = (exists_iff (as_yes_no v w)).0 e in a_yes_no f (of_kind_lem v w 2 _ a.0 a.1).0
 form_right g t v (list item) ty w f e = let a = (exists_iff (as_list v w)).0 e in a_list item f (of_kind_lem v w 3 _ a.0 a.1).0
 form_right g t v (fields tys) ty w f e =
     let a = (on_found_true (as_record v w) _).0 e in
@@ -58,10 +58,10 @@ length_each no_field = refl
 length_each (a_field ty w tys ws o h) = ap suc (length_each h)
 
 type_form : {g t v : List ℕ} {ty w : ℕ} → OfType g t v ty w → OfForm g t v ty w
-type_form (of-text ty w c f k l) = a_text c f k l
-type_form (of-yes-no ty w f k) = a_yes_no f k
-type_form (of-list ty w item f k os) = a_list item f k
-type_form (of-record ty w tys f k os) = a_record tys f k (length_each os)
+type_form (of_text ty w c f k l) = a_text c f k l
+type_form (of_yes_no ty w f k) = a_yes_no f k
+type_form (of_list ty w item f k os) = a_list item f k
+type_form (of_record ty w tys f k os) = a_record tys f k (length_each os)
 type_form (of_case ty w to tys f k e o) = a_case to tys f k e
 
 all_in : {g t v : List ℕ} {ty : ℕ} {ws : List ℕ} → AllOf g t v ty ws → (y : Typed) → In y (map (typed ty) ws) → OfTypeAt g t v y
@@ -76,10 +76,10 @@ each_in {g} {t} {v} (a_field ty w tys ws o os) y i = in_cons (OfTypeAt g t v) o 
 
 type_below : {g t v : List ℕ} {ty w : ℕ} → OfType g t v ty w → (y : Typed) → In y (typed_below t v (typed ty w)) → OfTypeAt g t v y
 unfolding typed_below typed_of typed as_list as_record as_case on_found
-type_below (of-text ty w c f k l) y i = absurd (in_none (rw f at i))
-type_below (of-yes-no ty w f k) y i = absurd (in_none (rw f at i))
-type_below {v = v} (of-list ty w item f k os) y i = all_in os y (rw (f, kind_of_lem v w 3 (children v w) k) at i)
-type_below {v = v} (of-record ty w tys f k os) y i = each_in os y (rw (f, kind_of_lem v w 4 (children v w) k) at i)
+type_below (of_text ty w c f k l) y i = absurd (in_none (rw f at i))
+type_below (of_yes_no ty w f k) y i = absurd (in_none (rw f at i))
+type_below {v = v} (of_list ty w item f k os) y i = all_in os y (rw (f, kind_of_lem v w 3 (children v w) k) at i)
+type_below {v = v} (of_record ty w tys f k os) y i = each_in os y (rw (f, kind_of_lem v w 4 (children v w) k) at i)
 type_below {g} {t} {v} (of_case ty w to tys f k e o) y i = in_cons (OfTypeAt g t v) o (λ z j. elim j [ ]) (rw (f, kind_of_lem v w 5 (case_at v w) k, e) at i)
 
 in_all : {g t v : List ℕ} (ty : ℕ) (ws : List ℕ) → ((w : ℕ) → In w ws → OfType g t v ty w) → AllOf g t v ty ws
@@ -95,10 +95,10 @@ in_each (ty ∷ tys) [] l h = absurd (omega arith)
 in_each (ty ∷ tys) (w ∷ ws) l h = a_field ty w tys ws (h 0 ty w refl refl) (in_each tys ws (omega arith) (λ j. h (suc j)))
 
 form_type : {g t v : List ℕ} {ty w : ℕ} → OfForm g t v ty w → ((to u : ℕ) → ChildValue t v ty w to u → OfType g t v to u) → OfType g t v ty w
-form_type {ty = ty} {w} (a_text c f k l) h = of-text ty w c f k l
-form_type {ty = ty} {w} (a_yes_no f k) h = of-yes-no ty w f k
-form_type {ty = ty} {w} (a_list item f k) h = of-list ty w item f k (in_all item _ (λ u i. h item u (list_item item u f k i)))
-form_type {ty = ty} {w} (a_record tys f k l) h = of-record ty w tys f k (in_each tys _ l (λ j to u a b. h to u (record_field tys j to u f k a b)))
+form_type {ty = ty} {w} (a_text c f k l) h = of_text ty w c f k l
+form_type {ty = ty} {w} (a_yes_no f k) h = of_yes_no ty w f k
+form_type {ty = ty} {w} (a_list item f k) h = of_list ty w item f k (in_all item _ (λ u i. h item u (list_item item u f k i)))
+form_type {ty = ty} {w} (a_record tys f k l) h = of_record ty w tys f k (in_each tys _ l (λ j to u a b. h to u (record_field tys j to u f k a b)))
 form_type {ty = ty} {w} (a_case to tys f k e) h = of_case ty w to tys f k e (h to _ (case_content to tys f k e))
 
 type_by_parts : (g t v : List ℕ) (x : Typed) → OfTypeAt g t v x ↔ ((has_type g t v x ≡ true) × ((y : Typed) → In y (typed_below t v x) → OfTypeAt g t v y))
@@ -121,7 +121,7 @@ value_typed_exactly g t v shallow = (
 )
   where
     whole : (ty : ℕ) → (mistyped g t v deepest (typed ty 0) ≡ none) ↔ OfType g t v ty 0
-    whole ty = judged-exactly (has_type g t v) (typed_below t v) (OfTypeAt g t v) (type_by_parts g t v) deepest (typed ty 0) (values_shallow t v ty shallow)
+    whole ty = judged_exactly (has_type g t v) (typed_below t v) (OfTypeAt g t v) (type_by_parts g t v) deepest (typed ty 0) (values_shallow t v ty shallow)
 
 pub judged_value_by_value : (g t v : List ℕ) → value_limits v ≡ none → ValueTyped g t v ↔ EachOfForm g t v
 unfolding typed
@@ -140,4 +140,4 @@ judged_value_by_value g t v shallow = (
 )
   where
     each : (ty : ℕ) → OfType g t v ty 0 ↔ ((d : ℕ) (y : Typed) → Below (typed_below t v) (typed ty 0) d y → has_type g t v y ≡ true)
-    each ty = each-exactly (has_type g t v) (typed_below t v) (OfTypeAt g t v) (type_by_parts g t v) deepest (typed ty 0) (values_shallow t v ty shallow)
+    each ty = each_exactly (has_type g t v) (typed_below t v) (OfTypeAt g t v) (type_by_parts g t v) deepest (typed ty 0) (values_shallow t v ty shallow)

@@ -41,29 +41,29 @@ module _ (size : ℕ → ℕ) where
 
   -- the things of a stream
   module _ (s : List ℕ) where
-    thing-in : {q : ℕ} (n p : ℕ) → In q (things s size (suc n) p) → (q ≡ p) ⊎ In q (things s size n (p + size p))
+    thing_in : {q : ℕ} (n p : ℕ) → In q (things s size (suc n) p) → (q ≡ p) ⊎ In q (things s size n (p + size p))
     unfolding things
-    thing-in {q} n p i = go (eqb (kind_of s p) 0) i
+    thing_in {q} n p i = go (eqb (kind_of s p) 0) i
       where
         go : (b : Bool) → In q (elim b [ true ↦ [] | false ↦ p ∷ things s size n (p + size p) ]) → (q ≡ p) ⊎ In q (things s size n (p + size p))
         go true i = elim i [ ]
         go false i = in_first i
 
-    things-from : {q : ℕ} (n p : ℕ) → In q (things s size n p) → p ≤ q
+    things_from : {q : ℕ} (n p : ℕ) → In q (things s size n p) → p ≤ q
     unfolding things
-    things-from {q = q} zero p i = elim i [ ]
-    things-from (suc n) p i = elim (thing-in n p i) [ inl e ↦ omega arith | inr j ↦ let h = things-from n (p + size p) j in omega arith ]
+    things_from {q = q} zero p i = elim i [ ]
+    things_from (suc n) p i = elim (thing_in n p i) [ inl e ↦ omega arith | inr j ↦ let h = things_from n (p + size p) j in omega arith ]
 
-    pub things-apart : {q r : ℕ} (n p : ℕ) → In q (things s size n p) → In r (things s size n p) → Apart size q r
+    pub things_apart : {q r : ℕ} (n p : ℕ) → In q (things s size n p) → In r (things s size n p) → Apart size q r
     unfolding things
-    things-apart {q = q} {r = r} zero p i j = elim i [ ]
-    things-apart {q} {r} (suc n) p i j = go (thing-in n p i) (thing-in n p j) (λ k l. things-apart n (p + size p) k l)
+    things_apart {q = q} {r = r} zero p i j = elim i [ ]
+    things_apart {q} {r} (suc n) p i j = go (thing_in n p i) (thing_in n p j) (λ k l. things_apart n (p + size p) k l)
       where
         go : (q ≡ p) ⊎ In q (things s size n (p + size p)) → (r ≡ p) ⊎ In r (things s size n (p + size p))
             → (In q (things s size n (p + size p)) → In r (things s size n (p + size p)) → Apart size q r) → Apart size q r
         go (inl a) (inl b) rest = one_thing (a ∙ sym b)
-        go (inl a) (inr b) rest = first_ends (rw a (things-from n (p + size p) b))
-        go (inr a) (inl b) rest = second_ends (rw b (things-from n (p + size p) a))
+        go (inl a) (inr b) rest = first_ends (rw a (things_from n (p + size p) b))
+        go (inr a) (inl b) rest = second_ends (rw b (things_from n (p + size p) a))
         go (inr a) (inr b) rest = rest a b
 
 -- what is chosen of a list by its sort

@@ -32,11 +32,11 @@ module _ (i : Input) where
 
   -- a node of a sequence, with k items before it and l items up to its end
   pub data ANode (f : Filled) (k : ℕ) (env : List ℕ) (c : ℕ) : ℕ → List ℕ → ℕ → Type 0 where
-    item-node : {x : List ℕ} {n : ℕ} → (form_of t c ≡ For → ⊥) → AnItem f k env c x n → ANode f k env c (k + 1) x n
-    for-node : {x : List ℕ} {w n : ℕ} → form_of t c ≡ For → Finds t v env (path c) w → kind_of v w ≡ 3
+    item_node : {x : List ℕ} {n : ℕ} → (form_of t c ≡ For → ⊥) → AnItem f k env c x n → ANode f k env c (k + 1) x n
+    for_node : {x : List ℕ} {w n : ℕ} → form_of t c ≡ For → Finds t v env (path c) w → kind_of v w ≡ 3
         → Loops g t v env f.nonterminal f.separator k (first c) (children v w) x n → ANode f k env c (k + length (children v w)) x (suc n)
 
   -- whatever go is done with came by the rules
   pub record ByRules (go : Asked → ℕ → List ℕ → State → End) : Type 0 where
-    pub of-piece : (e : Element) (p : ℕ) (env : List ℕ) (s s' : State) → go (piece e) p env s ≡ done s' → Wrote (Evaluates g t v env e p) s s'
+    pub of_piece : (e : Element) (p : ℕ) (env : List ℕ) (s s' : State) → go (piece e) p env s ≡ done s' → Wrote (Evaluates g t v env e p) s s'
     pub of_for : (f : Filled) (k p : ℕ) (env : List ℕ) (s s' : State) → form_of t p ≡ For → go (items f k) p env s ≡ done s' → Wrote (AFor f k env p) s s'

@@ -55,9 +55,9 @@ mutual
     -- nothing is left to build; children that no element takes, of which a typed build has none, give no text
     no_element : {env cs : List ℕ} → Builds g t v env [] cs [] 0
     -- 4: "For a keyword kw, the premise ψᵢ = kw"
-    own-bytes : {env cs w y : List ℕ} {es : List Element} {n : ℕ} → Builds g t v env es cs y n → Builds g t v env (keyword w ∷ es) cs (w ++ y) n
+    own_bytes : {env cs w y : List ℕ} {es : List Element} {n : ℕ} → Builds g t v env es cs y n → Builds g t v env (keyword w ∷ es) cs (w ++ y) n
     -- 1 to 3: "For a nonterminal", "For a Kleene closure", whose list is the sequence at c, "For a morphem class"
-    next-child : {env cs x y : List ℕ} {e : Element} {at : Position} {c m n : ℕ} {es : List Element} → Asks e at
+    next_child : {env cs x y : List ℕ} {e : Element} {at : Position} {c m n : ℕ} {es : List Element} → Asks e at
         → Evaluates g t v env e c x m → Builds g t v env es cs y n → Builds g t v env (e ∷ es) (c ∷ cs) (x ++ y) (m + n)
 
   -- the texts of a sequence's items, each of nonterminal m, in order, when k items came before: "one separator between neighbours and none elsewhere"
@@ -73,8 +73,8 @@ mutual
 
   -- the texts of a for's body p, one for each item of the list, in order: "the item being one variable more"
   pub data Loops (g t v : List ℕ) : List ℕ → ℕ → List ℕ → ℕ → ℕ → List ℕ → List ℕ → ℕ → Type 0 where
-    no-turn : {env between : List ℕ} {m k p : ℕ} → Loops g t v env m between k p [] [] 0
-    one-turn : {env between ws z x y : List ℕ} {m k p w i n : ℕ} → BeforeItem between k z → Evaluates g t v (env ++ w ∷ []) (nonterminal m) p x i
+    no_turn : {env between : List ℕ} {m k p : ℕ} → Loops g t v env m between k p [] [] 0
+    one_turn : {env between ws z x y : List ℕ} {m k p w i n : ℕ} → BeforeItem between k z → Evaluates g t v (env ++ w ∷ []) (nonterminal m) p x i
         → Loops g t v env m between (k + 1) p ws y n → Loops g t v env m between k p (w ∷ ws) (z ++ x ++ y) (i + n)
 
 -- a whole set: "template 0's body and the value as its one variable"

@@ -11,7 +11,7 @@ use Rattle.rules.specs.Templates.{templates_size, types, templates, type, templa
 use Rattle.rules.specs.Value.{value_size, children, values_below, content}
 use Rattle.theorems.specs.Streams.{WellSized}
 use Rattle.theorems.specs.Readings.{ElementIs, element_is}
-use Rattle.theorems.specs.LaidOut.{InRow, no_thing, one_thing, Numbered, no_more, one_more_lem, RangeAt, ClassAt, ElementAt, ProductionAt, GrammarLaid, NamingAt, TypeAt, PathAt, NodeAt, NodesAt, no_node, one-node, TemplateAt, TemplatesLaid, ValueAt}
+use Rattle.theorems.specs.LaidOut.{InRow, no_thing, one_thing, Numbered, no_more, one_more_lem, RangeAt, ClassAt, ElementAt, ProductionAt, GrammarLaid, NamingAt, TypeAt, PathAt, NodeAt, NodesAt, no_node, one_node, TemplateAt, TemplatesLaid, ValueAt}
 use Rattle.theorems.specs.Sizes.{each_numbered, range_size, class_number, ranges_row, class_size, element_size_lem, production_size_lem, naming_size, type_size, template_size, path_size, node_size, value_size_lem}
 use Rattle.theorems.specs.Heads.{classes_are, productions_are, types_are, templates_are}
 use Rattle.theorems.specs.Ranges.{AnyClass, AnyProduction, nodes_row, values_row}
@@ -147,11 +147,11 @@ named_all t [] = no_name
 named_all t (p ∷ ps) = one_name p ps _ (named_all t ps)
 
 two_nodes : {t : List ℕ} {p q : ℕ} → NodesAt t 2 p q → NodeAt t p (p + field_c t p) × NodeAt t (p + field_c t p) q
-two_nodes {t} (one-node _ p _ _ a (one-node _ _ r _ b (no_node _))) =
+two_nodes {t} (one_node _ p _ _ a (one_node _ _ r _ b (no_node _))) =
     let e = node_size a in (subst (NodeAt t p) e a, subst (λ (x : ℕ). NodeAt t x r) e b)
 
 one_only : {t : List ℕ} {p q : ℕ} → NodesAt t 1 p q → NodeAt t p q
-one_only (one-node _ p _ _ a (no_node _)) = a
+one_only (one_node _ p _ _ a (no_node _)) = a
 
 node_follows : {t : List ℕ} {p q : ℕ} → NodeAt t p q → NodeFollows t p q (nodes_below t p)
 unfolding nodes_below form_of form_numbered nodes_of nodes paths path first second arms

@@ -42,11 +42,11 @@ module _ {A : Type 0} (ok : A → Bool) (below : A → List A) (Judged : A → T
 
   -- and where nothing is too deep it holds nowhere else: it is one of every head in the tree by itself
   module _ (k : ℕ) (x : A) (shallow : (d : ℕ) (y : A) → Below below x d y → d < k) where
-    each-tree : ((d : ℕ) (y : A) → Below below x d y → ok y ≡ true) → tree ok below k x ≡ none
-    each-tree h = in_tree ok below k x (λ d y b. (shallow d y b, h d y b))
+    each_tree : ((d : ℕ) (y : A) → Below below x d y → ok y ≡ true) → tree ok below k x ≡ none
+    each_tree h = in_tree ok below k x (λ d y b. (shallow d y b, h d y b))
 
-    pub judged-exactly : (tree ok below k x ≡ none) ↔ Judged x
-    judged-exactly = (tree_judged k x, λ j. each-tree (judged_each x j))
+    pub judged_exactly : (tree ok below k x ≡ none) ↔ Judged x
+    judged_exactly = (tree_judged k x, λ j. each_tree (judged_each x j))
 
-    pub each-exactly : Judged x ↔ ((d : ℕ) (y : A) → Below below x d y → ok y ≡ true)
-    each-exactly = (judged_each x, λ h. tree_judged k x (each-tree h))
+    pub each_exactly : Judged x ↔ ((d : ℕ) (y : A) → Below below x d y → ok y ≡ true)
+    each_exactly = (judged_each x, λ h. tree_judged k x (each_tree h))

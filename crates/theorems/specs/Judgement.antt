@@ -3,7 +3,7 @@ use Rattle.std.specs.Prelude.{◌≡◌, ℕ, List, [], ◌∷◌, ◌++◌}
 use Rattle.std.proofs.Math.Option.{some}
 use Rattle.rules.specs.Records.{kind_of, field_a, field_b, text_of, nth}
 use Rattle.rules.specs.Grammar.{production, Element, keyword, elements}
-use Rattle.rules.specs.Templates.{text, yes_no_lem, list, fields, cases, type_of, template, parameters, form_of, nodes, paths, path, first, second, arms, variable, field_numbers}
+use Rattle.rules.specs.Templates.{text, yes_no, list, fields, cases, type_of, template, parameters, form_of, nodes, paths, path, first, second, arms, variable, field_numbers}
 use Rattle.rules.specs.Value.{children, content}
 use Rattle.rules.specs.declared.Form.TheVariants.{Build, Literal, Place, Expand, If, For, Sequence, Match}
 use Rattle.rules.specs.declared.Position.{Position}
@@ -31,33 +31,33 @@ mutual
   -- 001's `Θ, T ⊢ tstmt : dn`: with variables of these types, the node suits the position
   pub data Suits (g t : List ℕ) : List ℕ → ℕ → Position → Type 0 where
     -- a grammar rule's: "a build of one of its productions"
-    by-build : (vars : List ℕ) (p n q : ℕ) → form_of t p ≡ Build → production g (field_b t p) ≡ some q → field_b g q ≡ n
+    by_build : (vars : List ℕ) (p n q : ℕ) → form_of t p ≡ Build → production g (field_b t p) ≡ some q → field_b g q ≡ n
         → Fills g t vars (elements g q) (nodes t p) → Suits g t vars p (Nonterminal n)
     -- a morphem class's: "a literal that is a lexeme"
-    by-literal : (vars : List ℕ) (p c : ℕ) → form_of t p ≡ Literal → Lexeme g c (text_of t (field_b t p) p) → Suits g t vars p (Class c)
+    by_literal : (vars : List ℕ) (p c : ℕ) → form_of t p ≡ Literal → Lexeme g c (text_of t (field_b t p) p) → Suits g t vars p (Class c)
     -- [expr]: "a place whose path has type text of that very class"; 02 c, of an escaped class: "A place there takes text of the plain class"
     by_place : (vars : List ℕ) (p c d ty : ℕ) → form_of t p ≡ Place → PathTyped t vars (path p) ty → type_of t ty ≡ text d → Takes g c d
         → Suits g t vars p (Class c)
     -- [expand]: "an expand of a template with that nonterminal and argument types equal by number"
-    by-expand : (vars : List ℕ) (p n q : ℕ) → form_of t p ≡ Expand → template t (field_b t p) ≡ some q → field_b t q ≡ n
+    by_expand : (vars : List ℕ) (p n q : ℕ) → form_of t p ≡ Expand → template t (field_b t p) ≡ some q → field_b t q ≡ n
         → Arguments t vars (paths t p) (parameters t q) → Suits g t vars p (Nonterminal n)
     -- [if]: "an if on yes/no with both branches in the same position"
-    by-if : (vars : List ℕ) (p n ty : ℕ) → form_of t p ≡ If → PathTyped t vars (path p) ty → type_of t ty ≡ yes_no_lem
+    by_if : (vars : List ℕ) (p n ty : ℕ) → form_of t p ≡ If → PathTyped t vars (path p) ty → type_of t ty ≡ yes_no
         → Suits g t vars (first p) (Nonterminal n) → Suits g t vars (second t p) (Nonterminal n) → Suits g t vars p (Nonterminal n)
     -- [for]: "a for over a list, whose body is one such node"
-    by-for : (vars : List ℕ) (p n ty item : ℕ) → form_of t p ≡ For → PathTyped t vars (path p) ty → type_of t ty ≡ list item
+    by_for : (vars : List ℕ) (p n ty item : ℕ) → form_of t p ≡ For → PathTyped t vars (path p) ty → type_of t ty ≡ list item
         → Suits g t (vars ++ item ∷ []) (first p) (Nonterminal n) → Suits g t vars p (Item n)
     -- "a sequence, whose items are nodes in the position of its nonterminal or a for"
-    by-sequence : (vars : List ℕ) (p n : ℕ) → form_of t p ≡ Sequence → Items g t vars n (nodes t p) → Suits g t vars p (Repetition n)
-    as-item : (vars : List ℕ) (p n : ℕ) → Suits g t vars p (Nonterminal n) → Suits g t vars p (Item n)
+    by_sequence : (vars : List ℕ) (p n : ℕ) → form_of t p ≡ Sequence → Items g t vars n (nodes t p) → Suits g t vars p (Repetition n)
+    as_item : (vars : List ℕ) (p n : ℕ) → Suits g t vars p (Nonterminal n) → Suits g t vars p (Item n)
     -- 02 g: "A match stands where an if may stand"; "a path, then d nodes, one for each case in order"
-    by-match : (vars : List ℕ) (p n ty : ℕ) (tys : List ℕ) → form_of t p ≡ Match → PathTyped t vars (path p) ty → type_of t ty ≡ cases tys
+    by_match : (vars : List ℕ) (p n ty : ℕ) (tys : List ℕ) → form_of t p ≡ Match → PathTyped t vars (path p) ty → type_of t ty ≡ cases tys
         → Arms g t vars n tys (arms t p) → Suits g t vars p (Nonterminal n)
 
   -- one child for each element that is no keyword, each in the position of its element
   pub data Fills (g t : List ℕ) : List ℕ → List Element → List ℕ → Type 0 where
-    all-filled : (vars : List ℕ) → Fills g t vars [] []
-    no-child : (vars x : List ℕ) (es : List Element) (cs : List ℕ) → Fills g t vars es cs → Fills g t vars (keyword x ∷ es) cs
+    all_filled : (vars : List ℕ) → Fills g t vars [] []
+    no_child : (vars x : List ℕ) (es : List Element) (cs : List ℕ) → Fills g t vars es cs → Fills g t vars (keyword x ∷ es) cs
     a_child : (vars : List ℕ) (e : Element) (at : Position) (p : ℕ) (es : List Element) (cs : List ℕ) → Asks e at → Suits g t vars p at
         → Fills g t vars es cs → Fills g t vars (e ∷ es) (p ∷ cs)
 
@@ -82,10 +82,10 @@ mutual
   -- of a record if a 4 with one child for each field, in order, of that field's type." A text type names a plain class. 02 g: a case "is of the variant if
   -- there is such a case and the child is of that case's type".
   pub data OfType (g t v : List ℕ) : ℕ → ℕ → Type 0 where
-    of-text : (ty w c : ℕ) → type_of t ty ≡ text c → kind_of v w ≡ 1 → PlainLexeme g c (text_of v (field_b v w) w) → OfType g t v ty w
-    of-yes-no : (ty w : ℕ) → type_of t ty ≡ yes_no_lem → kind_of v w ≡ 2 → OfType g t v ty w
-    of-list : (ty w item : ℕ) → type_of t ty ≡ list item → kind_of v w ≡ 3 → AllOf g t v item (children v w) → OfType g t v ty w
-    of-record : (ty w : ℕ) (tys : List ℕ) → type_of t ty ≡ fields tys → kind_of v w ≡ 4 → EachOf g t v tys (children v w) → OfType g t v ty w
+    of_text : (ty w c : ℕ) → type_of t ty ≡ text c → kind_of v w ≡ 1 → PlainLexeme g c (text_of v (field_b v w) w) → OfType g t v ty w
+    of_yes_no : (ty w : ℕ) → type_of t ty ≡ yes_no → kind_of v w ≡ 2 → OfType g t v ty w
+    of_list : (ty w item : ℕ) → type_of t ty ≡ list item → kind_of v w ≡ 3 → AllOf g t v item (children v w) → OfType g t v ty w
+    of_record : (ty w : ℕ) (tys : List ℕ) → type_of t ty ≡ fields tys → kind_of v w ≡ 4 → EachOf g t v tys (children v w) → OfType g t v ty w
     of_case : (ty w to : ℕ) (tys : List ℕ) → type_of t ty ≡ cases tys → kind_of v w ≡ 5 → nth tys (field_a v w) ≡ some to → OfType g t v to (content w)
         → OfType g t v ty w
 

@@ -105,7 +105,7 @@ mutual
 
   pub data NodesAt (t : List ℕ) : ℕ → ℕ → ℕ → Type 0 where
     no_node : (p : ℕ) → NodesAt t 0 p p
-    one-node : (n p q r : ℕ) → NodeAt t p q → NodesAt t n q r → NodesAt t (suc n) p r
+    one_node : (n p q r : ℕ) → NodeAt t p q → NodesAt t n q r → NodesAt t (suc n) p r
 
 pub record TemplateAt (t : List ℕ) (p q : ℕ) : Type 0 where
   pub kind : kind_of t p ≡ 3

@@ -87,10 +87,10 @@ module _ (is : ℕ → Bool) (one : ℕ → ℕ → Option ℕ) where
     none_read : (n p q : ℕ) → ◌≡◌ {A = Option ℕ} (some p) (some q) → (m : ℕ) × Numbered Thing n m p q
     none_read n p q e = (0, subst (λ x. Numbered Thing n 0 p x) (some-injective p q e) (no_more n p))
 
-    while-from : ((n p q : ℕ) → is p ≡ true → one n p ≡ some q → Thing n p q)
+    while_from : ((n p q : ℕ) → is p ≡ true → one n p ≡ some q → Thing n p q)
         → (k n p q : ℕ) → while_is is one k n p ≡ some q → (m : ℕ) × Numbered Thing n m p q
-    while-from f zero n p q e = none_read n p q (unfold while_is in e)
-    while-from f (suc k) n p q e = go (is p) refl (while-from f k (suc n))
+    while_from f zero n p q e = none_read n p q (unfold while_is in e)
+    while_from f (suc k) n p q e = go (is p) refl (while_from f k (suc n))
       where
         go : (b : Bool) → is p ≡ b → ((p q : ℕ) → while_is is one k (suc n) p ≡ some q → (m : ℕ) × Numbered Thing (suc n) m p q)
             → (m : ℕ) × Numbered Thing n m p q
@@ -101,16 +101,16 @@ module _ (is : ℕ → Bool) (one : ℕ → ℕ → Option ℕ) where
         go false i rest = none_read n p q (sym (while_stop (suc k) n p i) ∙ e)
 
     -- back: every thing ends within the stream, and what comes after the last is not of this sort
-    while-to : {most : ℕ} {size : ℕ → ℕ} → ((n p q : ℕ) → Thing n p q → Spans is size p q)
+    while_to : {most : ℕ} {size : ℕ → ℕ} → ((n p q : ℕ) → Thing n p q → Spans is size p q)
         → ((n p q : ℕ) → Thing n p q → q ≤ most → one n p ≡ some q)
         → {n m p q : ℕ} → Numbered Thing n m p q → q ≤ most → is q ≡ false
         → (k : ℕ) → m ≤ k → while_is is one k n p ≡ some q
-    while-to a f (no_more n p) l o k j = while_stop k n p o
-    while-to a f (one_more_lem n m p q r x xs) l o zero j = absurd (omega arith)
-    while-to a f (one_more_lem n m p q r x xs) l o (suc k) j =
+    while_to a f (no_more n p) l o k j = while_stop k n p o
+    while_to a f (one_more_lem n m p q r x xs) l o zero j = absurd (omega arith)
+    while_to a f (one_more_lem n m p q r x xs) l o (suc k) j =
         let i = row_grows (λ p q h. h.grows) (each_numbered a xs) in
         while_more k n p (a n p q x).is_one
-        ∙ (then_iff (one n p) (while_is is one k (suc n)) r).1 (q, f n p q x (omega arith), while-to a f xs l o k (omega arith))
+        ∙ (then_iff (one n p) (while_is is one k (suc n)) r).1 (q, f n p q x (omega arith), while_to a f xs l o k (omega arith))
 
 -- Zero bytes
 
@@ -343,7 +343,7 @@ node_step t k p q = simp (only_if_then, eqb_iff, sized_iff) iff-rfl
 
 as_nodes : {t : List ℕ} {n p q : ℕ} → InRow (NodeAt t) n p q → NodesAt t n p q
 as_nodes (no_thing p) = NodesAt.no_node p
-as_nodes (one_thing n p q r x xs) = NodesAt.one-node n p q r x (as_nodes xs)
+as_nodes (one_thing n p q r x xs) = NodesAt.one_node n p q r x (as_nodes xs)
 
 -- from a reader of nodes that is right, to what stands below a head by its form
 module _ (t : List ℕ) (node : ℕ → Option ℕ) (right : (p q : ℕ) → node p ≡ some q → NodeAt t p q) where
@@ -400,8 +400,8 @@ mutual
 
   nodes_to : {t : List ℕ} {n p q : ℕ} → NodesAt t n p q → (k : ℕ) → q ≤ p + k → in_row (node_end t k) n p ≡ some q
   nodes_to {t} (NodesAt.no_node p) k l = row_none (node_end t k) p
-  nodes_to (NodesAt.one-node n p q r x xs) zero l = absurd (let a = node_grows x in let b = nodes_grow xs in omega arith)
-  nodes_to {t} (NodesAt.one-node n p q r x xs) (suc k) l =
+  nodes_to (NodesAt.one_node n p q r x xs) zero l = absurd (let a = node_grows x in let b = nodes_grow xs in omega arith)
+  nodes_to {t} (NodesAt.one_node n p q r x xs) (suc k) l =
       let a = node_grows x in let b = nodes_grow xs in
       row_one (node_end t (suc k)) n p q r (node_to x k (omega arith)) (nodes_to xs (suc k) (omega arith))
 
@@ -524,8 +524,8 @@ pub two_rows_from : {A B : ℕ → ℕ → ℕ → Type 0} (s : List ℕ) (is ar
     → (m : ℕ) × (n : ℕ) × (q : ℕ) × Numbered A 0 m 0 q × Numbered B 0 n q e
 two_rows_from s is are one other f g e i =
     let h = (then_iff _ (while_is are other (record_count s) 0) e).0 i in
-    let a = while-from is one f (record_count s) 0 0 h.0 h.1 in
-    let b = while-from are other g (record_count s) 0 h.0 e h.2 in
+    let a = while_from is one f (record_count s) 0 0 h.0 h.1 in
+    let b = while_from are other g (record_count s) 0 h.0 e h.2 in
     (a.0, b.0, h.0, a.1, b.1)
 
 pub two_rows_to : {A B : ℕ → ℕ → ℕ → Type 0} {s : List ℕ} {is are : ℕ → Bool} {size : ℕ → ℕ} {m n q e : ℕ} (one other : ℕ → ℕ → Option ℕ) → Sorts s is are
@@ -540,8 +540,8 @@ two_rows_to {s = s} {is} {are} {size} {m} {n} {q} {e} one other o a b f g w t x 
     let z = kind_after w t in
     (then_iff _ (while_is are other (record_count s) 0) e).1 (
       q,
-      while-to is one a f x (omega arith) (not_first o (each_numbered b y) z) (record_count s) (omega arith),
-      while-to are other b g y l (o.zero_second e z) (record_count s) (omega arith),
+      while_to is one a f x (omega arith) (not_first o (each_numbered b y) z) (record_count s) (omega arith),
+      while_to are other b g y l (o.zero_second e z) (record_count s) (omega arith),
     )
 
 -- 3: "The records break a layout above (place 0)." The check finds no fault exactly if they don't:

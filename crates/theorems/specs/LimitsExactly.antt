@@ -7,7 +7,7 @@ use Rattle.std.proofs.Math.Option.{Option, none, some, none-ne-some, some-inject
 use Rattle.rules.specs.Faults.{need, every, exists}
 use Rattle.rules.specs.Records.{kind_of, field_a, field_b, nth, numbered}
 use Rattle.rules.specs.Grammar.{class, plain_class, classes, production, productions, Element, keyword, lexeme, nonterminal, repetition, unknown, element_at, element_heads, has_production, nonterminal_exists}
-use Rattle.rules.specs.Templates.{TypeForm, text, yes_no_lem, list, fields, cases, no_type, type, types, type_at, field_heads, template, templates, parameter_heads, body, form_of, nodes_below}
+use Rattle.rules.specs.Templates.{TypeForm, text, yes_no, list, fields, cases, no_type, type, types, type_at, field_heads, template, templates, parameter_heads, body, form_of, nodes_below}
 use Rattle.rules.specs.Value.{values_below}
 use Rattle.rules.specs.Limits.{deepest, Looped, looped, loops_below, looped_below, value_limits}
 use Rattle.rules.specs.Names.{element_named, class_named, grammar_names, type_named, type_names, form_named, node_named, template_names, templates_names}
@@ -99,7 +99,7 @@ ElementNames g unknown = Unit {0}
 -- 02 c: "a text type naming an escaped class, is refused as 5"
 abbrev pub TypeNames : List ℕ → List ℕ → TypeForm → Type 0
 TypeNames g t (text c) = PlainExists g c
-TypeNames g t yes_no_lem = Unit {0}
+TypeNames g t yes_no = Unit {0}
 TypeNames g t (list n) = Exists (type t n)
 TypeNames g t (fields ns) = Unit {0}
 TypeNames g t (cases ns) = Unit {0}
@@ -156,7 +156,7 @@ class_names g n p = go (eqb (kind_of g p) 5) refl
 pub type_names_lem : (g t : List ℕ) (x : TypeForm) → (type_named g t x ≡ true) ↔ TypeNames g t x
 unfolding type_named
 type_names_lem g t (text c) = plain_exists g c
-type_names_lem g t yes_no_lem = (λ e. tt, λ h. refl)
+type_names_lem g t yes_no = (λ e. tt, λ h. refl)
 type_names_lem g t (list n) = exists_iff (type t n)
 type_names_lem g t (fields ns) = (λ e. tt, λ h. refl)
 type_names_lem g t (cases ns) = (λ e. tt, λ h. refl)

@@ -5,7 +5,7 @@ use Rattle.std.proofs.lemmas.Bool.{false≢true}
 use Rattle.std.proofs.Math.Option.{Option, some, none-ne-some, some-injective}
 use Rattle.rules.specs.Faults.{on_found}
 use Rattle.rules.specs.Records.{nth}
-use Rattle.rules.specs.Templates.{TypeForm, text, yes_no_lem, list, fields, cases, no_type, type_of, variable, field_numbers}
+use Rattle.rules.specs.Templates.{TypeForm, text, yes_no, list, fields, cases, no_type, type_of, variable, field_numbers}
 use Rattle.rules.specs.Typing.{asks_class, asks_nonterminal, asks_repetition, asks_item, text_class, is_yes_no, item_type, field_types, type_along, path_type, arguments_fit, case_types}
 use Rattle.rules.specs.declared.Position.{Position}
 use Rattle.rules.specs.declared.Position.TheVariants.{Class, Nonterminal, Repetition, Item, Nothing}
@@ -17,16 +17,16 @@ use Rattle.theorems.specs.OwnRule.{AsksText, in_its_position, in_a_sequence}
 pub text_class_lem : (f : TypeForm) (c : ℕ) → text_class f ≡ some c → f ≡ text c
 unfolding text_class
 text_class_lem (text d) c e = ap text (some-injective d c e)
-text_class_lem yes_no_lem c e = absurd (none-ne-some c e)
+text_class_lem yes_no c e = absurd (none-ne-some c e)
 text_class_lem (list n) c e = absurd (none-ne-some c e)
 text_class_lem (fields ns) c e = absurd (none-ne-some c e)
 text_class_lem (cases ns) c e = absurd (none-ne-some c e)
 text_class_lem no_type c e = absurd (none-ne-some c e)
 
-pub yes_no_is : (f : TypeForm) → is_yes_no f ≡ true → f ≡ yes_no_lem
+pub yes_no_is : (f : TypeForm) → is_yes_no f ≡ true → f ≡ yes_no
 unfolding is_yes_no
 yes_no_is (text d) e = absurd (false≢true e)
-yes_no_is yes_no_lem e = refl
+yes_no_is yes_no e = refl
 yes_no_is (list n) e = absurd (false≢true e)
 yes_no_is (fields ns) e = absurd (false≢true e)
 yes_no_is (cases ns) e = absurd (false≢true e)
@@ -35,7 +35,7 @@ yes_no_is no_type e = absurd (false≢true e)
 pub item_type_lem : (f : TypeForm) (n : ℕ) → item_type f ≡ some n → f ≡ list n
 unfolding item_type
 item_type_lem (text d) n e = absurd (none-ne-some n e)
-item_type_lem yes_no_lem n e = absurd (none-ne-some n e)
+item_type_lem yes_no n e = absurd (none-ne-some n e)
 item_type_lem (list m) n e = ap list (some-injective m n e)
 item_type_lem (fields ns) n e = absurd (none-ne-some n e)
 item_type_lem (cases ns) n e = absurd (none-ne-some n e)
@@ -44,7 +44,7 @@ item_type_lem no_type n e = absurd (none-ne-some n e)
 field_types_lem : (f : TypeForm) (ns : List ℕ) → field_types f ≡ some ns → f ≡ fields ns
 unfolding field_types
 field_types_lem (text d) ns e = absurd (none-ne-some ns e)
-field_types_lem yes_no_lem ns e = absurd (none-ne-some ns e)
+field_types_lem yes_no ns e = absurd (none-ne-some ns e)
 field_types_lem (list n) ns e = absurd (none-ne-some ns e)
 field_types_lem (fields ms) ns e = ap fields (some-injective ms ns e)
 field_types_lem (cases ms) ns e = absurd (none-ne-some ns e)
@@ -53,7 +53,7 @@ field_types_lem no_type ns e = absurd (none-ne-some ns e)
 pub case_types_lem : (f : TypeForm) (ns : List ℕ) → case_types f ≡ some ns → f ≡ cases ns
 unfolding case_types
 case_types_lem (text d) ns e = absurd (none-ne-some ns e)
-case_types_lem yes_no_lem ns e = absurd (none-ne-some ns e)
+case_types_lem yes_no ns e = absurd (none-ne-some ns e)
 case_types_lem (list n) ns e = absurd (none-ne-some ns e)
 case_types_lem (fields ms) ns e = absurd (none-ne-some ns e)
 case_types_lem (cases ms) ns e = ap cases (some-injective ms ns e)

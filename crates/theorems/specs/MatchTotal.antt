@@ -4,7 +4,7 @@ use Rattle.std.specs.Prelude.{◌≡◌, ℕ, suc, List, [], ◌∷◌, ◌++◌
 use Rattle.std.proofs.Common.{sym, ◌∙◌, ap, arith}
 use Rattle.std.proofs.Math.Option.{some, some-injective}
 use Rattle.rules.specs.Records.{kind_of, field_a, nth}
-use Rattle.rules.specs.Templates.{yes_no_lem, cases, type_of, templates, form_of, path, arms}
+use Rattle.rules.specs.Templates.{yes_no, cases, type_of, templates, form_of, path, arms}
 use Rattle.rules.specs.Value.{content}
 use Rattle.rules.specs.Walk.{Input, State, Asked, reached, visit}
 use Rattle.rules.specs.declared.Form.TheVariants.{If, Match}
@@ -68,7 +68,7 @@ match_fits (a_sequence n f) m = absurd (let z : ◌≡◌ {A = ℕ} 0 1 = cc in 
 match_fits (a_match at n ty tys f a x e k) m = (n, ty, tys, a, x, e, k)
 
 pub if_where_match : {g t vars : List ℕ} {p q ty : ℕ} {at : Position} → Fits g t vars p at → form_of t p ≡ Match
-    → form_of t q ≡ If → PathTyped t vars (path q) ty → type_of t ty ≡ yes_no_lem → Fits g t vars q at
+    → form_of t q ≡ If → PathTyped t vars (path q) ty → type_of t ty ≡ yes_no → Fits g t vars q at
 if_where_match {at = at} fits m f h e = let (n, ty, tys, a, x, y, l) = match_fits fits m in an_if at n _ f a h e
 
 -- "A missing or extra arm fails typing": wherever such a match stands in a template, it offends; `check_in_order` makes 7 the answer where nothing comes first.

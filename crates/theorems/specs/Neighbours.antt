@@ -1,7 +1,7 @@
 -- Texts in a row, "one separator between neighbours and none elsewhere": written one by one, each after its separator, they are a row of the derivation.
 use Rattle.std.specs.Prelude.{◌≡◌, ℕ, ◌+◌, ◌≤◌, List, [], ◌++◌}
 use Rattle.std.proofs.Common.{append_assoc, append-nil, arith}
-use Rattle.rules.specs.Derivation.{Derives, Row, no_text, some-texts, Texts, last-text, next_text}
+use Rattle.rules.specs.Derivation.{Derives, Row, no_text, some_texts, Texts, last_text, next_text}
 use Rattle.theorems.specs.Evaluation.{BeforeItem, the_first, another}
 
 -- texts of nonterminal n in a row, with l items up to its end where k came before it, each after what is written before it
@@ -26,7 +26,7 @@ data Onward (g : List ℕ) (n : ℕ) (between : List ℕ) : List ℕ → Type 0 
   texts_more : {x : List ℕ} → Texts g n between x → Onward g n between (between ++ x)
 
 text_then : {g between y : List ℕ} {n : ℕ} (x : List ℕ) → Derives g n x → Onward g n between y → Texts g n between (x ++ y)
-text_then {between} {n} x d nothing_more = rw (append-nil x) (last-text n between x d)
+text_then {between} {n} x d nothing_more = rw (append-nil x) (last_text n between x d)
 text_then {between} {n} x d (texts_more {x = y} h) = rw (← append_assoc x between y) (next_text n between x y d h)
 
 further_onward : {g between y : List ℕ} {n k l : ℕ} → Further g n between k l y → 1 ≤ k → Onward g n between y
@@ -39,5 +39,5 @@ further_onward f h = go f h
 
 pub further_row : {g between y : List ℕ} {n k l : ℕ} → Further g n between k l y → k ≡ 0 → Row g n between y
 further_row {between} {n} no_more h = no_text n between
-further_row {between} {n} (one_more_lem {x} the_first d f) h = some-texts n between _ (text_then x d (further_onward f (omega arith)))
+further_row {between} {n} (one_more_lem {x} the_first d f) h = some_texts n between _ (text_then x d (further_onward f (omega arith)))
 further_row (one_more_lem another d f) h = absurd (omega arith)

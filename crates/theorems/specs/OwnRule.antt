@@ -3,7 +3,7 @@ use Rattle.std.specs.Prelude.{◌≡◌, ℕ, List, [], ◌∷◌, ◌++◌, len
 use Rattle.std.proofs.Math.Option.{some}
 use Rattle.rules.specs.Records.{kind_of, field_a, field_b, text_of, nth}
 use Rattle.rules.specs.Grammar.{production, Element, elements}
-use Rattle.rules.specs.Templates.{text, yes_no_lem, list, fields, cases, type_of, template, parameters, body, form_of, nodes, paths, path, first, second, arms}
+use Rattle.rules.specs.Templates.{text, yes_no, list, fields, cases, type_of, template, parameters, body, form_of, nodes, paths, path, first, second, arms}
 use Rattle.rules.specs.Value.{children, content}
 use Rattle.rules.specs.declared.Form.TheVariants.{Build, Literal, Place, Expand, If, For, Sequence, Match}
 use Rattle.rules.specs.declared.Position.{Position}
@@ -32,7 +32,7 @@ pub data Fits (g t vars : List ℕ) (p : ℕ) : Position → Type 0 where
   an_expand : (at : Position) (q : ℕ) → form_of t p ≡ Expand → template t (field_b t p) ≡ some q → AsksText at (field_b t q)
       → Arguments t vars (paths t p) (parameters t q) → Fits g t vars p at
   -- "an if on yes/no"
-  an_if : (at : Position) (n ty : ℕ) → form_of t p ≡ If → AsksText at n → PathTyped t vars (path p) ty → type_of t ty ≡ yes_no_lem → Fits g t vars p at
+  an_if : (at : Position) (n ty : ℕ) → form_of t p ≡ If → AsksText at n → PathTyped t vars (path p) ty → type_of t ty ≡ yes_no → Fits g t vars p at
   -- "a for over a list"
   a_for : (n ty item : ℕ) → form_of t p ≡ For → PathTyped t vars (path p) ty → type_of t ty ≡ list item → Fits g t vars p (Item n)
   -- "a sequence"
@@ -69,7 +69,7 @@ pub data Stands (g t : List ℕ) (p : ℕ) : List ℕ → ℕ → Position → T
 -- if a 2; of a list if a 3 ..; of a record if a 4 with one child for each field". A text type names a plain class.
 pub data OfForm (g t v : List ℕ) (ty w : ℕ) : Type 0 where
   a_text : (c : ℕ) → type_of t ty ≡ text c → kind_of v w ≡ 1 → PlainLexeme g c (text_of v (field_b v w) w) → OfForm g t v ty w
-  a_yes_no : type_of t ty ≡ yes_no_lem → kind_of v w ≡ 2 → OfForm g t v ty w
+  a_yes_no : type_of t ty ≡ yes_no → kind_of v w ≡ 2 → OfForm g t v ty w
   a_list : (item : ℕ) → type_of t ty ≡ list item → kind_of v w ≡ 3 → OfForm g t v ty w
   a_record : (tys : List ℕ) → type_of t ty ≡ fields tys → kind_of v w ≡ 4 → length (children v w) ≡ length tys → OfForm g t v ty w
   -- 02 g: "it is of the variant if there is such a case"

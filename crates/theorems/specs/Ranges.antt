@@ -4,7 +4,7 @@ use Rattle.std.proofs.Common.{sym, ◌∙◌, subst, arith, eqb-true, ne_eqb, le
 use Rattle.std.proofs.Math.Option.{Option, none, some}
 use Rattle.rules.specs.Faults.{on_found, only_if}
 use Rattle.rules.specs.Records.{kind_of, field_c, heads, nth}
-use Rattle.rules.specs.Templates.{templates_size, types, templates, TypeForm, text, yes_no_lem, list, fields, cases, no_type, type_of, form_numbered, form_of, nodes, first, second, arms, nodes_of, nodes_below}
+use Rattle.rules.specs.Templates.{templates_size, types, templates, TypeForm, text, yes_no, list, fields, cases, no_type, type_of, form_numbered, form_of, nodes, first, second, arms, nodes_of, nodes_below}
 use Rattle.rules.specs.Value.{value_size, children, content, values_below, as_list, as_record, as_case}
 use Rattle.rules.specs.Limits.{Looped, looped, looped_below}
 use Rattle.rules.specs.Grammar.{grammar_size, classes, production, productions}
@@ -15,7 +15,7 @@ use Rattle.rules.specs.declared.Position.{Position}
 use Rattle.rules.specs.declared.Position.TheVariants.{Nonterminal, Item}
 use Rattle.laws.specs.Faults.{In, here, later, Below, itself, under}
 use Rattle.theorems.specs.Streams.{WellSized}
-use Rattle.theorems.specs.LaidOut.{InRow, no_thing, one_thing, ClassAt, ProductionAt, GrammarLaid, TypeAt, TemplateAt, TemplatesLaid, PathAt, NodeAt, a_build, a_literal, a_place, an_expand, an_if, a_for, a_sequence, a_match, NodesAt, no_node, one-node, ValueAt, a_text, a_yes_no, a_list, a_record, a_case, ValuesAt, no_value, one_value}
+use Rattle.theorems.specs.LaidOut.{InRow, no_thing, one_thing, ClassAt, ProductionAt, GrammarLaid, TypeAt, TemplateAt, TemplatesLaid, PathAt, NodeAt, a_build, a_literal, a_place, an_expand, an_if, a_for, a_sequence, a_match, NodesAt, no_node, one_node, ValueAt, a_text, a_yes_no, a_list, a_record, a_case, ValuesAt, no_value, one_value}
 use Rattle.theorems.specs.Sizes.{row_grows, each_numbered, class_size, production_size_lem, type_size, template_size, path_size, node_size, node_grows, value_size_lem, value_grows}
 use Rattle.theorems.specs.Heads.{classes_are, productions_are, types_are, templates_are}
 use Rattle.theorems.specs.Least.{Rows, no_row, one_row, rows_ordered, rows_wide, From, rows_heads, Standing}
@@ -78,7 +78,7 @@ template_rows {t} w h = rw (templates_are t w h) (rows_heads (templates_size t) 
 -- Nodes
 pub nodes_row : {t : List ℕ} {n p q : ℕ} → NodesAt t n p q → InRow (NodeAt t) n p q
 nodes_row (no_node p) = no_thing p
-nodes_row (one-node n p q r a as') = one_thing n p q r a (nodes_row as')
+nodes_row (one_node n p q r a as') = one_thing n p q r a (nodes_row as')
 
 nodes_rows : {t : List ℕ} {n p q : ℕ} → NodesAt t n p q → Rows (From (NodeAt t)) (heads (field_c t) n p) p q
 nodes_rows {t} ns = rows_heads (field_c t) (λ p q. node_size) (nodes_row ns)
@@ -199,7 +199,7 @@ has_content v w e = rw e
 typed_of_lem : (v : List ℕ) (f : TypeForm) (w : ℕ) → Leading (λ x. x.value) (typed_of v f w) (values_below v w)
 unfolding typed_of typed as_list as_record as_case
 typed_of_lem v (text c) w = stops _
-typed_of_lem v yes_no_lem w = stops _
+typed_of_lem v yes_no w = stops _
 typed_of_lem v (list ty) w =
     leading_if (eqb (kind_of v w) 3) _ _ λ e. rw (has_children v w 3 (omega arith) (omega arith) e) (leading_map (λ x. x.value) (typed ty) (λ p. refl) _)
 typed_of_lem v (fields tys) w = leading_if (eqb (kind_of v w) 4) _ _ λ e. rw (has_children v w 4 (omega arith) (omega arith) e) (leading_paired tys _)

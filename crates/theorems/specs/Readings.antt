@@ -5,7 +5,7 @@ use Rattle.std.proofs.Math.Option.{Option, none, some, some-ne-none, some-inject
 use Rattle.rules.specs.Faults.{on_found}
 use Rattle.rules.specs.Records.{kind_of, field_a, field_b, field_c, text_of}
 use Rattle.rules.specs.Grammar.{class, plain_class, escaped_class, plain_of, Element, keyword, lexeme, nonterminal, repetition, unknown, element_numbered, element_at}
-use Rattle.rules.specs.Templates.{TypeForm, text, yes_no_lem, list, fields, cases, field_heads, type_numbered, type_at}
+use Rattle.rules.specs.Templates.{TypeForm, text, yes_no, list, fields, cases, field_heads, type_numbered, type_at}
 use Rattle.laws.specs.Sorts.{plain_class_iff, escaped_class_iff}
 
 -- "1 class: a number ..", which is a plain one; 02 c: "Grammar record 5 declares an escaped class: a its number in the common row of classes,
@@ -85,7 +85,7 @@ element_is g e = numbered_is g e (field_a g e) refl
 -- one field record each".
 pub data TypeIs (t : List ℕ) (p : ℕ) : TypeForm → Type 0 where
   a_text : field_a t p ≡ 0 → TypeIs t p (text (field_b t p))
-  a_yes_no : field_a t p ≡ 1 → TypeIs t p yes_no_lem
+  a_yes_no : field_a t p ≡ 1 → TypeIs t p yes_no
   a_list : field_a t p ≡ 2 → TypeIs t p (list (field_b t p))
   a_record : field_a t p ≡ 3 → TypeIs t p (fields (map (field_b t) (field_heads t p)))
   a_variant : field_a t p ≡ 4 → TypeIs t p (cases (map (field_b t) (field_heads t p)))

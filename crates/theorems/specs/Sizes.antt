@@ -163,7 +163,7 @@ mutual
 
   pub nodes_grow : {t : List ℕ} {n p q : ℕ} → NodesAt t n p q → p + n ≤ q
   nodes_grow (NodesAt.no_node p) = omega arith
-  nodes_grow (NodesAt.one-node n p q r x xs) = let l = node_grows x in let m = nodes_grow xs in omega arith
+  nodes_grow (NodesAt.one_node n p q r x xs) = let l = node_grows x in let m = nodes_grow xs in omega arith
 
 pub value_size_lem : {v : List ℕ} {p q : ℕ} → ValueAt v p q → q ≡ p + value_size v p
 unfolding value_size

@@ -7,7 +7,7 @@ use mathlib.Core.List.{List, [], ◌∷◌, ◌++◌}
 use Rattle.std.proofs.Math.Option.{none, some, none-ne-some, some-injective}
 use Rattle.rules.specs.Faults.{on_found}
 use Rattle.rules.specs.Records.{nth}
-use Rattle.rules.specs.Templates.{TypeForm, text, yes_no_lem, list, fields, cases, no_type, type_of}
+use Rattle.rules.specs.Templates.{TypeForm, text, yes_no, list, fields, cases, no_type, type_of}
 use Rattle.rules.specs.Value.{as_text, as_yes_no, as_list, as_record, as_case, Case}
 use Rattle.rules.specs.Typing.{templates_typing, value_typing}
 use Rattle.rules.specs.Walk.{Input, value_along, path_value, path_values}
@@ -16,13 +16,13 @@ use Rattle.theorems.specs.Lexemes.{PlainLexeme}
 use Rattle.theorems.specs.Judgement.{Along, arrived, a_field, PathTyped, Arguments, no_argument, an_argument}
 use Rattle.theorems.specs.Judgement.{Suits}
 use Rattle.theorems.specs.Judgement.{Arms, no_arm, an_arm}
-use Rattle.theorems.specs.Judgement.{OfType, of-text, of-yes-no, of-list, of-record, of_case, AllOf, EachOf, no_field}
+use Rattle.theorems.specs.Judgement.{OfType, of_text, of_yes_no, of_list, of_record, of_case, AllOf, EachOf, no_field}
 use Rattle.theorems.specs.Finds.{kind_of_lem}
 
 -- What the walk finds at a value of a type, by the type's form
 abbrev Shaped : List ℕ → List ℕ → List ℕ → ℕ → TypeForm → Type 0
 Shaped g t v w (text c) = (x : List ℕ) × (as_text v w ≡ some x) × PlainLexeme g c x
-Shaped g t v w yes_no_lem = (yes? : Bool) × (as_yes_no v w ≡ some yes?)
+Shaped g t v w yes_no = (yes? : Bool) × (as_yes_no v w ≡ some yes?)
 Shaped g t v w (list ty) = (ws : List ℕ) × (as_list v w ≡ some ws) × AllOf g t v ty ws
 Shaped g t v w (fields tys) = (ws : List ℕ) × (as_record v w ≡ some ws) × EachOf g t v tys ws
 Shaped g t v w (cases tys) = (c : Case) × (as_case v w ≡ some c) × (to : ℕ) × (nth tys c.number ≡ some to) × OfType g t v to c.inside
@@ -30,10 +30,10 @@ Shaped g t v w no_type = ⊥
 
 of_form : {g t v : List ℕ} {ty w : ℕ} → OfType g t v ty w → Shaped g t v w (type_of t ty)
 unfolding as_text as_yes_no as_list as_record as_case
-of_form {v} (of-text ty w c f k e) = rw f (_, kind_of_lem v w 1 _ k, e)
-of_form {v} (of-yes-no ty w f k) = rw f (_, kind_of_lem v w 2 _ k)
-of_form {v} (of-list ty w item f k e) = rw f (_, kind_of_lem v w 3 _ k, e)
-of_form {v} (of-record ty w tys f k e) = rw f (_, kind_of_lem v w 4 _ k, e)
+of_form {v} (of_text ty w c f k e) = rw f (_, kind_of_lem v w 1 _ k, e)
+of_form {v} (of_yes_no ty w f k) = rw f (_, kind_of_lem v w 2 _ k)
+of_form {v} (of_list ty w item f k e) = rw f (_, kind_of_lem v w 3 _ k, e)
+of_form {v} (of_record ty w tys f k e) = rw f (_, kind_of_lem v w 4 _ k, e)
 of_form {v} (of_case ty w to tys f k e o) = rw f (_, kind_of_lem v w 5 _ k, to, e, o)
 
 pub shaped : {g t v : List ℕ} {ty w : ℕ} (f : TypeForm) → OfType g t v ty w → type_of t ty ≡ f → Shaped g t v w f

@@ -6,7 +6,7 @@ use Rattle.std.proofs.Common.{sym, ◌∙◌}
 use Rattle.std.proofs.Math.Option.{none, some, none-ne-some, some-injective}
 use Rattle.rules.specs.Faults.{on_found, only_if}
 use Rattle.rules.specs.Records.{kind_of, nth, field_a}
-use Rattle.rules.specs.Templates.{TypeForm, text, yes_no_lem, list, fields, cases, no_type, type_of}
+use Rattle.rules.specs.Templates.{TypeForm, text, yes_no, list, fields, cases, no_type, type_of}
 use Rattle.rules.specs.Value.{children, as_list, as_record, values_below, Case, content, as_case}
 use Rattle.rules.specs.Limits.{deepest, value_limits}
 use Rattle.rules.specs.Typing.{Typed, typed, paired, typed_of, typed_below}
@@ -49,7 +49,7 @@ ChildOf t v ty w y = ChildValue t v ty w y.type y.value
 form_child : (t v : List ℕ) (f : TypeForm) (ty w : ℕ) {y : Typed} → type_of t ty ≡ f → In y (typed_of v f w) → ChildOf t v ty w y
 unfolding typed_of typed as_list as_record as_case
 form_child t v (text c) ty w f i = elim i [ ]
-form_child t v yes_no_lem ty w f i = elim i [ ]
+form_child t v yes_no ty w f i = elim i [ ]
 form_child t v (list item) ty w f i =
     let (k, j) = kind_in v w 3 (children v w) _ i in
     map_in (ChildOf t v ty w) (typed item) (children v w) (λ u l. list_item item u f k l) j

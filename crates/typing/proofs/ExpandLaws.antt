@@ -33,23 +33,23 @@ module _ (g t : List ℕ) (x : Site) where
     expand_missing h = sym (on_some false _ asks ∙ on_none false _ (rw (← hk, ← he) h))
 
     module _ (q : ℕ) (hq : nth hs k ≡ some q) (b : ℕ) (hb : b ≡ field_b t q) where
-      expand-found : suits_form g t Expand x ≡ (eqb b n && arguments_fit t x.vars (paths t x.node) (parameters t q))
+      expand_found : suits_form g t Expand x ≡ (eqb b n && arguments_fit t x.vars (paths t x.node) (parameters t q))
       unfolding suits_form template
-      expand-found = on_some false _ asks ∙ on_some {a = q} false _ (rw (← hk, ← he) hq) ∙ rw (← hb)
+      expand_found = on_some false _ asks ∙ on_some {a = q} false _ (rw (← hk, ← he) hq) ∙ rw (← hb)
 
-      pub expand-other : (b ≡ n → ⊥) → false ≡ suits_form g t Expand x
-      expand-other h = sym (expand-found ∙ rw (ne_eqb _ _ h))
+      pub expand_other : (b ≡ n → ⊥) → false ≡ suits_form g t Expand x
+      expand_other h = sym (expand_found ∙ rw (ne_eqb _ _ h))
 
       module _ (same : b ≡ n) (d a : ℕ) (hd : d ≡ field_d t x.node) (ha : a ≡ field_a t q) where
-        expand-fits : suits_form g t Expand x ≡ arguments_fit t x.vars (row d (x.node + 1)) (map (field_b t) (row a (q + 1)))
+        expand_fits : suits_form g t Expand x ≡ arguments_fit t x.vars (row d (x.node + 1)) (map (field_b t) (row a (q + 1)))
         unfolding paths parameters parameter_heads
-        expand-fits = expand-found ∙ rw (eq-eqb _ _ same, ← hd, ← ha)
+        expand_fits = expand_found ∙ rw (eq-eqb _ _ same, ← hd, ← ha)
 
-        pub expand-counts : (d ≡ a → ⊥) → false ≡ suits_form g t Expand x
-        expand-counts h = sym (expand-fits ∙ fit_lengths t x.vars d a (x.node + 1) (q + 1) h)
+        pub expand_counts : (d ≡ a → ⊥) → false ≡ suits_form g t Expand x
+        expand_counts h = sym (expand_fits ∙ fit_lengths t x.vars d a (x.node + 1) (q + 1) h)
 
-        pub expand-is : d ≡ a → arguments_fit t x.vars (row d (x.node + 1)) (map (field_b t) (row d (q + 1))) ≡ suits_form g t Expand x
-        expand-is h = ap (λ (m : ℕ). arguments_fit t x.vars (row d (x.node + 1)) (map (field_b t) (row m (q + 1)))) h ∙ sym expand-fits
+        pub expand_is : d ≡ a → arguments_fit t x.vars (row d (x.node + 1)) (map (field_b t) (row d (q + 1))) ≡ suits_form g t Expand x
+        expand_is h = ap (λ (m : ℕ). arguments_fit t x.vars (row d (x.node + 1)) (map (field_b t) (row m (q + 1)))) h ∙ sym expand_fits
 
 -- what is left of an expand's arguments after i turns
 abbrev pub fits : List ℕ → List ℕ → ℕ → ℕ → ℕ → ℕ → Bool
@@ -60,23 +60,23 @@ module _ (t vars : List ℕ) (n p q : ℕ) where
   fits_start = rw (row_all n (p + 1), row_all n (q + 1))
 
   module _ (i : ℕ) where
-    pub fits-done : n ≤ i → fits t vars n p q i ≡ true
+    pub fits_done : n ≤ i → fits t vars n p q i ≡ true
     unfolding arguments_fit
-    fits-done h = rw (row_done n (p + 1) i h, row_done n (q + 1) i h)
+    fits_done h = rw (row_done n (p + 1) i h, row_done n (q + 1) i h)
 
     module _ (more : i < n) where
       fits_more : fits t vars n p q i ≡ (on_found (path_type t vars (p + 1 + i)) false (eqb (field_b t (q + 1 + i))) && fits t vars n p q (i + 1))
       unfolding arguments_fit
       fits_more = rw (row_more n (p + 1) i more, row_more n (q + 1) i more)
 
-      pub fits-nothing : path_type t vars (p + 1 + i) ≡ none → fits t vars n p q i ≡ false
+      pub fits_nothing : path_type t vars (p + 1 + i) ≡ none → fits t vars n p q i ≡ false
       unfolding on_found
-      fits-nothing e = fits_more ∙ rw e
+      fits_nothing e = fits_more ∙ rw e
 
       module _ (u b : ℕ) (hu : path_type t vars (p + 1 + i) ≡ some u) (hb : b ≡ field_b t (q + 1 + i)) where
-        pub fits-other : (b ≡ u → ⊥) → fits t vars n p q i ≡ false
+        pub fits_other : (b ≡ u → ⊥) → fits t vars n p q i ≡ false
         unfolding on_found
-        fits-other h = fits_more ∙ rw (hu, ← hb, ne_eqb _ _ h)
+        fits_other h = fits_more ∙ rw (hu, ← hb, ne_eqb _ _ h)
 
         pub fits_next : b ≡ u → fits t vars n p q i ≡ fits t vars n p q (i + 1)
         unfolding on_found

@@ -73,9 +73,9 @@ module _ {g : List ℕ} {q n : ℕ} {before table : List ℕ} {e i count : ℕ} 
   among_more c k = ap (asked_among g) (heads_more (element_size g) n i e more c k)
 
   module _ (c : ℕ) (size : c ≡ element_size g e) (small : c ≤ 8193) where
-    pub filling-keyword : field_a g e ≡ 0 → Filling g q n before table (e + c) (i + 1) count
+    pub filling_keyword : field_a g e ≡ 0 → Filling g q n before table (e + c) (i + 1) count
     unfolding asked_among
-    filling-keyword h = record {
+    filling_keyword h = record {
       far = omega (arith, F.far);
       turns = omega arith;
       behind = omega (arith, F.behind);
@@ -88,9 +88,9 @@ module _ {g : List ℕ} {q n : ℕ} {before table : List ℕ} {e i count : ℕ} 
     put_more : e < 8064 → take (count + 1) (drop (q + 1) (set table (q + 1 + count) e)) ≡ take count (drop (q + 1) table) ++ e ∷ []
     put_more h = rw (drop-set-add (q + 1) table count e) (one_more_lem (drop (q + 1) table) count e (simp length-drop (omega (arith, F.full, F.behind))))
 
-    pub filling-asked : stream_length g ≡ none → (field_a g e ≡ 0 → ⊥) → Filling g q n before (set table (q + 1 + count) e) (e + c) (i + 1) (count + 1)
+    pub filling_asked : stream_length g ≡ none → (field_a g e ≡ 0 → ⊥) → Filling g q n before (set table (q + 1 + count) e) (e + c) (i + 1) (count + 1)
     unfolding asked_among
-    filling-asked s h =
+    filling_asked s h =
         let l = asked_inside g e s h in
         let m = size_some g e in
         record {

@@ -66,19 +66,19 @@ module _ (t : List ℕ) (r : Record) (n : ℕ) (e : n ≡ length (steps_in r)) (
   path_done h = rw (steps_done r n i e h)
 
   module _ (more : i < n) (j : ℕ) (k : StepIn r i j) where
-    path-more : (o : Option ℕ) → on_found (field_types (type_of t ty)) none (λ tys. nth tys j) ≡ o
+    path_more : (o : Option ℕ) → on_found (field_types (type_of t ty)) none (λ tys. nth tys j) ≡ o
         → type_along t (drop i (steps_in r)) ty ≡ on_found o none (type_along t (drop (i + 1) (steps_in r)))
     unfolding type_along
-    path-more o g = rw (steps_more r n i j e more k) (on_on _ j _ g)
+    path_more o g = rw (steps_more r n i j e more k) (on_on _ j _ g)
 
-    pub path-go : (next : ℕ) → on_found (field_types (type_of t ty)) none (λ tys. nth tys j) ≡ some next
+    pub path_go : (next : ℕ) → on_found (field_types (type_of t ty)) none (λ tys. nth tys j) ≡ some next
         → type_along t (drop i (steps_in r)) ty ≡ type_along t (drop (i + 1) (steps_in r)) next
     unfolding on_found
-    path-go next g = path-more (some next) g
+    path_go next g = path_more (some next) g
 
-    pub path-stop : on_found (field_types (type_of t ty)) none (λ tys. nth tys j) ≡ none → type_along t (drop i (steps_in r)) ty ≡ none
+    pub path_stop : on_found (field_types (type_of t ty)) none (λ tys. nth tys j) ≡ none → type_along t (drop i (steps_in r)) ty ≡ none
     unfolding on_found
-    path-stop g = path-more none g
+    path_stop g = path_more none g
 
 module _ (t vars : List ℕ) (p : ℕ) (r : Record) (f : Fetched t p r) (k : ℕ) (is : k ≡ r.a) where
   variable_is : variable t p ≡ k

@@ -54,18 +54,18 @@ module _ {t : List ℕ} {left : ℕ} {f : Frame} (deep : left ≡ 0 → ⊥) (R 
   ready_few = omega (arith, own_limits.0, R.few)
 
   module _ (g asked scope : List ℕ) {b : Below} (s : Suited g t asked (site_of scope f) (form_of t f.node) b) where
-    below-limits : RowLimits (left - 1) t (f.count + brought (brings_of b.positions)) b.count b.first
+    below_limits : RowLimits (left - 1) t (f.count + brought (brings_of b.positions)) b.count b.first
     unfolding looped_below nodes_below looped
-    below-limits = record {
+    below_limits = record {
       loops = R.loops + brought (brings_of b.positions);
       few = omega (arith, R.few);
       limits = rw (← s.nodes_are, ← s.loops_are R.loops) own_limits.1;
     }
 
-    pub below-ready : RowReady (left - 1) t b f.count
-    below-ready = record {
+    pub below_ready : RowReady (left - 1) t b f.count
+    below_ready = record {
       near = omega (arith, deep, R.near, s.near, s.few);
       many = s.few;
       inside = s.inside;
-      limits = below-limits;
+      limits = below_limits;
     }

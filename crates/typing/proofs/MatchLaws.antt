@@ -24,7 +24,7 @@ use Rattle.laws.specs.Rows.{length_heads}
 use Rattle.typing.specs.Answers.{row_of, position_in, entry_of, brings_of, brought, bindings, site_in, Suited}
 use Rattle.typing.specs.declared.Brings.TheVariants.{Contents}
 use Rattle.typing.specs.declared.Positions.TheVariants.{Alike}
-use Rattle.typing.proofs.SuitsLaws.{through, finds-in}
+use Rattle.typing.proofs.SuitsLaws.{through, finds_in}
 
 -- the arms in a row, each with the content of its case
 
@@ -45,28 +45,28 @@ module _ (g t : List ℕ) (x : Site) where
   match_nothing h = on_none false _ h
 
   module _ (F : TypeForm) (finds : F ≡ on_found (path_type t x.vars (x.node + 1)) no_type (type_of t)) (n : ℕ) (asks : asks_nonterminal x.position ≡ some n) where
-    match-form : suits_form g t Match x ≡ on_found (case_types F) false (λ tys. eqb (length tys) (field_d t x.node))
+    match_form : suits_form g t Match x ≡ on_found (case_types F) false (λ tys. eqb (length tys) (field_d t x.node))
     unfolding suits_form on_found case_types
-    match-form = on_some false _ asks ∙ sym (finds-in g t x F finds (λ G. on_found (case_types G) false (λ tys. eqb (length tys) (field_d t x.node))) refl)
+    match_form = on_some false _ asks ∙ sym (finds_in g t x F finds (λ G. on_found (case_types G) false (λ tys. eqb (length tys) (field_d t x.node))) refl)
 
-    match-sites : sites_of g t Match x ≡ on_found (case_types F) [] (λ tys. arm_sites x.vars (Nonterminal n) tys (arms t x.node))
+    match_sites : sites_of g t Match x ≡ on_found (case_types F) [] (λ tys. arm_sites x.vars (Nonterminal n) tys (arms t x.node))
     unfolding sites_of path case_types on_found
-    match-sites =
+    match_sites =
         on_some [] _ asks
         ∙ sym (through (λ G. on_found (case_types G) [] (λ tys. arm_sites x.vars (Nonterminal n) tys (arms t x.node))) refl (path_type t x.vars (x.node + 1)) (type_of t))
         ∙ rw (← finds)
 
-    pub match-other : case_types F ≡ none → suits_form g t Match x ≡ false
-    match-other h = match-form ∙ on_none false _ h
+    pub match_other : case_types F ≡ none → suits_form g t Match x ≡ false
+    match_other h = match_form ∙ on_none false _ h
 
     -- on a variant whose head is at h, with m cases
     module _ (h m : ℕ) (is : case_types F ≡ some (map (field_b t) (row m (h + 1)))) (d : ℕ) (hd : d ≡ field_d t x.node) where
       counts : suits_form g t Match x ≡ eqb m d
       unfolding row
-      counts = match-form ∙ on_some false _ is ∙ rw (length_map (field_b t) (heads (λ q. 1) m (h + 1)), length_heads (λ q. 1) m (h + 1), ← hd)
+      counts = match_form ∙ on_some false _ is ∙ rw (length_map (field_b t) (heads (λ q. 1) m (h + 1)), length_heads (λ q. 1) m (h + 1), ← hd)
 
-      pub match-counts : (m ≡ d → ⊥) → suits_form g t Match x ≡ false
-      match-counts k = counts ∙ ne_eqb m d k
+      pub match_counts : (m ≡ d → ⊥) → suits_form g t Match x ≡ false
+      match_counts k = counts ∙ ne_eqb m d k
 
       pub match_is : (asked : List ℕ) → m ≡ d → d < 65536
           → Suited g t asked x Match (record { first = x.node + 2; count = d; positions = Alike (Nonterminal n) (Contents h) })
@@ -74,7 +74,7 @@ module _ (g t : List ℕ) (x : Site) where
       match_is asked k l = record {
         own = counts ∙ eq-eqb m d k;
         sites_are =
-            match-sites ∙ on_some [] _ is
+            match_sites ∙ on_some [] _ is
             ∙ rw (k, ← hd, ← add-zero (h + 1)) (alike_arms g t asked x.vars (Nonterminal n) h d 0 (x.node + 2));
         nodes_are = rw hd;
         loops_are = λ m. sym (add-one m);

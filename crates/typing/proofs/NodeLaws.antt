@@ -27,7 +27,7 @@ use Rattle.typing.specs.declared.Judged.{Judged}
 use Rattle.typing.specs.declared.Judged.TheVariants.{Suits, Offends}
 use Rattle.typing.proofs.AnswerLaws.{fine, wrong, one_more_lem}
 use Rattle.typing.proofs.LimitLaws.{limits_start, row_ready, row_next, row_room}
-use Rattle.typing.proofs.RowLaws.{turns_start, turns-done, turns_more}
+use Rattle.typing.proofs.RowLaws.{turns_start, turns_done, turns_more}
 
 -- what offends, with its position
 
@@ -49,14 +49,14 @@ module _ (g t : List ℕ) (left : ℕ) (x : Site) where
   misfit_deep h = ap offence (sym (tree_deep (suits g t) (sites_below g t) left x h))
 
   module _ (deep : left ≡ 0 → ⊥) where
-    pub misfit-own : suits_form g t (form_of t x.node) x ≡ false → some (x.node, x.position) ≡ offence (misfit g t left x)
+    pub misfit_own : suits_form g t (form_of t x.node) x ≡ false → some (x.node, x.position) ≡ offence (misfit g t left x)
     unfolding misfit suits offence
-    misfit-own h = ap offence (sym (tree_wrong (suits g t) (sites_below g t) left x (omega (arith, deep)) h))
+    misfit_own h = ap offence (sym (tree_wrong (suits g t) (sites_below g t) left x (omega (arith, deep)) h))
 
-    pub misfit-below : {asked : List ℕ} {b : Below} → Suited g t asked x (form_of t x.node) b
+    pub misfit_below : {asked : List ℕ} {b : Below} → Suited g t asked x (form_of t x.node) b
         → every (misfit g t (left - 1)) (sites_in g t asked x.vars b) ≡ misfit g t left x
     unfolding misfit suits sites_below
-    misfit-below s = sym (tree_right (suits g t) (sites_below g t) left x (omega (arith, deep)) s.own ∙ rw s.sites_are)
+    misfit_below s = sym (tree_right (suits g t) (sites_below g t) left x (omega (arith, deep)) s.own ∙ rw s.sites_are)
 
 -- what is bound
 
@@ -158,34 +158,34 @@ turn_start g t asked {left} R full = record {
 module _ {g t asked : List ℕ} {left : ℕ} {b : Below} {count : ℕ} {scope₀ scope : List ℕ} {i at : ℕ} (T : Turn g t asked left b count scope₀ scope i at) where
   pub turn_end : b.count ≤ i → Checked (every (misfit g t left) (sites_in g t asked (take count scope₀) b)) count scope₀ scope Suits
   unfolding offence
-  turn_end h = record { says = ap offence (every_end _ T.rest (turns-done _ _ _ _ _ h)); kept = T.kept; full = T.full }
+  turn_end h = record { says = ap offence (every_end _ T.rest (turns_done _ _ _ _ _ h)); kept = T.kept; full = T.full }
 
   pub turn_room : i < b.count → Scope scope (count + brought (brings_of b.positions))
   turn_room more = record { full = T.full; few = row_room more T.limits }
 
   module _ (more : i < b.count) {scope₁ : List ℕ} {f : Frame} (framed : FrameIn g t asked scope count b.positions at i scope₁ f) where
-    seen-is : f.count ≡ count + brought (brings_of b.positions)
-    seen-is = framed.bound.count_is ∙ ap (λ (n : ℕ). count + n) (as_many t (brings_of b.positions) i)
+    seen_is : f.count ≡ count + brought (brings_of b.positions)
+    seen_is = framed.bound.count_is ∙ ap (λ (n : ℕ). count + n) (as_many t (brings_of b.positions) i)
 
-    pub turn-ready : RowReady left t b count → FrameReady left t f
-    turn-ready R = row_ready more T.limits framed.node_is seen-is (omega (arith, R.near, T.here, more))
+    pub turn_ready : RowReady left t b count → FrameReady left t f
+    turn_ready R = row_ready more T.limits framed.node_is seen_is (omega (arith, R.near, T.here, more))
 
     module _ {scope' : List ℕ} (one : Judged) (checked : Checked (misfit g t left (site_of scope₁ f)) f.count scope₁ scope' one) where
-      vars-here : take f.count scope₁ ≡ take count scope₀ ++ bindings t (brings_of b.positions) i
-      vars-here = framed.bound.vars_are ∙ ap (λ (vars : List ℕ). vars ++ bindings t (brings_of b.positions) i) T.kept
+      vars_here : take f.count scope₁ ≡ take count scope₀ ++ bindings t (brings_of b.positions) i
+      vars_here = framed.bound.vars_are ∙ ap (λ (vars : List ℕ). vars ++ bindings t (brings_of b.positions) i) T.kept
 
-      checked-here : judged one ≡ offence (misfit g t left (site_in g t asked (take count scope₀) b.positions i at))
+      checked_here : judged one ≡ offence (misfit g t left (site_in g t asked (take count scope₀) b.positions i at))
       unfolding site_in site
-      checked-here = checked.says ∙ rw (framed.node_is, framed.position_is, vars-here)
+      checked_here = checked.says ∙ rw (framed.node_is, framed.position_is, vars_here)
 
       kept_here : take count scope' ≡ take count scope₀
       kept_here =
           kept_back scope scope' count f.count _ (let r = turn_room more in omega (arith, r.few, r.full)) framed.bound.count_is (checked.kept ∙ framed.bound.vars_are) ∙ T.kept
 
-      pub turn-stop : {p : ℕ} {unsuited : Position} → one ≡ Offends p unsuited
+      pub turn_stop : {p : ℕ} {unsuited : Position} → one ≡ Offends p unsuited
           → Checked (every (misfit g t left) (sites_in g t asked (take count scope₀) b)) count scope₀ scope' (Offends p unsuited)
-      turn-stop h =
-          let w = wrong checked-here h in
+      turn_stop h =
+          let w = wrong checked_here h in
           let x = offence_some _ _ w in
           record {
             says = sym w ∙ ap offence (x.1 ∙ every_stop _ T.rest (turns_more _ _ _ _ _ more _ refl) x.1);
@@ -193,14 +193,14 @@ module _ {g t asked : List ℕ} {left : ℕ} {b : Below} {count : ℕ} {scope₀
             full = checked.full;
           }
 
-      pub turn-next : one ≡ Suits → (c : ℕ) → c ≡ field_c t f.node → c < 65536 → Turn g t asked left b count scope₀ scope' (i + 1) (at + c)
-      turn-next h c e small = let size : c ≡ field_c t at = e ∙ ap (field_c t) framed.node_is in record {
+      pub turn_next : one ≡ Suits → (c : ℕ) → c ≡ field_c t f.node → c < 65536 → Turn g t asked left b count scope₀ scope' (i + 1) (at + c)
+      turn_next h c e small = let size : c ≡ field_c t at = e ∙ ap (field_c t) framed.node_is in record {
         here = omega (arith, T.here, small);
         within = omega (arith, more);
         kept = kept_here;
         full = checked.full;
         limits = row_next more T.limits c size;
-        rest = every_next _ T.rest (turns_more _ _ _ _ _ more c size) (offence_none _ (fine checked-here h));
+        rest = every_next _ T.rest (turns_more _ _ _ _ _ more c size) (offence_none _ (fine checked_here h));
       }
 
 -- the check of a node
@@ -213,7 +213,7 @@ pub checked_below : (g t asked : List ℕ) {left : ℕ} {f : Frame} {scope scope
     → Checked (every (misfit g t (left - 1)) (sites_in g t asked (take f.count scope) b)) f.count scope scope' r
     → Checked (misfit g t left (site_of scope f)) f.count scope scope' r
 checked_below g t asked {left} {f} {scope} deep s c = record {
-  says = c.says ∙ ap offence (misfit-below g t left (site_of scope f) deep s);
+  says = c.says ∙ ap offence (misfit_below g t left (site_of scope f) deep s);
   kept = c.kept;
   full = c.full;
 }

@@ -13,9 +13,9 @@ module _ {A : Type 0} (make : ℕ → ℕ → A) (size : ℕ → ℕ) where
   turns_start f n p = rw (sub-zero n)
 
   module _ (n i p : ℕ) where
-    pub turns-done : n ≤ i → row_of make size (n - i) i p ≡ []
+    pub turns_done : n ≤ i → row_of make size (n - i) i p ≡ []
     unfolding row_of
-    turns-done h = let e : n - i ≡ 0 = omega arith in rw e
+    turns_done h = let e : n - i ≡ 0 = omega arith in rw e
 
     pub turns_more : i < n → (c : ℕ) → c ≡ size p → row_of make size (n - i) i p ≡ make i p ∷ row_of make size (n - (i + 1)) (i + 1) (p + c)
     unfolding row_of

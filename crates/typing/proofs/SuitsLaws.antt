@@ -125,28 +125,28 @@ module _ (g t : List ℕ) (x : Site) where
   build_nothing h = on_none false _ h
 
   module _ (n : ℕ) (asks : asks_nonterminal x.position ≡ some n) (hs : List ℕ) (he : hs ≡ productions g) (k : ℕ) (hk : k ≡ field_b t x.node) where
-    pub build-missing : nth hs k ≡ none → suits_form g t Build x ≡ false
+    pub build_missing : nth hs k ≡ none → suits_form g t Build x ≡ false
     unfolding suits_form production
-    build-missing h = on_some false _ asks ∙ on_none false _ (rw (← hk, ← he) h)
+    build_missing h = on_some false _ asks ∙ on_none false _ (rw (← hk, ← he) h)
 
     module _ (q : ℕ) (hq : nth hs k ≡ some q) (b : ℕ) (hb : b ≡ field_b g q) where
-      build-found : suits_form g t Build x ≡ (eqb b n && eqb (length (asked_of g q)) (field_d t x.node))
+      build_found : suits_form g t Build x ≡ (eqb b n && eqb (length (asked_of g q)) (field_d t x.node))
       unfolding suits_form production
-      build-found = on_some false _ asks ∙ on_some {a = q} false _ (rw (← hk, ← he) hq) ∙ rw (← hb, positions_count g q)
+      build_found = on_some false _ asks ∙ on_some {a = q} false _ (rw (← hk, ← he) hq) ∙ rw (← hb, positions_count g q)
 
-      pub build-other : (b ≡ n → ⊥) → suits_form g t Build x ≡ false
-      build-other h = build-found ∙ rw (ne_eqb _ _ h)
+      pub build_other : (b ≡ n → ⊥) → suits_form g t Build x ≡ false
+      build_other h = build_found ∙ rw (ne_eqb _ _ h)
 
       module _ (same : b ≡ n) {asked : List ℕ} (row : AskedRow g asked q) (d : ℕ) (hd : d ≡ field_d t x.node) where
-        pub build-counts : (get_or asked q 0 ≡ d → ⊥) → suits_form g t Build x ≡ false
-        build-counts h = build-found ∙ rw (eq-eqb _ _ same, ← hd, ← row.count, ne_eqb _ _ h)
+        pub build_counts : (get_or asked q 0 ≡ d → ⊥) → suits_form g t Build x ≡ false
+        build_counts h = build_found ∙ rw (eq-eqb _ _ same, ← hd, ← row.count, ne_eqb _ _ h)
 
         pub build_is : get_or asked q 0 ≡ d → d < 65536 → Suited g t asked x Build (record { first = x.node + 1; count = d; positions = Asked q })
         unfolding sites_of production nodes nodes_of loops_below brings_of brought entry_of
         build_is h l =
             let e : length (asked_of g q) ≡ d = sym row.count ∙ h in
             record {
-              own = build-found ∙ rw (eq-eqb _ _ same, ← hd, eq-eqb _ _ e);
+              own = build_found ∙ rw (eq-eqb _ _ same, ← hd, eq-eqb _ _ e);
               sites_are =
                   on_some {a = q} [] _ (rw (← hk, ← he) hq)
                   ∙ rw (positions_are g q, ← hd, ← e) (children_row g t x.vars _ (asked_of g q) 0 (x.node + 1) (child_in g t asked x.vars q row));
@@ -189,26 +189,26 @@ module _ (g t : List ℕ) (x : Site) where
   for_nothing h = on_none false _ h
 
   module _ (F : TypeForm) (finds : F ≡ on_found (path_type t x.vars (x.node + 1)) no_type (type_of t)) where
-    pub finds-in : (h : TypeForm → Bool) → h no_type ≡ false → h F ≡ on_found (path_type t x.vars (path x.node)) false (λ ty. h (type_of t ty))
+    pub finds_in : (h : TypeForm → Bool) → h no_type ≡ false → h F ≡ on_found (path_type t x.vars (path x.node)) false (λ ty. h (type_of t ty))
     unfolding path
-    finds-in h e = ap h finds ∙ through h e (path_type t x.vars (x.node + 1)) (type_of t)
+    finds_in h e = ap h finds ∙ through h e (path_type t x.vars (x.node + 1)) (type_of t)
 
     pub place_is : (c : ℕ) → asks_class x.position ≡ some c → on_found (text_class F) false (eqb (plain_of g c)) ≡ suits_form g t Place x
     unfolding suits_form on_found text_class
-    place_is c h = finds-in (λ G. on_found (text_class G) false (eqb (plain_of g c))) refl ∙ sym (on_some false _ h)
+    place_is c h = finds_in (λ G. on_found (text_class G) false (eqb (plain_of g c))) refl ∙ sym (on_some false _ h)
 
     module _ (n : ℕ) (asks : asks_nonterminal x.position ≡ some n) where
-      if-form : suits_form g t If x ≡ is_yes_no F
+      if_form : suits_form g t If x ≡ is_yes_no F
       unfolding suits_form is_yes_no
-      if-form = on_some false _ asks ∙ sym (finds-in is_yes_no refl)
+      if_form = on_some false _ asks ∙ sym (finds_in is_yes_no refl)
 
-      pub if-other : is_yes_no F ≡ false → suits_form g t If x ≡ false
-      if-other h = if-form ∙ h
+      pub if_other : is_yes_no F ≡ false → suits_form g t If x ≡ false
+      if_other h = if_form ∙ h
 
-      pub if-is : (asked : List ℕ) → is_yes_no F ≡ true → Suited g t asked x If (record { first = x.node + 2; count = 2; positions = Alike (Nonterminal n) Nothing })
+      pub if_is : (asked : List ℕ) → is_yes_no F ≡ true → Suited g t asked x If (record { first = x.node + 2; count = 2; positions = Alike (Nonterminal n) Nothing })
       unfolding sites_of nodes_of loops_below brings_of brought entry_of first second heads
-      if-is asked h = record {
-        own = if-form ∙ h;
+      if_is asked h = record {
+        own = if_form ∙ h;
         sites_are = on_some [] _ asks ∙ alike g t asked x.vars (Nonterminal n) 2 0 (x.node + 2);
         nodes_are = refl;
         loops_are = λ m. sym (add-zero m);
@@ -220,24 +220,24 @@ module _ (g t : List ℕ) (x : Site) where
     module _ (n : ℕ) (asks : asks_item x.position ≡ some n) where
       for_form : suits_form g t For x ≡ exists (item_type F)
       unfolding suits_form exists item_type
-      for_form = on_some false _ asks ∙ sym (finds-in (λ G. exists (item_type G)) refl)
+      for_form = on_some false _ asks ∙ sym (finds_in (λ G. exists (item_type G)) refl)
 
-      for-sites : sites_of g t For x ≡ on_found (item_type F) [] (λ item. site (x.vars ++ item ∷ []) (Nonterminal n) (first x.node) ∷ [])
+      for_sites : sites_of g t For x ≡ on_found (item_type F) [] (λ item. site (x.vars ++ item ∷ []) (Nonterminal n) (first x.node) ∷ [])
       unfolding sites_of path item_type on_found
-      for-sites =
+      for_sites =
           on_some [] _ asks
           ∙ sym (through (λ G. on_found (item_type G) [] (λ item. site (x.vars ++ item ∷ []) (Nonterminal n) (first x.node) ∷ [])) refl (path_type t x.vars (x.node + 1)) (type_of t))
           ∙ rw (← finds)
 
-      pub for-other : item_type F ≡ none → suits_form g t For x ≡ false
+      pub for_other : item_type F ≡ none → suits_form g t For x ≡ false
       unfolding exists
-      for-other h = for_form ∙ rw h
+      for_other h = for_form ∙ rw h
 
-      pub for-is : (asked : List ℕ) (ty : ℕ) → item_type F ≡ some ty → Suited g t asked x For (record { first = x.node + 2; count = 1; positions = Alike (Nonterminal n) (brings.Item ty) })
+      pub for_is : (asked : List ℕ) (ty : ℕ) → item_type F ≡ some ty → Suited g t asked x For (record { first = x.node + 2; count = 1; positions = Alike (Nonterminal n) (brings.Item ty) })
       unfolding exists nodes_of loops_below brings_of brought entry_of first heads
-      for-is asked ty h = record {
+      for_is asked ty h = record {
         own = for_form ∙ rw h;
-        sites_are = for-sites ∙ on_some [] _ h ∙ alike_items g t asked x.vars (Nonterminal n) ty 1 0 (x.node + 2);
+        sites_are = for_sites ∙ on_some [] _ h ∙ alike_items g t asked x.vars (Nonterminal n) ty 1 0 (x.node + 2);
         nodes_are = refl;
         loops_are = λ m. sym (add-one m);
         near = omega arith;

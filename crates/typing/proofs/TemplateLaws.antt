@@ -66,16 +66,16 @@ module _ (t hs : List ℕ) (he : hs ≡ templates t) where
   declared_missing h = sym (on_none none _ (rw (← he) h))
 
   module _ (q a : ℕ) (hq : nth hs 0 ≡ some q) (ha : a ≡ field_a t q) where
-    declared-only : declared_type t ≡ only (map (field_b t) (row a (q + 1)))
+    declared_only : declared_type t ≡ only (map (field_b t) (row a (q + 1)))
     unfolding declared_type template parameters parameter_heads
-    declared-only = on_some {a = q} none _ (rw (← he) hq) ∙ rw (← ha)
+    declared_only = on_some {a = q} none _ (rw (← he) hq) ∙ rw (← ha)
 
-    pub declared-other : (a ≡ 1 → ⊥) → none ≡ declared_type t
-    declared-other h = sym (declared-only ∙ only_one (field_b t) a (q + 1) h)
+    pub declared_other : (a ≡ 1 → ⊥) → none ≡ declared_type t
+    declared_other h = sym (declared_only ∙ only_one (field_b t) a (q + 1) h)
 
-    pub declared-is : a ≡ 1 → (b : ℕ) → b ≡ field_b t (q + 1) → some b ≡ declared_type t
+    pub declared_is : a ≡ 1 → (b : ℕ) → b ≡ field_b t (q + 1) → some b ≡ declared_type t
     unfolding only row heads
-    declared-is h b e = sym (declared-only ∙ rw (h, ← e))
+    declared_is h b e = sym (declared_only ∙ rw (h, ← e))
 
 -- all templates
 

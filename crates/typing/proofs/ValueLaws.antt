@@ -33,7 +33,7 @@ use Rattle.lexeme.proofs.SourceLaws.{admitted_plain}
 use Rattle.typing.specs.Answers.{kind_form, child_count, kind_below, child_type, row_of, typed_in}
 use Rattle.typing.specs.declared.Kind.{Kind}
 use Rattle.typing.specs.declared.Kind.TheVariants.{Text, YesNo, Items, Fields, Cases, Missing}
-use Rattle.typing.proofs.RowLaws.{map_row, turns_start, turns-done, turns_more}
+use Rattle.typing.proofs.RowLaws.{map_row, turns_start, turns_done, turns_more}
 
 -- the value's own test, by the kind of its type
 
@@ -163,43 +163,43 @@ turn_start g t v left K first n = record { here = omega arith; within = omega ar
 module _ {g t v : List ℕ} {left : ℕ} {K : Kind} {first n next i : ℕ} (T : ValueTurn g t v left K first n next i) where
   pub turn_end : n ≤ i → none ≡ at (λ x. x.value) (mistyped_row g t v left K n 0 first)
   unfolding at
-  turn_end h = ap (at (λ x. x.value)) (every_end _ T.rest (turns-done _ _ _ _ _ h))
+  turn_end h = ap (at (λ x. x.value)) (every_end _ T.rest (turns_done _ _ _ _ _ h))
 
   module _ (more : i < n) where
-    turn-stop : (x : Typed) → mistyped g t v left (typed_in t K i next) ≡ some x → some x.value ≡ at (λ x. x.value) (mistyped_row g t v left K n 0 first)
+    turn_stop : (x : Typed) → mistyped g t v left (typed_in t K i next) ≡ some x → some x.value ≡ at (λ x. x.value) (mistyped_row g t v left K n 0 first)
     unfolding at
-    turn-stop x e = ap (at (λ x. x.value)) (every_stop _ T.rest (turns_more _ _ _ _ _ more _ refl) e)
+    turn_stop x e = ap (at (λ x. x.value)) (every_stop _ T.rest (turns_more _ _ _ _ _ more _ refl) e)
 
-    turn-next : mistyped g t v left (typed_in t K i next) ≡ none → {r : Record} → Fetched v next r → {c : ℕ} → ValueSize r c → ValueTurn g t v left K first n (next + c) (i + 1)
-    turn-next e f s = record {
+    turn_next : mistyped g t v left (typed_in t K i next) ≡ none → {r : Record} → Fetched v next r → {c : ℕ} → ValueSize r c → ValueTurn g t v left K first n (next + c) (i + 1)
+    turn_next e f s = record {
       here = omega (arith, T.here, s.small);
       within = omega (arith, more);
       rest = every_next _ T.rest (turns_more _ _ _ _ _ more _ (s.is v next f)) e;
     }
 
-    pub turn-deep : left ≡ 0 → some next ≡ at (λ x. x.value) (mistyped_row g t v left K n 0 first)
+    pub turn_deep : left ≡ 0 → some next ≡ at (λ x. x.value) (mistyped_row g t v left K n 0 first)
     unfolding mistyped typed_in typed
-    turn-deep h = turn-stop (typed_in t K i next) (tree_deep (has_type g t v) (typed_below t v) left (typed_in t K i next) h)
+    turn_deep h = turn_stop (typed_in t K i next) (tree_deep (has_type g t v) (typed_below t v) left (typed_in t K i next) h)
 
     module _ (deep : left ≡ 0 → ⊥) {ty : ℕ} (is : ty ≡ child_type t K i) (L : Kind) (kind : kind_form t L ≡ type_of t ty) {b : Bool} (own : b ≡ has_form g v (kind_form t L) next) where
-      has-type : has_type g t v (typed_in t K i next) ≡ b
+      has_type_lem : has_type g t v (typed_in t K i next) ≡ b
       unfolding has_type typed_in typed
-      has-type = rw (← is, ← kind) (sym own)
+      has_type_lem = rw (← is, ← kind) (sym own)
 
-      pub turn-own : b ≡ false → some next ≡ at (λ x. x.value) (mistyped_row g t v left K n 0 first)
+      pub turn_own : b ≡ false → some next ≡ at (λ x. x.value) (mistyped_row g t v left K n 0 first)
       unfolding mistyped typed_in typed
-      turn-own h = turn-stop (typed_in t K i next) (tree_wrong (has_type g t v) (typed_below t v) left (typed_in t K i next) (omega (arith, deep)) (has-type ∙ h))
+      turn_own h = turn_stop (typed_in t K i next) (tree_wrong (has_type g t v) (typed_below t v) left (typed_in t K i next) (omega (arith, deep)) (has_type_lem ∙ h))
 
       module _ (right : b ≡ true) {r : Record} (f : Fetched v next r) {m : ℕ} (count : m ≡ child_count L r.d) where
         value_below : mistyped g t v left (typed_in t K i next) ≡ mistyped_row g t v (left - 1) (kind_below t L r.a) m 0 (next + 1)
         unfolding mistyped typed_below typed_in typed
         value_below =
-            tree_right (has_type g t v) (typed_below t v) left (typed_in t K i next) (omega (arith, deep)) (has-type ∙ right)
+            tree_right (has_type g t v) (typed_below t v) left (typed_in t K i next) (omega (arith, deep)) (has_type_lem ∙ right)
             ∙ rw (← is, ← kind, count) (ap (every (mistyped g t v (left - 1))) (sym (below_are g t v next r f L (sym own ∙ right))))
 
-        pub turn-leaf : m ≡ 0 → {c : ℕ} → ValueSize r c → ValueTurn g t v left K first n (next + c) (i + 1)
+        pub turn_leaf : m ≡ 0 → {c : ℕ} → ValueSize r c → ValueTurn g t v left K first n (next + c) (i + 1)
         unfolding row_of every
-        turn-leaf z s = turn-next (value_below ∙ rw z) f s
+        turn_leaf z s = turn_next (value_below ∙ rw z) f s
 
         -- by what the check of the row below has answered
         module _ {M : Kind} (below : M ≡ kind_below t L r.a) (one : Fault)
@@ -207,13 +207,13 @@ module _ {g t v : List ℕ} {left : ℕ} {K : Kind} {first n next i : ℕ} (T : 
           says_so : fault_of one ≡ at (λ x. x.value) (mistyped_row g t v (left - 1) (kind_below t L r.a) m 0 (next + 1))
           says_so = says ∙ rw below
 
-          pub turn-right : one ≡ Nowhere → {c : ℕ} → ValueSize r c → ValueTurn g t v left K first n (next + c) (i + 1)
-          turn-right h s = turn-next (value_below ∙ (at_none _ _).0 (unfound _ _ says_so h)) f s
+          pub turn_right : one ≡ Nowhere → {c : ℕ} → ValueSize r c → ValueTurn g t v left K first n (next + c) (i + 1)
+          turn_right h s = turn_next (value_below ∙ (at_none _ _).0 (unfound _ _ says_so h)) f s
 
-          pub turn-wrong : {q : ℕ} → one ≡ At q → some q ≡ at (λ x. x.value) (mistyped_row g t v left K n 0 first)
-          turn-wrong h =
+          pub turn_wrong : {q : ℕ} → one ≡ At q → some q ≡ at (λ x. x.value) (mistyped_row g t v left K n 0 first)
+          turn_wrong h =
               let x = at_some _ _ _ (found _ _ _ says_so h) in
-              ap some (sym x.2) ∙ turn-stop x.0 (value_below ∙ x.1)
+              ap some (sym x.2) ∙ turn_stop x.0 (value_below ∙ x.1)
 
 -- the whole value
 

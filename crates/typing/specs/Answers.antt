@@ -2,7 +2,7 @@
 use Rattle.std.specs.Prelude.{ℕ, zero, suc, ◌+◌, ◌≤◌, ◌<◌, ◌≡◌, List, [], ◌∷◌, ◌++◌, map, Bool, true, false, length, get_or, take}
 use Rattle.std.proofs.Math.Option.{Option, none, some}
 use Rattle.rules.specs.Records.{field_b, field_c, heads, row}
-use Rattle.rules.specs.Templates.{TypeForm, text, yes_no_lem, list, fields, cases, no_type, nodes_of}
+use Rattle.rules.specs.Templates.{TypeForm, text, yes_no, list, fields, cases, no_type, nodes_of}
 use Rattle.rules.specs.Typing.{Site, site, Typed, typed, suits_form, sites_of}
 use Rattle.rules.specs.Limits.{loops_below}
 use Rattle.rules.specs.declared.Form.{Form}
@@ -29,7 +29,7 @@ found Nothing = none
 
 abbrev pub kind_form : List ℕ → Kind → TypeForm
 kind_form t (Text c) = text c
-kind_form t YesNo = yes_no_lem
+kind_form t YesNo = yes_no
 kind_form t (Items ty) = list ty
 kind_form t (Fields p n) = fields (map (field_b t) (row n (p + 1)))
 kind_form t (Cases p n) = cases (map (field_b t) (row n (p + 1)))

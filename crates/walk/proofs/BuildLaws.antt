@@ -20,11 +20,11 @@ use Rattle.walk.specs.declared.state.Run.{Run}
 use Rattle.walk.specs.Run.{state_of, Visited, RanFrom, VisitedFrom}
 use Rattle.walk.specs.Nodes.{after_at, below_at, ended_at, visit_at, form_at, write_at}
 use Rattle.walk.specs.Asks.{Sources, Visitable, Formed}
-use Rattle.walk.proofs.RunLaws.{visited_ran, ran_stuck, Going, going_start, going_end, going-stop, going_next, after_after, going_there}
+use Rattle.walk.proofs.RunLaws.{visited_ran, ran_stuck, Going, going_start, going_end, going_stop, going_next, after_after, going_there}
 use Rattle.walk.proofs.BodyLaws.{Along, count_small, along_build, along_below, along_next}
 use Rattle.walk.proofs.AskedLaws.{element_there}
-use Rattle.walk.proofs.FormLaws.{pieces_left, pieces-done, pieces_more, build_is}
-use Rattle.walk.proofs.LoopLaws.{visits, formed_after, below-visitable, below-falls, below-visited}
+use Rattle.walk.proofs.FormLaws.{pieces_left, pieces_done, pieces_more, build_is}
+use Rattle.walk.proofs.LoopLaws.{visits, formed_after, below_visitable, below_falls, below_visited}
 
 -- the elements of a build, with the children that are left
 
@@ -62,42 +62,42 @@ module _ {s : Sources} {at : At} {out₀ s₀ : List ℕ} (formed : Formed Build
       }
 
   module _ {place count kids : ℕ} {out sc : List ℕ} {element child used : ℕ} {here : At} {taken : ℕ} (inv : InBuild s at out₀ s₀ place count kids out sc element child used here taken) where
-    pub build-end : count ≤ taken → {r : Run} → r ≡ ended_at 0 here → VisitedFrom (form_at Build s.grammar s.templates s.value at out₀ s₀) at r out₀ out s₀ sc
-    build-end h w = rw w (going_end inv.going (pieces-done _ _ s.grammar s.templates count taken element kids used child h))
+    pub build_end : count ≤ taken → {r : Run} → r ≡ ended_at 0 here → VisitedFrom (form_at Build s.grammar s.templates s.value at out₀ s₀) at r out₀ out s₀ sc
+    build_end h w = rw w (going_end inv.going (pieces_done _ _ s.grammar s.templates count taken element kids used child h))
 
     module _ (more : taken < count) {e : Record} (f : Fetched s.grammar element e) where
-      pub write-asks : here.bytes ≤ length out
-      write-asks = (formed_after formed inv.going).visitable.room
+      pub write_asks : here.bytes ≤ length out
+      write_asks = (formed_after formed inv.going).visitable.room
 
       -- either way: what it came to ends the build, or the build goes on
       module _ {b : Bool} (way : eqb (field_a s.grammar element) 0 ≡ b) {u : Run} {out' sc' : List ℕ} (v : Visited
           (cond b (write (length out₀) at.node (text_of s.grammar (field_b s.grammar element) element) (state_of here.steps here.bytes out)) (cond (ltb used kids) (visits s at out₀ s₀ (piece (element_at s.grammar element)) child (state_of here.steps here.bytes out)) stuck))
           here.steps here.bytes u out out' (at.base + at.vars) sc sc') (len : length out' ≡ length out) where
-        piece-stop : (u.number ≡ 0 → ⊥) → VisitedFrom (form_at Build s.grammar s.templates s.value at out₀ s₀) at u out₀ out' s₀ sc'
-        piece-stop z = going-stop inv.going _ (pieces_more _ _ s.grammar s.templates count taken element kids used child more b way _) v len z
+        piece_stop : (u.number ≡ 0 → ⊥) → VisitedFrom (form_at Build s.grammar s.templates s.value at out₀ s₀) at u out₀ out' s₀ sc'
+        piece_stop z = going_stop inv.going _ (pieces_more _ _ s.grammar s.templates count taken element kids used child more b way _) v len z
 
-        piece-next : u.number ≡ 0 → length sc' ≡ length sc → (size : ℕ) → ElementSize e size → Going
+        piece_next : u.number ≡ 0 → length sc' ≡ length sc → (size : ℕ) → ElementSize e size → Going
             (cond b (build_left s at out₀ s₀ (count - (taken + 1)) (element + size) (kids - used) child) (build_left s at out₀ s₀ (count - (taken + 1)) (element + size) (kids - (used + 1)) (child + field_c s.templates child)))
             (form_at Build s.grammar s.templates s.value at out₀ s₀) at out₀ s₀ u out' sc'
-        piece-next z lens size hs =
+        piece_next z lens size hs =
             rw (hs.is s.grammar element f)
             (going_next inv.going _ (pieces_more _ _ s.grammar s.templates count taken element kids used child more b way _) v len z lens)
 
       -- a keyword
       module _ (k : e.a ≡ 0) {u : Run} {out' : List ℕ} (v : RanFrom (write_at here (text_of s.grammar e.b element) out) here u out out') (len : length out' ≡ length out) where
-        is-keyword : eqb (field_a s.grammar element) 0 ≡ true
-        is-keyword = eq-eqb _ _ (sym f.a ∙ k)
+        is_keyword : eqb (field_a s.grammar element) 0 ≡ true
+        is_keyword = eq-eqb _ _ (sym f.a ∙ k)
 
         written : Visited
             (write (length out₀) at.node (text_of s.grammar (field_b s.grammar element) element) (state_of here.steps here.bytes out))
             here.steps here.bytes u out out' (at.base + at.vars) sc sc
         written = visited_ran _ sc (rw (inv.is, inv.going.len, f.b) at v)
 
-        pub keyword-stop : (u.number ≡ 0 → ⊥) → VisitedFrom (form_at Build s.grammar s.templates s.value at out₀ s₀) at u out₀ out' s₀ sc
-        keyword-stop z = piece-stop is-keyword written len z
+        pub keyword_stop : (u.number ≡ 0 → ⊥) → VisitedFrom (form_at Build s.grammar s.templates s.value at out₀ s₀) at u out₀ out' s₀ sc
+        keyword_stop z = piece_stop is_keyword written len z
 
-        pub keyword-next : u.number ≡ 0 → {there : At} → there ≡ after_at here u → (size : ℕ) → ElementSize e size → InBuild s at out₀ s₀ place count kids out' sc (element + size) child used there (taken + 1)
-        keyword-next z e₂ size hs = record {
+        pub keyword_next : u.number ≡ 0 → {there : At} → there ≡ after_at here u → (size : ℕ) → ElementSize e size → InBuild s at out₀ s₀ place count kids out' sc (element + size) child used there (taken + 1)
+        keyword_next z e₂ size hs = record {
           along = inv.along;
           place_few = inv.place_few;
           count_few = inv.count_few;
@@ -105,37 +105,37 @@ module _ {s : Sources} {at : At} {out₀ s₀ : List ℕ} (formed : Formed Build
           some = omega (arith, inv.some);
           near = omega (arith, inv.near, hs.small);
           is = after_after at here u inv.is e₂;
-          going = going_there here (piece-next is-keyword written len z refl size hs) e₂;
+          going = going_there here (piece_next is_keyword written len z refl size hs) e₂;
         }
 
       -- any other: it is stuck where no child is left
       module _ (k : e.a ≡ 0 → ⊥) where
-        is-other : eqb (field_a s.grammar element) 0 ≡ false
-        is-other = ne_eqb _ _ (λ y. k (f.a ∙ y))
+        is_other : eqb (field_a s.grammar element) 0 ≡ false
+        is_other = ne_eqb _ _ (λ y. k (f.a ∙ y))
 
-        pub child-missing : kids ≤ used → {u : Run} → u ≡ ended_at 99 here → VisitedFrom (form_at Build s.grammar s.templates s.value at out₀ s₀) at u out₀ out s₀ sc
-        child-missing l w =
-            piece-stop is-other (visited_ran _ sc (ran_stuck here {out = out} {e = cond (ltb used kids) (visits s at out₀ s₀ (piece (element_at s.grammar element)) child (state_of here.steps here.bytes out)) stuck} write-asks w (rw (le-ltb used kids l)))) refl
+        pub child_missing : kids ≤ used → {u : Run} → u ≡ ended_at 99 here → VisitedFrom (form_at Build s.grammar s.templates s.value at out₀ s₀) at u out₀ out s₀ sc
+        child_missing l w =
+            piece_stop is_other (visited_ran _ sc (ran_stuck here {out = out} {e = cond (ltb used kids) (visits s at out₀ s₀ (piece (element_at s.grammar element)) child (state_of here.steps here.bytes out)) stuck} write_asks w (rw (le-ltb used kids l)))) refl
             (λ z. let n : 99 ≡ 0 = sym (ap (λ (x : Run). x.number) w) ∙ z in omega arith)
 
         module _ (l : used < kids) {there : At} (e₂ : there ≡ below_at here child element) where
-          pub child-visitable : Visitable s there out sc
-          child-visitable = below-visitable formed inv.going inv.is e₂ (along_below inv.along l)
+          pub child_visitable : Visitable s there out sc
+          child_visitable = below_visitable formed inv.going inv.is e₂ (along_below inv.along l)
 
-          pub child-falls : there.fuel - there.steps ≤ at.fuel - at.steps
-          child-falls = below-falls formed inv.going inv.is e₂
+          pub child_falls : there.fuel - there.steps ≤ at.fuel - at.steps
+          child_falls = below_falls formed inv.going inv.is e₂
 
           module _ {u : Run} {out' sc' : List ℕ} (v : VisitedFrom (visit_at s.grammar s.templates s.value there out sc) there u out out' sc sc') (len : length out' ≡ length out) where
-            child-visited : Visited (cond (ltb used kids) (visits s at out₀ s₀ (piece (element_at s.grammar element)) child (state_of here.steps here.bytes out)) stuck) here.steps here.bytes u out out' (at.base + at.vars) sc sc'
-            child-visited =
-                rw (lt-ltb used kids l, ← element_there s.grammar element (λ z. omega (arith, inv.some))) (below-visited formed inv.going inv.is e₂ v)
+            child_visited : Visited (cond (ltb used kids) (visits s at out₀ s₀ (piece (element_at s.grammar element)) child (state_of here.steps here.bytes out)) stuck) here.steps here.bytes u out out' (at.base + at.vars) sc sc'
+            child_visited =
+                rw (lt-ltb used kids l, ← element_there s.grammar element (λ z. omega (arith, inv.some))) (below_visited formed inv.going inv.is e₂ v)
 
-            pub child-stop : (u.number ≡ 0 → ⊥) → VisitedFrom (form_at Build s.grammar s.templates s.value at out₀ s₀) at u out₀ out' s₀ sc'
-            child-stop z = piece-stop is-other child-visited len z
+            pub child_stop : (u.number ≡ 0 → ⊥) → VisitedFrom (form_at Build s.grammar s.templates s.value at out₀ s₀) at u out₀ out' s₀ sc'
+            child_stop z = piece_stop is_other child_visited len z
 
-            pub child-next : u.number ≡ 0 → length sc' ≡ length sc → {onward : At} → onward ≡ after_at here u → (size : ℕ) → ElementSize e size → (records : ℕ) → records ≡ field_c s.templates child → records < 65536
+            pub child_next : u.number ≡ 0 → length sc' ≡ length sc → {onward : At} → onward ≡ after_at here u → (size : ℕ) → ElementSize e size → (records : ℕ) → records ≡ field_c s.templates child → records < 65536
                 → InBuild s at out₀ s₀ place count kids out' sc' (element + size) (child + records) (used + 1) onward (taken + 1)
-            child-next z lens e₃ size hs records c l = record {
+            child_next z lens e₃ size hs records c l = record {
               along = along_next inv.along records c l;
               place_few = inv.place_few;
               count_few = inv.count_few;
@@ -143,5 +143,5 @@ module _ {s : Sources} {at : At} {out₀ s₀ : List ℕ} (formed : Formed Build
               some = omega (arith, inv.some);
               near = omega (arith, inv.near, hs.small);
               is = after_after at here u inv.is e₃;
-              going = rw c (going_there here (piece-next is-other child-visited len z lens size hs) e₃);
+              going = rw c (going_there here (piece_next is_other child_visited len z lens size hs) e₃);
             }

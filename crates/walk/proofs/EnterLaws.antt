@@ -29,7 +29,7 @@ use Rattle.walk.proofs.FrameLaws.{take_less}
 use Rattle.walk.proofs.RunLaws.{ran_is, ran_ended, ran_stuck, visited_is, visited_ran, visited_counted}
 use Rattle.walk.proofs.BodyLaws.{body_first, body_paths, if_below}
 use Rattle.walk.proofs.AskedLaws.{visit_any}
-use Rattle.walk.proofs.FormLaws.{expand_none, expand-lost, expand-is, visit_spent, visit_deep, visit_form_lem, visit_blind}
+use Rattle.walk.proofs.FormLaws.{expand_none, expand_lost, expand_is, visit_spent, visit_deep, visit_form_lem, visit_blind}
 use Rattle.walk.proofs.LoopLaws.{visitable_below}
 
 -- an if: its branch is at b
@@ -55,17 +55,17 @@ module _ {s : Sources} {at : At} {out sc : List ℕ} (formed : Formed Expand s a
     pub count_few : count ≤ 8
     count_few = omega (arith, body_paths formed.visitable.lent.few_paths formed.visitable.in_body formed.is)
 
-    pub expand-room : ltb 1 at.left ≡ true → at.base + at.vars + count ≤ length sc
-    expand-room m = let l : 1 < at.left = ltb-true 1 at.left m in omega (arith, count_few, formed.visitable.alive, formed.visitable.stored)
+    pub expand_room : ltb 1 at.left ≡ true → at.base + at.vars + count ≤ length sc
+    expand_room m = let l : 1 < at.left = ltb-true 1 at.left m in omega (arith, count_few, formed.visitable.alive, formed.visitable.stored)
 
     module _ {r : Bool} {sc₁ : List ℕ} (passed : Passed s.templates s.value at.base at.vars (at.node + 1) count (ltb 1 at.left) r sc sc₁) (lens : length sc₁ ≡ length sc) where
-      pub enter-lost : r ≡ false → {u : Run} → u ≡ ended_at 99 at → VisitedFrom (form_at Expand s.grammar s.templates s.value at out sc) at u out out sc sc₁
+      pub enter_lost : r ≡ false → {u : Run} → u ≡ ended_at 99 at → VisitedFrom (form_at Expand s.grammar s.templates s.value at out sc) at u out out sc sc₁
       unfolding only_if
-      enter-lost e w =
+      enter_lost e w =
           let p : path_values s.templates s.value (frame at.base at.vars sc) (row count (at.node + 1)) ≡ none = passed.is ∙ rw e in
           record {
             ran = ran_stuck at formed.visitable.room w
-                (expand-lost s.grammar s.templates s.value at.fuel out _ _ at.node _ _ s.template_heads n _ count formed.visitable.lent.templates_are hn found hc p);
+                (expand_lost s.grammar s.templates s.value at.fuel out _ _ at.node _ _ s.template_heads n _ count formed.visitable.lent.templates_are hn found hc p);
             kept = passed.kept;
           }
 
@@ -74,8 +74,8 @@ module _ {s : Sources} {at : At} {out sc : List ℕ} (formed : Formed Expand s a
         stored : 1 ≤ at.left - 1 → frame (at.base + at.vars) count sc₁ ≡ passed.values
         stored l = passed.next yes (lt-ltb 1 at.left (omega arith))
 
-        pub enter-visitable : b < 65792 → Visitable s inner out sc₁
-        enter-visitable l = rw (e₂, e₁) (record {
+        pub enter_visitable : b < 65792 → Visitable s inner out sc₁
+        enter_visitable l = rw (e₂, e₁) (record {
           lent = formed.visitable.lent;
           near = omega (arith, formed.level, formed.visitable.near);
           in_body = rw hb (body_first s.templates n q (ap (λ (ts : List ℕ). nth ts n) (sym formed.visitable.lent.templates_are) ∙ found));
@@ -85,13 +85,13 @@ module _ {s : Sources} {at : At} {out sc : List ℕ} (formed : Formed Expand s a
           room = formed.visitable.room;
         })
 
-        pub enter-falls : inner.fuel - inner.steps ≤ at.fuel - at.steps
-        enter-falls = rw (e₂, e₁) (omega arith)
+        pub enter_falls : inner.fuel - inner.steps ≤ at.fuel - at.steps
+        enter_falls = rw (e₂, e₁) (omega arith)
 
         whole : visit (input s.grammar s.templates s.value at.fuel out) (at.left - 1) (piece (element_for s.grammar 0)) b passed.values (state_of at.steps at.bytes out) ≡ form_at Expand s.grammar s.templates s.value at out sc
         unfolding only_if element_for
         whole =
-            visit_any _ _ _ _ _ _ _ ∙ expand-is s.grammar s.templates s.value at.fuel out _ _ at.node _ _ s.template_heads n _ count formed.visitable.lent.templates_are hn found hc
+            visit_any _ _ _ _ _ _ _ ∙ expand_is s.grammar s.templates s.value at.fuel out _ _ at.node _ _ s.template_heads n _ count formed.visitable.lent.templates_are hn found hc
             passed.values (passed.is ∙ rw yes) b hb
 
         -- the body's visit has the variables that were found, or reads none
@@ -100,9 +100,9 @@ module _ {s : Sources} {at : At} {out sc : List ℕ} (formed : Formed Expand s a
         entered (suc k) h =
             ap (λ (env : List ℕ). visit (input s.grammar s.templates s.value at.fuel out) (at.left - 1) (piece (element_for s.grammar 0)) b env (state_of at.steps at.bytes out)) (stored (omega (arith, h))) ∙ whole
 
-        pub enter-visited : {u : Run} {out' sc' : List ℕ} → VisitedFrom (visit_at s.grammar s.templates s.value inner out sc₁) inner u out out' sc₁ sc'
+        pub enter_visited : {u : Run} {out' sc' : List ℕ} → VisitedFrom (visit_at s.grammar s.templates s.value inner out sc₁) inner u out out' sc₁ sc'
             → VisitedFrom (form_at Expand s.grammar s.templates s.value at out sc) at u out out' sc sc'
-        enter-visited {u} {out'} {sc'} v =
+        enter_visited {u} {out'} {sc'} v =
             let v' : VisitedFrom (visit_at s.grammar s.templates s.value (framed_at (below_at at b 0) (at.base + at.vars) count) out sc₁) (framed_at (below_at at b 0) (at.base + at.vars) count) u out out' sc₁ sc' = rw (e₂, e₁) at v in
             record {
               ran = ran_is (entered (at.left - 1) refl) v'.ran;
@@ -119,15 +119,15 @@ module _ {s : Sources} {at : At} {out sc : List ℕ} (visitable : Visitable s at
 
   -- its step is counted
   module _ (spare : at.steps < at.fuel) {here : At} (is : here ≡ counted_at at) where
-    pub deepest-visited : {r : Run} → at.left ≡ 0 → r ≡ ended_at 11 here → VisitedFrom (asked_at asked s.grammar s.templates s.value at out sc) at r out out sc sc
-    deepest-visited e w =
+    pub deepest_visited : {r : Run} → at.left ≡ 0 → r ≡ ended_at 11 here → VisitedFrom (asked_at asked s.grammar s.templates s.value at out sc) at r out out sc sc
+    deepest_visited e w =
         visited_ran _ sc (ran_ended 11 (counted_at at) at.steps visitable.room (omega arith) (w ∙ rw is)
         (visit_deep s.grammar s.templates s.value at.fuel out asked at.node _ at.steps at.bytes out at.left spare e))
 
     module _ (level : at.left ≡ 0 → ⊥) {form : Form} (f : form_of s.templates at.node ≡ form) where
-      pub form-asked : {u : Run} {out' sc' : List ℕ} → VisitedFrom (form_asked_at form asked s.grammar s.templates s.value here out sc) here u out out' sc sc'
+      pub form_asked : {u : Run} {out' sc' : List ℕ} → VisitedFrom (form_asked_at form asked s.grammar s.templates s.value here out sc) here u out out' sc sc'
           → VisitedFrom (asked_at asked s.grammar s.templates s.value at out sc) at u out out' sc sc'
-      form-asked v =
+      form_asked v =
           visited_counted (visited_is (visit_form_lem s.grammar s.templates s.value at.fuel out asked at.node _ at.steps at.bytes out at.left spare level form f) (rw is at v))
 
 module _ {s : Sources} {at : At} {out sc : List ℕ} (visitable : Visitable s at out sc) (spare : at.steps < at.fuel) {here : At} (is : here ≡ counted_at at) where
@@ -139,8 +139,8 @@ module _ {s : Sources} {at : At} {out sc : List ℕ} (visitable : Visitable s at
   form_here {head} f form e = sym (form_is s.templates at.node head (rw is at f) form e)
 
   module _ (level : at.left ≡ 0 → ⊥) {form : Form} (f : form_of s.templates at.node ≡ form) where
-    pub form-formed : Formed form s here out sc
-    form-formed = rw is (record {
+    pub form_formed : Formed form s here out sc
+    form_formed = rw is (record {
       is = f;
       level = omega arith;
       visitable = record {
@@ -154,14 +154,14 @@ module _ {s : Sources} {at : At} {out sc : List ℕ} (visitable : Visitable s at
       };
     })
 
-    pub form-visited : {u : Run} {out' sc' : List ℕ} → VisitedFrom (form_at form s.grammar s.templates s.value here out sc) here u out out' sc sc'
+    pub form_visited : {u : Run} {out' sc' : List ℕ} → VisitedFrom (form_at form s.grammar s.templates s.value here out sc) here u out out' sc sc'
         → VisitedFrom (visit_at s.grammar s.templates s.value at out sc) at u out out' sc sc'
-    form-visited {u} {out'} {sc'} v =
+    form_visited {u} {out'} {sc'} v =
         let e : here.element ≡ at.element = rw is in
-        form-asked visitable _ spare is level f
+        form_asked visitable _ spare is level f
         (subst (λ (n : ℕ). VisitedFrom (form_asked_at form (piece (element_for s.grammar n)) s.grammar s.templates s.value here out sc) here u out out' sc sc') e v)
 
     -- a form that only writes keeps all of the scratch
-    pub form-ran : {e : End} → e ≡ form_at form s.grammar s.templates s.value here out sc → {u : Run} {out' : List ℕ} → RanFrom e here u out out'
+    pub form_ran : {e : End} → e ≡ form_at form s.grammar s.templates s.value here out sc → {u : Run} {out' : List ℕ} → RanFrom e here u out out'
         → VisitedFrom (visit_at s.grammar s.templates s.value at out sc) at u out out' sc sc
-    form-ran same ran = form-visited (visited_ran _ sc (ran_is same ran))
+    form_ran same ran = form_visited (visited_ran _ sc (ran_is same ran))

@@ -28,11 +28,11 @@ use Rattle.walk.specs.Turns.{Turned}
 use Rattle.walk.specs.Asks.{Sources, Visitable, Formed, Listed}
 use Rattle.walk.proofs.PathLaws.{held_more, child_there, child_stands}
 use Rattle.walk.proofs.FrameLaws.{take_less}
-use Rattle.walk.proofs.RunLaws.{visited_ran, ran_is, Going, going_start, going_end, going-stop, going_next, after_after, ran_there, going_there}
+use Rattle.walk.proofs.RunLaws.{visited_ran, ran_is, Going, going_start, going_end, going_stop, going_next, after_after, ran_there, going_there}
 use Rattle.walk.proofs.BodyLaws.{body_more, for_below, count_small}
 use Rattle.walk.proofs.AskedLaws.{visit_any}
 use Rattle.walk.proofs.SeparatorLaws.{then_then, Apart, apart_none}
-use Rattle.walk.proofs.FormLaws.{order_done, order_more, listed_is, items_listed, for-is, visit_same}
+use Rattle.walk.proofs.FormLaws.{order_done, order_more, listed_is, items_listed, for_is, visit_same}
 use Rattle.walk.proofs.LoopLaws.{vars_inside, same_frame, formed_after}
 
 -- the definition's visits of the body, in the terms of the start, with an item as the last variable; and of the items that are left
@@ -67,12 +67,12 @@ module _ {s : Sources} {at : At} {out₀ s₀ : List ℕ} (formed : Formed For s
         most = omega arith;
         is = refl;
         going = going_start refl formed.visitable.room
-            (rw z (for-is s.grammar s.templates s.value at.fuel out₀ at.node _ _ (filled_at s.grammar x) before _ _ there_listed));
+            (rw z (for_is s.grammar s.templates s.value at.fuel out₀ at.node _ _ (filled_at s.grammar x) before _ _ there_listed));
       }
 
   module _ {x : Separator} {before : ℕ} {out sc : List ℕ} {here : At} {done : ℕ} (inv : InFor s at out₀ s₀ x before w count out sc here done) where
-    pub for-end : count ≤ done → {r : Run} → r ≡ ended_at 0 here → VisitedFrom (turns_at s.grammar s.templates s.value x before at out₀ s₀) at r out₀ out s₀ sc
-    for-end h e = rw e (going_end inv.going (λ y. order_done _ _ _ y (drop_done (children s.value w) done (omega (arith, length_list)))))
+    pub for_end : count ≤ done → {r : Run} → r ≡ ended_at 0 here → VisitedFrom (turns_at s.grammar s.templates s.value x before at out₀ s₀) at r out₀ out s₀ sc
+    for_end h e = rw e (going_end inv.going (λ y. order_done _ _ _ y (drop_done (children s.value w) done (omega (arith, length_list)))))
 
     module _ (more : done < count) where
       parent : (3 ≤ kind_of s.value w) × (kind_of s.value w ≤ 4)
@@ -81,106 +81,106 @@ module _ {s : Sources} {at : At} {out₀ s₀ : List ℕ} (formed : Formed For s
       inside : done < field_d s.value w
       inside = omega (arith, list.counted)
 
-      pub for-there : (w < length s.firsts) × (get_or s.firsts w 0 + done < length s.places)
-      for-there = let c = child_there s.value s.firsts s.places formed.visitable.lent.value_lent.children w list.stands parent done inside in (c.head, c.entry)
+      pub for_there : (w < length s.firsts) × (get_or s.firsts w 0 + done < length s.places)
+      for_there = let c = child_there s.value s.firsts s.places formed.visitable.lent.value_lent.children w list.stands parent done inside in (c.head, c.entry)
 
-      rest-is : drop done (children s.value w) ≡ get_or (children s.value w) done 0 ∷ drop (done + 1) (children s.value w)
-      rest-is = drop_more (children s.value w) done (omega (arith, length_list))
+      rest_is : drop done (children s.value w) ≡ get_or (children s.value w) done 0 ∷ drop (done + 1) (children s.value w)
+      rest_is = drop_more (children s.value w) done (omega (arith, length_list))
 
       -- the separator before the next item
-      abbrev turnRest : State → End
-      turnRest y = and_then (turn s at out₀ s₀ (piece (nonterminal (filled_at s.grammar x).nonterminal)) (get_or (children s.value w) done 0) y)
+      abbrev turn_rest : State → End
+      turn_rest y = and_then (turn s at out₀ s₀ (piece (nonterminal (filled_at s.grammar x).nonterminal)) (get_or (children s.value w) done 0) y)
           (list_left s at out₀ s₀ x (before + (done + 1)) (drop (done + 1) (children s.value w)))
 
-      apart-row : list_left s at out₀ s₀ x (before + done) (drop done (children s.value w)) (state_of here.steps here.bytes out)
-          ≡ and_then (separate (length out₀) (filled_at s.grammar x) (before + done) (state_of here.steps here.bytes out)) turnRest
+      apart_row : list_left s at out₀ s₀ x (before + done) (drop done (children s.value w)) (state_of here.steps here.bytes out)
+          ≡ and_then (separate (length out₀) (filled_at s.grammar x) (before + done) (state_of here.steps here.bytes out)) turn_rest
       unfolding visit_item
-      apart-row =
+      apart_row =
           let e : before + done + 1 ≡ before + (done + 1) = omega arith in
-          order_more _ _ (before + done) _ rest-is ∙ rw e (then_then _ _ _)
+          order_more _ _ (before + done) _ rest_is ∙ rw e (then_then _ _ _)
 
       pub turn_room : here.bytes ≤ length out
       turn_room = (formed_after formed inv.going).visitable.room
 
       module _ {u : Run} {out' : List ℕ} (v : RanFrom (separate_at s.grammar x (before + done) here out) here u out out') (len : length out' ≡ length out) where
-        apart-visited : Visited (separate (length out₀) (filled_at s.grammar x) (before + done) (state_of here.steps here.bytes out)) here.steps here.bytes u out out' (at.base + at.vars) sc sc
-        apart-visited = visited_ran _ sc (rw inv.going.len at v)
+        apart_visited : Visited (separate (length out₀) (filled_at s.grammar x) (before + done) (state_of here.steps here.bytes out)) here.steps here.bytes u out out' (at.base + at.vars) sc sc
+        apart_visited = visited_ran _ sc (rw inv.going.len at v)
 
-        pub for-apart-stop : (u.number ≡ 0 → ⊥) → VisitedFrom (turns_at s.grammar s.templates s.value x before at out₀ s₀) at u out₀ out' s₀ sc
-        for-apart-stop z = going-stop inv.going _ apart-row apart-visited len z
+        pub for_apart_stop : (u.number ≡ 0 → ⊥) → VisitedFrom (turns_at s.grammar s.templates s.value x before at out₀ s₀) at u out₀ out' s₀ sc
+        for_apart_stop z = going_stop inv.going _ apart_row apart_visited len z
 
       -- whether one was due and written, or none was: the node after it
-      pub past-none : due_at x (before + done) ≡ false → {past : At} {out' : List ℕ} → out' ≡ out → past ≡ here
+      pub past_none : due_at x (before + done) ≡ false → {past : At} {out' : List ℕ} → out' ≡ out → past ≡ here
           → (Apart s.grammar x (before + done) here out (ended_at 0 past) out') × (past ≡ after_at at (ended_at 0 past))
-      past-none d eo e = rw (eo, e) (apart_none s.grammar x here out turn_room (before + done) d {r = ended_at 0 here} refl refl refl, inv.is)
+      past_none d eo e = rw (eo, e) (apart_none s.grammar x here out turn_room (before + done) d {r = ended_at 0 here} refl refl refl, inv.is)
 
-      pub past-written : {u : Run} {out₁ : List ℕ} → RanFrom (separate_at s.grammar x (before + done) here out) here u out out₁ → length out₁ ≡ length out → u.number ≡ 0
+      pub past_written : {u : Run} {out₁ : List ℕ} → RanFrom (separate_at s.grammar x (before + done) here out) here u out out₁ → length out₁ ≡ length out → u.number ≡ 0
           → {there : At} → there ≡ after_at here u → {past : At} {out' : List ℕ} → out' ≡ out₁ → past ≡ there
           → (Apart s.grammar x (before + done) here out (ended_at 0 past) out') × (past ≡ after_at at (ended_at 0 past))
-      past-written {u} v len z e₂ eo e = rw (eo, e) (record { ran = ran_there here v z e₂; goes = refl; len = len }, after_after at here u inv.is e₂)
+      past_written {u} v len z e₂ eo e = rw (eo, e) (record { ran = ran_there here v z e₂; goes = refl; len = len }, after_after at here u inv.is e₂)
 
-      pub for-slot : at.base + at.vars < length sc
-      for-slot = omega (arith, vars_inside formed, inv.going.lens)
+      pub for_slot : at.base + at.vars < length sc
+      for_slot = omega (arith, vars_inside formed, inv.going.lens)
 
       -- past the separator, if one was due
       module _ {past : At} {out' : List ℕ} (apart : Apart s.grammar x (before + done) here out (ended_at 0 past) out') (is-past : past ≡ after_at at (ended_at 0 past)) where
-        apart-going : Going turnRest (turns_at s.grammar s.templates s.value x before at out₀ s₀) at out₀ s₀ (ended_at 0 past) out' sc
-        apart-going = going_next inv.going _ apart-row (apart-visited apart.ran apart.len) apart.len refl refl
+        apart_going : Going turn_rest (turns_at s.grammar s.templates s.value x before at out₀ s₀) at out₀ s₀ (ended_at 0 past) out' sc
+        apart_going = going_next inv.going _ apart_row (apart_visited apart.ran apart.len) apart.len refl refl
 
         pub for_level : 1 ≤ past.left
         for_level = rw is-past formed.level
 
-        pub for-vars : {there : At} → there ≡ below_at past (at.node + 2) 0 → there.vars < 2 ^ 16
-        for-vars e₃ = rw (e₃, is-past) (omega (arith, formed.visitable.alive))
+        pub for_vars : {there : At} → there ≡ below_at past (at.node + 2) 0 → there.vars < 2 ^ 16
+        for_vars e₃ = rw (e₃, is-past) (omega (arith, formed.visitable.alive))
 
         -- the item is bound, and the body visited
         module _ (item : ℕ) (is : item ≡ get_or s.places (get_or s.firsts w 0 + done) 0) (sc₁ : List ℕ) (bound : Bound at.base at.vars item sc sc₁) (lens₁ : length sc₁ ≡ length sc)
             {there inner : At} (e₃ : there ≡ below_at past (at.node + 2) 0) (e₄ : inner ≡ bound_at there) where
-          item-is : item ≡ get_or (children s.value w) done 0
-          item-is = is ∙ (child_there s.value s.firsts s.places formed.visitable.lent.value_lent.children w list.stands parent done inside).is
+          item_is : item ≡ get_or (children s.value w) done 0
+          item_is = is ∙ (child_there s.value s.firsts s.places formed.visitable.lent.value_lent.children w list.stands parent done inside).is
 
-          item-stands : Stands s.value item
-          item-stands = rw item-is (child_stands s.value s.firsts s.places formed.visitable.lent.value_lent.children w list.stands parent done inside)
+          item_stands : Stands s.value item
+          item_stands = rw item_is (child_stands s.value s.firsts s.places formed.visitable.lent.value_lent.children w list.stands parent done inside)
 
           stacked : frame at.base (at.vars + 1) sc₁ ≡ frame at.base at.vars s₀ ++ item ∷ []
-          stacked = bound.more ∙ ap (λ (l : List ℕ). l ++ item ∷ []) (same_frame formed apart-going)
+          stacked = bound.more ∙ ap (λ (l : List ℕ). l ++ item ∷ []) (same_frame formed apart_going)
 
-          inner-is : inner ≡ bound_at (below_at (after_at at (ended_at 0 past)) (at.node + 2) 0)
-          inner-is = rw (e₄, e₃) (ap (λ (y : At). bound_at (below_at y (at.node + 2) 0)) is-past)
+          inner_is : inner ≡ bound_at (below_at (after_at at (ended_at 0 past)) (at.node + 2) 0)
+          inner_is = rw (e₄, e₃) (ap (λ (y : At). bound_at (below_at y (at.node + 2) 0)) is-past)
 
-          pub for-visitable : Visitable s inner out' sc₁
-          for-visitable = rw inner-is (record {
+          pub for_visitable : Visitable s inner out' sc₁
+          for_visitable = rw inner_is (record {
             lent = formed.visitable.lent;
             near = omega (arith, formed.level, formed.visitable.near);
             in_body = body_more formed.visitable.in_body (for_below s.templates at.node formed.is).stands;
             alive = omega (arith, formed.level, formed.visitable.alive);
-            stored = omega (arith, formed.visitable.stored, apart-going.lens, lens₁);
-            held = λ l. rw stacked (held_more s.value (frame at.base at.vars s₀) item (formed.visitable.held formed.level) item-stands);
-            room = omega (arith, apart-going.grown.inside, apart-going.len);
+            stored = omega (arith, formed.visitable.stored, apart_going.lens, lens₁);
+            held = λ l. rw stacked (held_more s.value (frame at.base at.vars s₀) item (formed.visitable.held formed.level) item_stands);
+            room = omega (arith, apart_going.grown.inside, apart_going.len);
           })
 
-          pub for-falls : inner.fuel - inner.steps ≤ at.fuel - at.steps
-          for-falls = rw inner-is (omega (arith, apart-going.grown.steps_grow))
+          pub for_falls : inner.fuel - inner.steps ≤ at.fuel - at.steps
+          for_falls = rw inner_is (omega (arith, apart_going.grown.steps_grow))
 
           module _ {u : Run} {out'' sc' : List ℕ} (v : VisitedFrom (visit_at s.grammar s.templates s.value inner out' sc₁) inner u out' out'' sc₁ sc') (len : length out'' ≡ length out') where
-            there-visited : VisitedFrom (visit_at s.grammar s.templates s.value (bound_at (below_at (after_at at (ended_at 0 past)) (at.node + 2) 0)) out' sc₁) (bound_at (below_at (after_at at (ended_at 0 past)) (at.node + 2) 0)) u out' out'' sc₁ sc'
-            there-visited = rw inner-is at v
+            there_visited : VisitedFrom (visit_at s.grammar s.templates s.value (bound_at (below_at (after_at at (ended_at 0 past)) (at.node + 2) 0)) out' sc₁) (bound_at (below_at (after_at at (ended_at 0 past)) (at.node + 2) 0)) u out' out'' sc₁ sc'
+            there_visited = rw inner_is at v
 
             for_visited : Visited (turn s at out₀ s₀ (piece (nonterminal (filled_at s.grammar x).nonterminal)) (get_or (children s.value w) done 0) (state_of past.steps past.bytes out')) past.steps past.bytes u out' out'' (at.base + at.vars) sc sc'
             unfolding element_for
-            for_visited = rw (← item-is) (record {
-              ran = ran_is (visit_any _ _ _ _ _ _ _ ∙ visit_same s.grammar s.templates s.value at.fuel (at.left - 1) _ (at.node + 2) out' out₀ _ _ _ apart-going.len stacked) there-visited.ran;
-              kept = take_less (at.base + at.vars) (at.base + (at.vars + 1)) sc' sc₁ (omega arith) there-visited.kept ∙ bound.kept;
+            for_visited = rw (← item_is) (record {
+              ran = ran_is (visit_any _ _ _ _ _ _ _ ∙ visit_same s.grammar s.templates s.value at.fuel (at.left - 1) _ (at.node + 2) out' out₀ _ _ _ apart_going.len stacked) there_visited.ran;
+              kept = take_less (at.base + at.vars) (at.base + (at.vars + 1)) sc' sc₁ (omega arith) there_visited.kept ∙ bound.kept;
             })
 
-            pub for-stop : (u.number ≡ 0 → ⊥) → VisitedFrom (turns_at s.grammar s.templates s.value x before at out₀ s₀) at u out₀ out'' s₀ sc'
-            for-stop y = going-stop apart-going _ refl for_visited len y
+            pub for_stop : (u.number ≡ 0 → ⊥) → VisitedFrom (turns_at s.grammar s.templates s.value x before at out₀ s₀) at u out₀ out'' s₀ sc'
+            for_stop y = going_stop apart_going _ refl for_visited len y
 
-            pub for-next : u.number ≡ 0 → length sc' ≡ length sc₁ → {onward : At} → onward ≡ after_at past u → InFor s at out₀ s₀ x before w count out'' sc' onward (done + 1)
-            for-next y lens e₅ = record {
+            pub for_next : u.number ≡ 0 → length sc' ≡ length sc₁ → {onward : At} → onward ≡ after_at past u → InFor s at out₀ s₀ x before w count out'' sc' onward (done + 1)
+            for_next y lens e₅ = record {
               most = omega arith;
               is = after_after at past u is-past e₅;
-              going = going_there past (going_next apart-going _ refl for_visited len y (lens ∙ lens₁)) e₅;
+              going = going_there past (going_next apart_going _ refl for_visited len y (lens ∙ lens₁)) e₅;
             }
 
 -- the for as a node of its sequence: a limit ends it or it is stuck, or its list is found

@@ -39,16 +39,16 @@ module _ (g t v : List ℕ) (at : At) (out scratch : List ℕ) where
     place_other o = on_some stuck _ h ∙ on_none stuck _ (only_no _ _ (ne_eqb _ _ (λ e. o (hk ∙ e))))
 
     module _ (e : k ≡ 1) (n : ℕ) (hn : n ≡ field_b v w) where
-      place-writes : (y : List ℕ) → written_for g (piece (element_for g at.element)) (text_of v n w) ≡ y → write_at at y out ≡ place_at g t v at out scratch
+      place_writes : (y : List ℕ) → written_for g (piece (element_for g at.element)) (text_of v n w) ≡ y → write_at at y out ≡ place_at g t v at out scratch
       unfolding place_at path as_text
-      place-writes y p =
+      place_writes y p =
           rw (← p, hn) (sym (on_some stuck _ h ∙ on_some stuck _ (only_yes _ (text_of v (field_b v w) w) (eq-eqb _ _ (sym hk ∙ e)))))
 
       pub place_text : {b : Bool} → PlaceText g at.element (text_of v n w) b → b ≡ true → write_at at (text_of v n w) out ≡ place_at g t v at out scratch
-      place_text p b = place-writes _ (p.is ∙ rw b)
+      place_text p b = place_writes _ (p.is ∙ rw b)
 
-      pub place-escaped : {b : Bool} → PlaceText g at.element (text_of v n w) b → b ≡ false → write_at at (escape (text_of v n w)) out ≡ place_at g t v at out scratch
-      place-escaped p b = place-writes _ (p.is ∙ rw b)
+      pub place_escaped : {b : Bool} → PlaceText g at.element (text_of v n w) b → b ≡ false → write_at at (escape (text_of v n w)) out ≡ place_at g t v at out scratch
+      place_escaped p b = place_writes _ (p.is ∙ rw b)
 
 pub place_is : (g t v : List ℕ) (at : At) (out scratch : List ℕ) → place_at g t v at out scratch ≡ form_at Place g t v at out scratch
 unfolding place_at visit_form input
@@ -72,9 +72,9 @@ module _ (put : List ℕ → State → End) (one : Element → ℕ → State →
   pieces_left n e m c = pieces put one (map (element_at g) (heads (element_size g) n e)) (heads (field_c t) m c)
 
   module _ (n i e m j c : ℕ) where
-    pub pieces-done : n ≤ i → (s : State) → pieces_left (n - i) e (m - j) c s ≡ done s
+    pub pieces_done : n ≤ i → (s : State) → pieces_left (n - i) e (m - j) c s ≡ done s
     unfolding pieces_left pieces
-    pieces-done h s = rw (heads_done (element_size g) n i e h)
+    pieces_done h s = rw (heads_done (element_size g) n i e h)
 
     other : (a : ℕ) → (a ≡ 0 → ⊥) → (es : List Element) (cs : List ℕ) (s : State)
         → pieces put one (element_numbered g a e ∷ es) cs s ≡ with_child (one (element_numbered g a e)) cs (pieces put one es) s
@@ -136,26 +136,26 @@ module _ (g t v : List ℕ) (fuel : ℕ) (out : List ℕ) (self : Asked → ℕ 
 
   -- what the path finds
   module _ (lost : path_value t v env (p + 1) ≡ none) where
-    pub if-lost : visit_form (input g t v fuel out) If self a p env s ≡ stuck
+    pub if_lost : visit_form (input g t v fuel out) If self a p env s ≡ stuck
     unfolding visit_form input path
-    if-lost = on_none stuck _ lost
+    if_lost = on_none stuck _ lost
 
-    pub match-lost : visit_form (input g t v fuel out) Match self a p env s ≡ stuck
+    pub match_lost : visit_form (input g t v fuel out) Match self a p env s ≡ stuck
     unfolding visit_form input path
-    match-lost = on_none stuck _ lost
+    match_lost = on_none stuck _ lost
 
   module _ (w : ℕ) (got : path_value t v env (p + 1) ≡ some w) (k : ℕ) (hk : k ≡ kind_of v w) where
-    pub if-other : (k ≡ 2 → ⊥) → visit_form (input g t v fuel out) If self a p env s ≡ stuck
+    pub if_other : (k ≡ 2 → ⊥) → visit_form (input g t v fuel out) If self a p env s ≡ stuck
     unfolding visit_form input path as_yes_no
-    if-other o = on_some stuck _ got ∙ on_none stuck _ (only_no _ _ (ne_eqb _ _ (λ e. o (hk ∙ e))))
+    if_other o = on_some stuck _ got ∙ on_none stuck _ (only_no _ _ (ne_eqb _ _ (λ e. o (hk ∙ e))))
 
-    pub if-is : k ≡ 2 → (y b : ℕ) → y ≡ field_a v w → b ≡ cond (eqb y 1) (first p) (second t p) → self a b env s ≡ visit_form (input g t v fuel out) If self a p env s
+    pub if_is : k ≡ 2 → (y b : ℕ) → y ≡ field_a v w → b ≡ cond (eqb y 1) (first p) (second t p) → self a b env s ≡ visit_form (input g t v fuel out) If self a p env s
     unfolding visit_form input path as_yes_no
-    if-is e y b ha hb = sym (on_some stuck _ got ∙ on_some stuck _ (only_yes _ (eqb (field_a v w) 1) (eq-eqb _ _ (sym hk ∙ e))) ∙ rw (← ha, ← hb))
+    if_is e y b ha hb = sym (on_some stuck _ got ∙ on_some stuck _ (only_yes _ (eqb (field_a v w) 1) (eq-eqb _ _ (sym hk ∙ e))) ∙ rw (← ha, ← hb))
 
-    pub match-other : (k ≡ 5 → ⊥) → visit_form (input g t v fuel out) Match self a p env s ≡ stuck
+    pub match_other : (k ≡ 5 → ⊥) → visit_form (input g t v fuel out) Match self a p env s ≡ stuck
     unfolding visit_form input path as_case
-    match-other o = on_some stuck _ got ∙ on_none stuck _ (only_no _ _ (ne_eqb _ _ (λ e. o (hk ∙ e))))
+    match_other o = on_some stuck _ got ∙ on_none stuck _ (only_no _ _ (ne_eqb _ _ (λ e. o (hk ∙ e))))
 
     -- of a case: y is its number
     module _ (e : k ≡ 5) (y : ℕ) (hy : y ≡ field_a v w) where
@@ -163,9 +163,9 @@ module _ (g t v : List ℕ) (fuel : ℕ) (out : List ℕ) (self : Asked → ℕ 
       unfolding as_case
       case_is = only_yes _ _ (eq-eqb _ _ (sym hk ∙ e)) ∙ rw (← hy)
 
-      pub match-missing : nth (arms t p) y ≡ none → visit_form (input g t v fuel out) Match self a p env s ≡ stuck
+      pub match_missing : nth (arms t p) y ≡ none → visit_form (input g t v fuel out) Match self a p env s ≡ stuck
       unfolding visit_form input path
-      match-missing l = on_some stuck _ got ∙ on_some stuck _ case_is ∙ on_none stuck _ l
+      match_missing l = on_some stuck _ got ∙ on_some stuck _ case_is ∙ on_none stuck _ l
 
       pub match_is : (b : ℕ) → nth (arms t p) y ≡ some b → self a b (env ++ content w ∷ []) s ≡ visit_form (input g t v fuel out) Match self a p env s
       unfolding visit_form input path
@@ -177,14 +177,14 @@ module _ (g t v : List ℕ) (fuel : ℕ) (out : List ℕ) (self : Asked → ℕ 
   expand_none ts n e h l = on_none stuck _ (rw (← e, ← h) l)
 
   module _ (ts : List ℕ) (n q d : ℕ) (e : ts ≡ templates t) (h : n ≡ field_b t p) (hq : nth ts n ≡ some q) (hd : d ≡ field_d t p) where
-    pub expand-lost : path_values t v env (row d (p + 1)) ≡ none → visit_form (input g t v fuel out) Expand self a p env s ≡ stuck
+    pub expand_lost : path_values t v env (row d (p + 1)) ≡ none → visit_form (input g t v fuel out) Expand self a p env s ≡ stuck
     unfolding visit_form input template paths
-    expand-lost l = on_some {a = q} stuck _ (rw (← e, ← h) hq) ∙ on_none stuck _ (rw hd at l)
+    expand_lost l = on_some {a = q} stuck _ (rw (← e, ← h) hq) ∙ on_none stuck _ (rw hd at l)
 
-    pub expand-is : (ws : List ℕ) → path_values t v env (row d (p + 1)) ≡ some ws → (b : ℕ) → b ≡ body t q
+    pub expand_is : (ws : List ℕ) → path_values t v env (row d (p + 1)) ≡ some ws → (b : ℕ) → b ≡ body t q
         → self (piece (nonterminal (field_b t q))) b ws s ≡ visit_form (input g t v fuel out) Expand self a p env s
     unfolding visit_form input template paths
-    expand-is ws l b hb = sym (on_some {a = q} stuck _ (rw (← e, ← h) hq) ∙ on_some stuck _ (rw hd at l) ∙ rw (← hb))
+    expand_is ws l b hb = sym (on_some {a = q} stuck _ (rw (← e, ← h) hq) ∙ on_some stuck _ (rw hd at l) ∙ rw (← hb))
 
 -- a for in its sequence: so many items came before
 
@@ -199,9 +199,9 @@ module _ (g t v : List ℕ) (fuel : ℕ) (out : List ℕ) (p : ℕ) (env : List 
   listed_none lost = on_none none _ lost
 
   module _ (w : ℕ) (got : path_value t v env (p + 1) ≡ some w) where
-    pub listed-other : (kind_of v w ≡ 3 → ⊥) → listed (input g t v fuel out) env p ≡ none
+    pub listed_other : (kind_of v w ≡ 3 → ⊥) → listed (input g t v fuel out) env p ≡ none
     unfolding listed input path as_list
-    listed-other o = on_some none _ got ∙ only_no _ _ (ne_eqb _ _ o)
+    listed_other o = on_some none _ got ∙ only_no _ _ (ne_eqb _ _ o)
 
     pub listed_is : kind_of v w ≡ 3 → listed (input g t v fuel out) env p ≡ some (children v w)
     unfolding listed input path as_list
@@ -213,14 +213,14 @@ module _ (g t v : List ℕ) (fuel : ℕ) (out : List ℕ) (p : ℕ) (env : List 
   items_listed f ws h = rw f (on_some 0 length h)
 
   module _ (self : Asked → ℕ → List ℕ → State → End) (f : Filled) (n : ℕ) (s : State) where
-    pub for-none : listed (input g t v fuel out) env p ≡ none → visit_form (input g t v fuel out) For self (items f n) p env s ≡ stuck
+    pub for_none : listed (input g t v fuel out) env p ≡ none → visit_form (input g t v fuel out) For self (items f n) p env s ≡ stuck
     unfolding visit_form
-    for-none h = on_none stuck _ h
+    for_none h = on_none stuck _ h
 
-    pub for-is : (ws : List ℕ) → listed (input g t v fuel out) env p ≡ some ws
+    pub for_is : (ws : List ℕ) → listed (input g t v fuel out) env p ≡ some ws
         → in_order (λ w. 1) (λ m w. visit_item (length out) self f m (p + 2) (env ++ w ∷ [])) n ws s ≡ visit_form (input g t v fuel out) For self (items f n) p env s
     unfolding visit_form input first
-    for-is ws h = sym (on_some stuck _ h)
+    for_is ws h = sym (on_some stuck _ h)
 
 -- visits
 

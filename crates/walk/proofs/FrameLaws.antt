@@ -97,9 +97,9 @@ module _ {t v firsts places : List ℕ} {base vars p n : ℕ} {stored : Bool} {s
   found_before found = rw same_frame at found
 
   module _ (more : i < n) where
-    pub passing-stop : path_value t v (frame base vars s) (p + i) ≡ none → Passed t v base vars p n stored false s₀ s
+    pub passing_stop : path_value t v (frame base vars s) (p + i) ≡ none → Passed t v base vars p n stored false s₀ s
     unfolding only_if
-    passing-stop found = record {
+    passing_stop found = record {
       values = [];
       is = sym inv.same ∙ on_none none _ (values_stop t v (frame base vars s₀) n p i more (found_before found));
       held = held_none v;
@@ -107,10 +107,10 @@ module _ {t v firsts places : List ℕ} {base vars p n : ℕ} {stored : Bool} {s
       kept = inv.kept;
     }
 
-    passing-more : (w : ℕ) → path_value t v (frame base vars s) (p + i) ≡ some w → Stands v w → (s' : List ℕ) → length s' ≡ length s
+    passing_more : (w : ℕ) → path_value t v (frame base vars s) (p + i) ≡ some w → Stands v w → (s' : List ℕ) → length s' ≡ length s
         → (stored ≡ true → frame (base + vars) (i + 1) s' ≡ frame (base + vars) i s ++ w ∷ []) → take (base + vars) s' ≡ take (base + vars) s
         → Passing t v base vars p n stored s₀ s' (i + 1)
-    passing-more w found l s' lens next kept = record {
+    passing_more w found l s' lens next kept = record {
       most = omega arith;
       found = inv.found ++ w ∷ [];
       same = sym (on_cons _ inv.found w) ∙ ap (λ (o : Option (List ℕ)). on_found o none (λ ws. some (inv.found ++ ws))) (sym (values_go t v (frame base vars s₀) n p i more w (found_before found))) ∙ inv.same;
@@ -120,13 +120,13 @@ module _ {t v firsts places : List ℕ} {base vars p n : ℕ} {stored : Bool} {s
       lens = lens ∙ inv.lens;
     }
 
-    pub passing-stored : (w : ℕ) → path_value t v (frame base vars s) (p + i) ≡ some w → Stands v w → (s' : List ℕ) → length s' ≡ length s → Bound (base + vars) i w s s'
+    pub passing_stored : (w : ℕ) → path_value t v (frame base vars s) (p + i) ≡ some w → Stands v w → (s' : List ℕ) → length s' ≡ length s → Bound (base + vars) i w s s'
         → Passing t v base vars p n stored s₀ s' (i + 1)
-    passing-stored w found l s' lens b =
-        passing-more w found l s' lens (λ z. b.more) (take_less (base + vars) (base + vars + i) s' s (omega arith) b.kept)
+    passing_stored w found l s' lens b =
+        passing_more w found l s' lens (λ z. b.more) (take_less (base + vars) (base + vars + i) s' s (omega arith) b.kept)
 
-    pub passing-seen : (w : ℕ) → path_value t v (frame base vars s) (p + i) ≡ some w → Stands v w → stored ≡ false → Passing t v base vars p n stored s₀ s (i + 1)
-    passing-seen w found l z = passing-more w found l s refl (λ y. absurd (false≢true (sym z ∙ y))) refl
+    pub passing_seen : (w : ℕ) → path_value t v (frame base vars s) (p + i) ≡ some w → Stands v w → stored ≡ false → Passing t v base vars p n stored s₀ s (i + 1)
+    passing_seen w found l z = passing_more w found l s refl (λ y. absurd (false≢true (sym z ∙ y))) refl
 
   pub passing_done : n ≤ i → Passed t v base vars p n stored true s₀ s
   unfolding only_if

@@ -27,7 +27,7 @@ use Rattle.walk.specs.Nodes.{after_at, below_at, ended_at, element_for, asked_at
 use Rattle.walk.specs.Turns.{Turned}
 use Rattle.walk.specs.Asks.{Sources, Follows, Visitable, Formed}
 use Rattle.walk.proofs.FrameLaws.{frame_kept}
-use Rattle.walk.proofs.RunLaws.{visited_is, visited_ran, visited_stuck, Going, going_start, going_end, going-stop, going_next}
+use Rattle.walk.proofs.RunLaws.{visited_is, visited_ran, visited_stuck, Going, going_start, going_end, going_stop, going_next}
 use Rattle.walk.proofs.BodyLaws.{body_more, Along, size_small, along_sequence, along_below, along_next}
 use Rattle.walk.proofs.AskedLaws.{visit_any, fills_no, fills_yes}
 use Rattle.walk.proofs.SeparatorLaws.{then_then, Apart, apart_none}
@@ -90,24 +90,24 @@ module _ {form : Form} {s : Sources} {at : At} {out₀ s₀ : List ℕ} (formed 
 
   -- a node below, and what its visit comes to
   module _ {node element : ℕ} {here there : At} (e₁ : here ≡ after_at at r) (e₂ : there ≡ below_at here node element) where
-    pub below-visitable : NodeBelow s.templates at.node node → Visitable s there out sc
-    below-visitable b = rw (e₂, e₁) (visitable_below formed_after node element b)
+    pub below_visitable : NodeBelow s.templates at.node node → Visitable s there out sc
+    below_visitable b = rw (e₂, e₁) (visitable_below formed_after node element b)
 
-    pub below-falls : there.fuel - there.steps ≤ at.fuel - at.steps
-    below-falls = rw (e₂, e₁) (omega (arith, inv.grown.steps_grow))
+    pub below_falls : there.fuel - there.steps ≤ at.fuel - at.steps
+    below_falls = rw (e₂, e₁) (omega (arith, inv.grown.steps_grow))
 
-    pub below-node : there.node ≡ node
-    below-node = rw e₂
+    pub below_node : there.node ≡ node
+    below_node = rw e₂
 
-    pub asked-visited : (asked : Asked) {u : Run} {out' sc' : List ℕ} → VisitedFrom (asked_at asked s.grammar s.templates s.value there out sc) there u out out' sc sc'
+    pub asked_visited : (asked : Asked) {u : Run} {out' sc' : List ℕ} → VisitedFrom (asked_at asked s.grammar s.templates s.value there out sc) there u out out' sc sc'
         → Visited (visits s at out₀ s₀ asked node (state_of r.steps r.bytes out)) r.steps r.bytes u out out' (at.base + at.vars) sc sc'
-    asked-visited asked v = visited_is (visit_same s.grammar s.templates s.value at.fuel (at.left - 1) asked node out out₀ _ _ _ inv.len same_frame) (rw (e₂, e₁) at v)
+    asked_visited asked v = visited_is (visit_same s.grammar s.templates s.value at.fuel (at.left - 1) asked node out out₀ _ _ _ inv.len same_frame) (rw (e₂, e₁) at v)
 
-    pub below-visited : {u : Run} {out' sc' : List ℕ} → VisitedFrom (visit_at s.grammar s.templates s.value there out sc) there u out out' sc sc'
+    pub below_visited : {u : Run} {out' sc' : List ℕ} → VisitedFrom (visit_at s.grammar s.templates s.value there out sc) there u out out' sc sc'
         → Visited (visits s at out₀ s₀ (piece (element_for s.grammar element)) node (state_of r.steps r.bytes out)) r.steps r.bytes u out out' (at.base + at.vars) sc sc'
-    below-visited {u} {out'} {sc'} v =
+    below_visited {u} {out'} {sc'} v =
         let e : there.element ≡ element = rw e₂ in
-        asked-visited _ (subst (λ (n : ℕ). VisitedFrom (asked_at (piece (element_for s.grammar n)) s.grammar s.templates s.value there out sc) there u out out' sc sc') e v)
+        asked_visited _ (subst (λ (n : ℕ). VisitedFrom (asked_at (piece (element_for s.grammar n)) s.grammar s.templates s.value there out sc) there u out out' sc sc') e v)
 
 -- a record's form is that of a for, or is not
 
@@ -162,52 +162,52 @@ module _ {s : Sources} {at : At} {out₀ s₀ : List ℕ} (formed : Formed Seque
   }
 
   module _ {x : Separator} {count : ℕ} {out sc : List ℕ} {item items : ℕ} {r : Run} {visited : ℕ} (inv : InSequence s at out₀ s₀ x count out sc item items r visited) where
-    pub sequence-end : count ≤ visited → VisitedFrom (form_at Sequence s.grammar s.templates s.value at out₀ s₀) at r out₀ out s₀ sc
-    sequence-end h = going_end inv.going (λ y. order_done _ _ _ y (heads_done (field_c s.templates) count visited item h))
+    pub sequence_end : count ≤ visited → VisitedFrom (form_at Sequence s.grammar s.templates s.value at out₀ s₀) at r out₀ out s₀ sc
+    sequence_end h = going_end inv.going (λ y. order_done _ _ _ y (heads_done (field_c s.templates) count visited item h))
 
-    pub items-few : visited < count → items < 2 ^ 32
-    items-few h = omega (arith, inv.few, inv.along.few)
+    pub items_few : visited < count → items < 2 ^ 32
+    items_few h = omega (arith, inv.few, inv.along.few)
 
     module _ (more : visited < count) {next : Record} (f : Fetched s.templates item next) where
       -- one node of the sequence, and the nodes after it
-      abbrev nodesAfter : ℕ → State → End
-      nodesAfter n = items_left s at out₀ s₀ x n (heads (field_c s.templates) (count - (visited + 1)) (item + next.c))
+      abbrev nodes_after : ℕ → State → End
+      nodes_after n = items_left s at out₀ s₀ x n (heads (field_c s.templates) (count - (visited + 1)) (item + next.c))
 
       abbrev brings : ℕ
       brings = items_of (input s.grammar s.templates s.value at.fuel out₀) (frame at.base at.vars s₀) item
 
       row_more : {e : End} (y : State) → visit_in (input s.grammar s.templates s.value at.fuel out₀) (visit (input s.grammar s.templates s.value at.fuel out₀) (at.left - 1)) (filled_at s.grammar x) (frame at.base at.vars s₀) items item y ≡ e
-          → items_left s at out₀ s₀ x items (heads (field_c s.templates) (count - visited) item) y ≡ and_then e (nodesAfter (items + brings))
-      row_more y way = order_more _ _ items y (heads_more (field_c s.templates) count visited item more next.c f.c) ∙ ap (λ (e : End). and_then e (nodesAfter (items + brings))) way
+          → items_left s at out₀ s₀ x items (heads (field_c s.templates) (count - visited) item) y ≡ and_then e (nodes_after (items + brings))
+      row_more y way = order_more _ _ items y (heads_more (field_c s.templates) count visited item more next.c f.c) ∙ ap (λ (e : End). and_then e (nodes_after (items + brings))) way
 
-      pub sequence-along : Along s.templates at.node count (item + next.c) (visited + 1)
-      sequence-along = along_next inv.along next.c f.c (size_small f)
+      pub sequence_along : Along s.templates at.node count (item + next.c) (visited + 1)
+      sequence_along = along_next inv.along next.c f.c (size_small f)
 
-      pub item-below : NodeBelow s.templates at.node item
-      item-below = along_below inv.along more
+      pub item_below : NodeBelow s.templates at.node item
+      item_below = along_below inv.along more
 
       -- a for among them
       module _ (k : next.a ≡ 5) {here there : At} (e₁ : here ≡ after_at at r) (e₂ : there ≡ below_at here item 0) where
-        pub turns-visitable : Visitable s there out sc
-        turns-visitable = below-visitable formed inv.going e₁ e₂ item-below
+        pub turns_visitable : Visitable s there out sc
+        turns_visitable = below_visitable formed inv.going e₁ e₂ item_below
 
-        pub turns-for : form_of s.templates there.node ≡ For
-        turns-for = rw (below-node formed inv.going e₁ e₂) (is_for_lem f k)
+        pub turns_for : form_of s.templates there.node ≡ For
+        turns_for = rw (below_node formed inv.going e₁ e₂) (is_for_lem f k)
 
-        abbrev asFor : Asked
-        asFor = Walk.items (filled_at s.grammar x) items
+        abbrev as_for : Asked
+        as_for = Walk.items (filled_at s.grammar x) items
 
-        turns-row : (y : State) → items_left s at out₀ s₀ x items (heads (field_c s.templates) (count - visited) item) y
-            ≡ and_then (visits s at out₀ s₀ asFor item y) (nodesAfter (items + brings))
+        turns_row : (y : State) → items_left s at out₀ s₀ x items (heads (field_c s.templates) (count - visited) item) y
+            ≡ and_then (visits s at out₀ s₀ as_for item y) (nodes_after (items + brings))
         unfolding visit_in is_for input
-        turns-row y = row_more y (rw (is_for_lem f k))
+        turns_row y = row_more y (rw (is_for_lem f k))
 
         module _ {u : Turns} {out' sc' : List ℕ} (v : Turned s.grammar s.templates s.value x items there u out out' sc sc') (len : length out' ≡ length out) where
-          turns-visited : Visited (visits s at out₀ s₀ asFor item (state_of r.steps r.bytes out)) r.steps r.bytes u.run out out' (at.base + at.vars) sc sc'
-          turns-visited = asked-visited formed inv.going e₁ e₂ _ v.visited
+          turns_visited : Visited (visits s at out₀ s₀ as_for item (state_of r.steps r.bytes out)) r.steps r.bytes u.run out out' (at.base + at.vars) sc sc'
+          turns_visited = asked_visited formed inv.going e₁ e₂ _ v.visited
 
-          pub turns-stop : (u.run.number ≡ 0 → ⊥) → VisitedFrom (form_at Sequence s.grammar s.templates s.value at out₀ s₀) at u.run out₀ out' s₀ sc'
-          turns-stop z = going-stop inv.going _ (turns-row _) turns-visited len z
+          pub turns_stop : (u.run.number ≡ 0 → ⊥) → VisitedFrom (form_at Sequence s.grammar s.templates s.value at out₀ s₀) at u.run out₀ out' s₀ sc'
+          turns_stop z = going_stop inv.going _ (turns_row _) turns_visited len z
 
           -- how many it brings does not hang on the output
           brought : u.run.number ≡ 0 → u.items ≡ items + brings
@@ -216,63 +216,63 @@ module _ {s : Sources} {at : At} {out₀ s₀ : List ℕ} (formed : Formed Seque
 
           pub turns_next : u.run.number ≡ 0 → length sc' ≡ length sc → InSequence s at out₀ s₀ x count out' sc' (item + next.c) u.items u.run (visited + 1)
           turns_next z lens = record {
-            along = sequence-along;
+            along = sequence_along;
             few = omega (arith, inv.few, v.few);
-            going = rw (brought z) (going_next inv.going _ (turns-row _) turns-visited len z lens);
+            going = rw (brought z) (going_next inv.going _ (turns_row _) turns_visited len z lens);
           }
 
       -- any other node is one item
       module _ (k : next.a ≡ 5 → ⊥) where
-        abbrev itemRest : State → End
-        itemRest y = and_then (visits s at out₀ s₀ (piece (nonterminal (filled_at s.grammar x).nonterminal)) item y) (nodesAfter (items + 1))
+        abbrev item_rest : State → End
+        item_rest y = and_then (visits s at out₀ s₀ (piece (nonterminal (filled_at s.grammar x).nonterminal)) item y) (nodes_after (items + 1))
 
-        apart-row : items_left s at out₀ s₀ x items (heads (field_c s.templates) (count - visited) item) (state_of r.steps r.bytes out)
-            ≡ and_then (separate (length out₀) (filled_at s.grammar x) items (state_of r.steps r.bytes out)) itemRest
+        apart_row : items_left s at out₀ s₀ x items (heads (field_c s.templates) (count - visited) item) (state_of r.steps r.bytes out)
+            ≡ and_then (separate (length out₀) (filled_at s.grammar x) items (state_of r.steps r.bytes out)) item_rest
         unfolding visit_in visit_item items_of input
-        apart-row = row_more _ refl ∙ rw (not_for f k) (then_then _ _ _)
+        apart_row = row_more _ refl ∙ rw (not_for f k) (then_then _ _ _)
 
-        apart-visited : {u : Run} {out' : List ℕ} → RanFrom (separate_at s.grammar x items (after_at at r) out) (after_at at r) u out out'
+        apart_visited : {u : Run} {out' : List ℕ} → RanFrom (separate_at s.grammar x items (after_at at r) out) (after_at at r) u out out'
             → Visited (separate (length out₀) (filled_at s.grammar x) items (state_of r.steps r.bytes out)) r.steps r.bytes u out out' (at.base + at.vars) sc sc
-        apart-visited v = visited_ran _ sc (rw inv.going.len at v)
+        apart_visited v = visited_ran _ sc (rw inv.going.len at v)
 
         -- the separator before it: none is due, or one is written
-        pub apart-skipped : due_at x items ≡ false → {u : Run} {out' : List ℕ} → out' ≡ out → u ≡ r → Apart s.grammar x items (after_at at r) out u out'
-        apart-skipped d eo e = rw (eo, e) (apart_none s.grammar x (after_at at r) out (formed_after formed inv.going).visitable.room items d inv.going.goes refl refl)
+        pub apart_skipped : due_at x items ≡ false → {u : Run} {out' : List ℕ} → out' ≡ out → u ≡ r → Apart s.grammar x items (after_at at r) out u out'
+        apart_skipped d eo e = rw (eo, e) (apart_none s.grammar x (after_at at r) out (formed_after formed inv.going).visitable.room items d inv.going.goes refl refl)
 
         module _ {here : At} (e₁ : here ≡ after_at at r) where
-          pub apart-room : here.bytes ≤ length out
-          apart-room = rw e₁ (formed_after formed inv.going).visitable.room
+          pub apart_room : here.bytes ≤ length out
+          apart_room = rw e₁ (formed_after formed inv.going).visitable.room
 
           module _ {u : Run} {out₁ : List ℕ} (v : RanFrom (separate_at s.grammar x items here out) here u out out₁) (len : length out₁ ≡ length out) where
-            pub apart-stop : (u.number ≡ 0 → ⊥) → VisitedFrom (form_at Sequence s.grammar s.templates s.value at out₀ s₀) at u out₀ out₁ s₀ sc
-            apart-stop z = going-stop inv.going _ apart-row (apart-visited (rw e₁ at v)) len z
+            pub apart_stop : (u.number ≡ 0 → ⊥) → VisitedFrom (form_at Sequence s.grammar s.templates s.value at out₀ s₀) at u out₀ out₁ s₀ sc
+            apart_stop z = going_stop inv.going _ apart_row (apart_visited (rw e₁ at v)) len z
 
-            pub apart-written : u.number ≡ 0 → {u' : Run} {out' : List ℕ} → out' ≡ out₁ → u' ≡ u → Apart s.grammar x items (after_at at r) out u' out'
-            apart-written z eo e = rw (eo, e) (record { ran = rw e₁ at v; goes = z; len = len })
+            pub apart_written : u.number ≡ 0 → {u' : Run} {out' : List ℕ} → out' ≡ out₁ → u' ≡ u → Apart s.grammar x items (after_at at r) out u' out'
+            apart_written z eo e = rw (eo, e) (record { ran = rw e₁ at v; goes = z; len = len })
 
         -- past the separator, if one was due
         module _ {u : Run} {out' : List ℕ} (apart : Apart s.grammar x items (after_at at r) out u out') where
-          apart-going : Going itemRest (form_at Sequence s.grammar s.templates s.value at out₀ s₀) at out₀ s₀ u out' sc
-          apart-going = going_next inv.going _ apart-row (apart-visited apart.ran) apart.len apart.goes refl
+          apart_going : Going item_rest (form_at Sequence s.grammar s.templates s.value at out₀ s₀) at out₀ s₀ u out' sc
+          apart_going = going_next inv.going _ apart_row (apart_visited apart.ran) apart.len apart.goes refl
 
           module _ {after there : At} (e₂ : after ≡ after_at at u) (e₃ : there ≡ below_at after item 0) where
-            pub item-visitable : Visitable s there out' sc
-            item-visitable = below-visitable formed apart-going e₂ e₃ item-below
+            pub item_visitable : Visitable s there out' sc
+            item_visitable = below_visitable formed apart_going e₂ e₃ item_below
 
-            pub item-falls : there.fuel - there.steps ≤ at.fuel - at.steps
-            item-falls = below-falls formed apart-going e₂ e₃
+            pub item_falls : there.fuel - there.steps ≤ at.fuel - at.steps
+            item_falls = below_falls formed apart_going e₂ e₃
 
             module _ {w : Run} {out'' sc' : List ℕ} (v : VisitedFrom (visit_at s.grammar s.templates s.value there out' sc) there w out' out'' sc sc') (len : length out'' ≡ length out') where
               item_visited : Visited (visits s at out₀ s₀ (piece (nonterminal (filled_at s.grammar x).nonterminal)) item (state_of u.steps u.bytes out')) u.steps u.bytes w out' out'' (at.base + at.vars) sc sc'
               unfolding element_for
-              item_visited = visited_is (visit_any _ _ _ _ _ _ _) (below-visited formed apart-going e₂ e₃ v)
+              item_visited = visited_is (visit_any _ _ _ _ _ _ _) (below_visited formed apart_going e₂ e₃ v)
 
-              pub item-stop : (w.number ≡ 0 → ⊥) → VisitedFrom (form_at Sequence s.grammar s.templates s.value at out₀ s₀) at w out₀ out'' s₀ sc'
-              item-stop y = going-stop apart-going _ refl item_visited len y
+              pub item_stop : (w.number ≡ 0 → ⊥) → VisitedFrom (form_at Sequence s.grammar s.templates s.value at out₀ s₀) at w out₀ out'' s₀ sc'
+              item_stop y = going_stop apart_going _ refl item_visited len y
 
-              pub item-next : w.number ≡ 0 → length sc' ≡ length sc → InSequence s at out₀ s₀ x count out'' sc' (item + next.c) (items + 1) w (visited + 1)
-              item-next y lens = record {
-                along = sequence-along;
+              pub item_next : w.number ≡ 0 → length sc' ≡ length sc → InSequence s at out₀ s₀ x count out'' sc' (item + next.c) (items + 1) w (visited + 1)
+              item_next y lens = record {
+                along = sequence_along;
                 few = omega (arith, inv.few);
-                going = going_next apart-going _ refl item_visited len y lens;
+                going = going_next apart_going _ refl item_visited len y lens;
               }

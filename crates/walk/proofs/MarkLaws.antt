@@ -43,29 +43,29 @@ module _ {g heads : List ℕ} (h : ProductionHeads g heads) where
       ∙ get_or-append (productions g) (length h.marks ∷ []) 0 k l
 
   module _ (marks number : ℕ) (e : marks ≡ get_or heads (length heads - 1) 0) where
-    at-marks : marks + number ≡ length h.marks + number
-    at-marks = ap (λ (x : ℕ). x + number) (e ∙ marks_count)
+    at_marks : marks + number ≡ length h.marks + number
+    at_marks = ap (λ (x : ℕ). x + number) (e ∙ marks_count)
 
-    pub production-found : marks + number + 1 < length heads → some (get_or heads (marks + number) 0) ≡ production g number
+    pub production_found : marks + number + 1 < length heads → some (get_or heads (marks + number) 0) ≡ production g number
     unfolding production
-    production-found l =
-        let m : number < length (productions g) = omega (arith, at-marks, heads_length) in
-        sym (nth_some (productions g) number m ∙ ap some (sym (production_here number m) ∙ ap (λ (x : ℕ). get_or heads x 0) (sym at-marks)))
+    production_found l =
+        let m : number < length (productions g) = omega (arith, at_marks, heads_length) in
+        sym (nth_some (productions g) number m ∙ ap some (sym (production_here number m) ∙ ap (λ (x : ℕ). get_or heads x 0) (sym at_marks)))
 
-    pub production-lost : length heads ≤ marks + number + 1 → none ≡ production g number
+    pub production_lost : length heads ≤ marks + number + 1 → none ≡ production g number
     unfolding production
-    production-lost l = sym (nth_none (productions g) number (omega (arith, at-marks, heads_length)))
+    production_lost l = sym (nth_none (productions g) number (omega (arith, at_marks, heads_length)))
 
   -- the mark of a class, by its number
   module _ (marks : ℕ) (e : marks ≡ get_or heads (length heads - 1) 0) where
     pub unmarked : (c : ℕ) → marks ≤ c → exists (escaped_class g c) ≡ false
     unmarked c l = h.tells c ∙ rw (get_or-eq_default h.marks 0 {n = c} (omega (arith, e ∙ marks_count)))
 
-    pub mark-inside : (c : ℕ) → c < marks → c < length heads
-    mark-inside c l = omega (arith, e ∙ marks_count, heads_length)
+    pub mark_inside : (c : ℕ) → c < marks → c < length heads
+    mark_inside c l = omega (arith, e ∙ marks_count, heads_length)
 
-    pub mark-here : (c : ℕ) → c < marks → eqb (get_or heads c 0) 1 ≡ exists (escaped_class g c)
-    mark-here c l =
+    pub mark_here : (c : ℕ) → c < marks → eqb (get_or heads c 0) 1 ≡ exists (escaped_class g c)
+    mark_here c l =
         ap (λ (x : List ℕ). eqb (get_or x c 0) 1) h.is
         ∙ ap (λ (x : ℕ). eqb x 1) (get_or-append h.marks _ 0 c (omega (arith, e ∙ marks_count)))
         ∙ sym (h.tells c)

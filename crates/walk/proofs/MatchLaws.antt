@@ -73,34 +73,34 @@ module _ {s : Sources} {at : At} {out sc : List ℕ} (formed : Formed Match s at
     inside_is : inside ≡ content w
     inside_is = is ∙ (content_there s.value s.firsts s.places formed.visitable.lent.value_lent.children w stands is_case).is
 
-    inside-stands : Stands s.value inside
-    inside-stands = rw inside_is (content_stands s.value s.firsts s.places formed.visitable.lent.value_lent.children w stands is_case)
+    inside_stands : Stands s.value inside
+    inside_stands = rw inside_is (content_stands s.value s.firsts s.places formed.visitable.lent.value_lent.children w stands is_case)
 
-    inner-is : inner ≡ bound_at (below_at at b at.element)
-    inner-is = rw (e₂, e₁)
+    inner_is : inner ≡ bound_at (below_at at b at.element)
+    inner_is = rw (e₂, e₁)
 
-    pub arm-visitable : b ≤ at.node + 2 + 65535 * case.a → length sc₁ ≡ length sc → Visitable s inner out sc₁
-    arm-visitable l lens =
+    pub arm_visitable : b ≤ at.node + 2 + 65535 * case.a → length sc₁ ≡ length sc → Visitable s inner out sc₁
+    arm_visitable l lens =
         let e = eight_bytes s.value w case f in
         let below = match_below s.templates at.node formed.is case.a b arm l (omega (arith, e.byte1, f.small 1)) in
-        rw inner-is (record {
+        rw inner_is (record {
           lent = formed.visitable.lent;
           near = omega (arith, formed.level, formed.visitable.near, below.near);
           in_body = body_more formed.visitable.in_body below.stands;
           alive = omega (arith, formed.level, formed.visitable.alive);
           stored = omega (arith, formed.visitable.stored, lens);
-          held = λ h. rw bound.more (held_more s.value (frame at.base at.vars sc) inside (formed.visitable.held formed.level) inside-stands);
+          held = λ h. rw bound.more (held_more s.value (frame at.base at.vars sc) inside (formed.visitable.held formed.level) inside_stands);
           room = formed.visitable.room;
         })
 
-    pub arm-falls : inner.fuel - inner.steps ≤ at.fuel - at.steps
-    arm-falls = rw inner-is (omega arith)
+    pub arm_falls : inner.fuel - inner.steps ≤ at.fuel - at.steps
+    arm_falls = rw inner_is (omega arith)
 
-    pub arm-visited : path_value s.templates s.value (frame at.base at.vars sc) (at.node + 1) ≡ some w → {r : Run} {out' sc' : List ℕ}
+    pub arm_visited : path_value s.templates s.value (frame at.base at.vars sc) (at.node + 1) ≡ some w → {r : Run} {out' sc' : List ℕ}
         → VisitedFrom (visit_at s.grammar s.templates s.value inner out sc₁) inner r out out' sc₁ sc'
         → VisitedFrom (form_at Match s.grammar s.templates s.value at out sc) at r out out' sc sc'
-    arm-visited got {r} {out'} {sc'} v =
-        let v' : VisitedFrom (visit_at s.grammar s.templates s.value (bound_at (below_at at b at.element)) out sc₁) (bound_at (below_at at b at.element)) r out out' sc₁ sc' = rw inner-is at v in
+    arm_visited got {r} {out'} {sc'} v =
+        let v' : VisitedFrom (visit_at s.grammar s.templates s.value (bound_at (below_at at b at.element)) out sc₁) (bound_at (below_at at b at.element)) r out out' sc₁ sc' = rw inner_is at v in
         let same : frame at.base (at.vars + 1) sc₁ ≡ frame at.base at.vars sc ++ content w ∷ [] = bound.more ∙ rw inside_is in
         record {
           ran = ran_is

@@ -104,8 +104,8 @@ module _ (v : List ℕ) (w j k d : ℕ) (hk : k ≡ kind_of v w) (hd : d ≡ fie
       inside : j < field_d v w
       inside = omega arith
 
-      pub field-there : (w < length firsts) × (get_or firsts w 0 + j < length places)
-      field-there = let c = child_there v firsts places table w value parent j inside in (c.head, c.entry)
+      pub field_there : (w < length firsts) × (get_or firsts w 0 + j < length places)
+      field_there = let c = child_there v firsts places table w value parent j inside in (c.head, c.entry)
 
       pub field_found : (c : ℕ) → c ≡ get_or places (get_or firsts w 0 + j) 0 → Finds v (on_found (as_record v w) none (λ ws. nth ws j)) (Found c)
       field_found c e =
@@ -148,9 +148,9 @@ module _ {t v env : List ℕ} {p : ℕ} {path : Record} {w i : ℕ} (inv : InSte
     unfolding value_along
     along o h = sym (rw (steps_more path n i j e more step) (on_on _ j _ h)) ∙ inv.same
 
-    pub steps-stop : on_found (as_record v w) none (λ ws. nth ws j) ≡ none → Finds v (path_value t v env p) Nothing
+    pub steps_stop : on_found (as_record v w) none (λ ws. nth ws j) ≡ none → Finds v (path_value t v env p) Nothing
     unfolding on_found
-    steps-stop h = finds_nothing (sym (along none h))
+    steps_stop h = finds_nothing (sym (along none h))
 
     pub steps_next : (next : ℕ) → on_found (as_record v w) none (λ ws. nth ws j) ≡ some next → Stands v next → InSteps t v env p path next (i + 1)
     unfolding on_found

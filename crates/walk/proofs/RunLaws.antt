@@ -179,8 +179,8 @@ module _ {rest : State → End} {whole : End} {at : At} {out₀ s₀ : List ℕ}
 
     module _ {e : End} (next : State → End) (more : rest (state_of r.steps r.bytes out) ≡ and_then e next) {u : Run} {out' s' : List ℕ}
         (v : Visited e r.steps r.bytes u out out' (at.base + at.vars) s s') (len' : length out' ≡ length out) where
-      pub going-stop : (u.number ≡ 0 → ⊥) → VisitedFrom whole at u out₀ out' s₀ s'
-      going-stop z = record {
+      pub going_stop : (u.number ≡ 0 → ⊥) → VisitedFrom whole at u out₀ out' s₀ s'
+      going_stop z = record {
         ran = record {
           meets = sym (view_ends u out' next z) ∙ ap (λ (x : End). and_then x next) v.ran.meets ∙ sym more ∙ inv.same;
           grown = grown_more at.steps at.bytes r u out₀ out out' inv.len inv.grown v.ran.grown;

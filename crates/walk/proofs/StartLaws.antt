@@ -55,8 +55,8 @@ module _ {s : Sources} {sc : List ℕ} (walkable : Walkable s sc) where
     found : nth (templates s.templates) 0 ≡ some q
     found = ap (λ (l : List ℕ). nth l 0) (sym walkable.lent.templates_are) ∙ first
 
-    pub start-visitable : b < 65792 → (out : List ℕ) → Visitable s at out sc₁
-    start-visitable l out = rw is (record {
+    pub start_visitable : b < 65792 → (out : List ℕ) → Visitable s at out sc₁
+    start_visitable l out = rw is (record {
       lent = walkable.lent;
       near = omega arith;
       in_body = rw hb (body_first s.templates 0 q found);
@@ -70,8 +70,8 @@ module _ {s : Sources} {sc : List ℕ} (walkable : Walkable s sc) where
     unfolding walk template input deepest start element_for
     walk_is out = rw (bound.more, hb) (visit_any _ _ _ _ _ _ _ ∙ sym (on_some stuck _ found))
 
-    pub start-walked : {r : Run} {out out' sc₂ sc' : List ℕ} → VisitedFrom (visit_at s.grammar s.templates s.value at out sc₁) at r out out' sc₁ sc₂
+    pub start_walked : {r : Run} {out out' sc₂ sc' : List ℕ} → VisitedFrom (visit_at s.grammar s.templates s.value at out sc₁) at r out out' sc₁ sc₂
         → length sc₂ ≡ length sc₁ → sc' ≡ replicate (length sc₂) 0 → Walked s.grammar s.templates s.value fuel r out out' sc sc'
-    start-walked {r = r} {out = out} {out' = out'} {sc₂ = sc₂} v l zeros =
+    start_walked {r = r} {out = out} {out' = out'} {sc₂ = sc₂} v l zeros =
         let v' : VisitedFrom (visit_at s.grammar s.templates s.value (start_at b fuel) out sc₁) (start_at b fuel) r out out' sc₁ sc₂ = rw is at v in
         ran_walked sc₂ (ran_is (walk_is out) v'.ran) (l ∙ lens) zeros

@@ -11,8 +11,8 @@ returns-then-out-n c = no_room _ _ _ c.escaped_len-n.ensures c.if-out-n.true
 pub escape_parts-requires : goal.escape_parts-requires
 escape_parts-requires c =
     elim c.if-out-t.branch [
-      then-out-t+else-out-n w ↦ omega (arith, w.escaped_len-n.ensures, w.if-out-n.false)
-    | else-out-t w ↦ surely_fits c.args.s.now c.args.t _ w.if-out-t.false
+      | then-out-t+else-out-n w ↦ omega (arith, w.escaped_len-n.ensures, w.if-out-n.false)
+      | else-out-t w ↦ surely_fits c.args.s.now c.args.t _ w.if-out-t.false
     ]
 
 pub returns : goal.returns

@@ -3,7 +3,7 @@ use mathlib.Core.Path.{sym, ◌∙◌}
 use native.Mathlib.Omega.{arith}
 use lib.ListN.{length}
 use borrow.Author.Tests.{not-true, not-false}
-use Rattle.entities.proofs.MeasureLaws.{Measuring, measure_start, measure_run, measure_none, measure-inside, measure-grows, measure-bad, measure-turn, measure_end}
+use Rattle.entities.proofs.MeasureLaws.{Measuring, measure_start, measure_run, measure_none, measure_inside, measure_grows, measure_bad, measure_turn, measure_end}
 use borrow.Author.Rules.{rules}
 use Rattle.entities.proofs.unescape.measure.Goals as goal
 
@@ -32,19 +32,19 @@ pub next-u-requires : goal.next-u-requires
 next-u-requires c = c.loop-at.invariant.good
 
 pub returns-then-not-u : goal.returns-then-not-u
-returns-then-not-u c = c.none-then-not-u.ensures ∙ sym (measure-bad (measure_run c.loop-at.invariant c.ahead-here.ensures) c.if-text-at.false c.plain_at-plain.ensures c.if-plain-eq0.false c.next-u.ensures (not-true _ c.if-not-u.true))
+returns-then-not-u c = c.none-then-not-u.ensures ∙ sym (measure_bad (measure_run c.loop-at.invariant c.ahead-here.ensures) c.if-text-at.false c.plain_at-plain.ensures c.if-plain-eq0.false c.next-u.ensures (not-true _ c.if-not-u.true))
 
 pub overflow_add-at : goal.overflow_add-at
-overflow_add-at c = omega (arith, measure-inside (measure_run c.loop-at.invariant c.ahead-here.ensures) c.if-text-at.false c.plain_at-plain.ensures c.if-plain-eq0.false)
+overflow_add-at c = omega (arith, measure_inside (measure_run c.loop-at.invariant c.ahead-here.ensures) c.if-text-at.false c.plain_at-plain.ensures c.if-plain-eq0.false)
 
 pub overflow_add-n-in-loop-at : goal.overflow_add-n-in-loop-at
 overflow_add-n-in-loop-at c = omega (arith, c.loop-at.invariant.fewer, c.ahead-here.ensures.inside, c.ahead-here.ensures.onward)
 
 pub loop-at-smaller : goal.loop-at-smaller
-loop-at-smaller c = omega (arith, measure-inside (measure_run c.loop-at.invariant c.ahead-here.ensures) c.if-text-at.false c.plain_at-plain.ensures c.if-plain-eq0.false, measure-grows (measure_run c.loop-at.invariant c.ahead-here.ensures) c.if-text-at.false c.plain_at-plain.ensures c.if-plain-eq0.false, c.ahead-here.ensures.onward)
+loop-at-smaller c = omega (arith, measure_inside (measure_run c.loop-at.invariant c.ahead-here.ensures) c.if-text-at.false c.plain_at-plain.ensures c.if-plain-eq0.false, measure_grows (measure_run c.loop-at.invariant c.ahead-here.ensures) c.if-text-at.false c.plain_at-plain.ensures c.if-plain-eq0.false, c.ahead-here.ensures.onward)
 
 pub loop-at-preserved : goal.loop-at-preserved
-loop-at-preserved c = measure-turn (measure_run c.loop-at.invariant c.ahead-here.ensures) c.if-text-at.false c.plain_at-plain.ensures c.if-plain-eq0.false c.next-u.ensures (not-false _ c.if-not-u.false)
+loop-at-preserved c = measure_turn (measure_run c.loop-at.invariant c.ahead-here.ensures) c.if-text-at.false c.plain_at-plain.ensures c.if-plain-eq0.false c.next-u.ensures (not-false _ c.if-not-u.false)
 
 pub returns : goal.returns
 returns c = measure_end c.loop-at.invariant c.loop-at-test.false c.ended-2.ensures

@@ -21,7 +21,7 @@ templates_layout-requires c = (three_sized _ _ _ (offends_not _ _ (c.first.ensur
 pub value_layout-requires : goal.value_layout-requires
 value_layout-requires c =
     let l = (three_sized _ _ _ (offends_not _ _ (c.first.ensures ∙ lengths_three _ _ _ _ _ _ c.length_fault.ensures c.length_fault-2.ensures c.length_fault-3.ensures) c.in_default.is)).2 in
-    record { v_value = l; v_in_bounds = c.requires.in_firsts l; v_in_bounds_2 = c.requires.in_places l }
+    record { v_value = l; firsts_room = c.requires.in_firsts l; places_room = c.requires.in_places l }
 
 pub returns-in-In-first-2 : goal.returns-in-In-first-2
 unfolding streams_refusal

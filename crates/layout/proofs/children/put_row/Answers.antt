@@ -1,7 +1,7 @@
 use native.Mathlib.Omega.{arith}
 use Rattle.laws.specs.Reads.{few_records}
 use Rattle.layout.proofs.CommonLaws.{reach, in_stream}
-use Rattle.layout.proofs.ChildrenRows.{put_start, put-late, put-empty, put_room, put_go, put_end}
+use Rattle.layout.proofs.ChildrenRows.{put_start, put_late, put_empty, put_room, put_go, put_end}
 use Rattle.layout.proofs.children.put_row.Goals as goal
 
 pub loop-k-init : goal.loop-k-init
@@ -11,7 +11,7 @@ pub shape_of-places-then-e-q : goal.shape_of-places-then-e-q
 shape_of-places-then-e-q c = c.loop-k.invariant.long
 
 pub returns-then-e-q : goal.returns-then-e-q
-returns-then-e-q c = put-late c.loop-k.invariant c.loop-k-test.true c.if-e-q.true
+returns-then-e-q c = put_late c.loop-k.invariant c.loop-k-test.true c.if-e-q.true
 
 pub fetch_in-requires : goal.fetch_in-requires
 fetch_in-requires c = in_stream c.args.v.now c.loop-k.invariant.place_is (omega (arith, c.if-e-q.false, c.requires.chains.within.inside))
@@ -20,7 +20,7 @@ pub shape_of-places-then-size-lt1 : goal.shape_of-places-then-size-lt1
 shape_of-places-then-size-lt1 c = c.loop-k.invariant.long
 
 pub returns-then-size-lt1 : goal.returns-then-size-lt1
-returns-then-size-lt1 c = put-empty c.loop-k.invariant c.loop-k-test.true c.if-e-q.false (c.size_of-size.ensures.is _ _ (c.fetch_in.ensures _ c.loop-k.invariant.place_is)) c.if-size-lt1.true
+returns-then-size-lt1 c = put_empty c.loop-k.invariant c.loop-k-test.true c.if-e-q.false (c.size_of-size.ensures.is _ _ (c.fetch_in.ensures _ c.loop-k.invariant.place_is)) c.if-size-lt1.true
 
 pub overflow_add-slot : goal.overflow_add-slot
 overflow_add-slot c = omega (arith, put_room c.loop-k.invariant c.requires c.if-e-q.false, c.loop-k.invariant.long, c.well_formed)

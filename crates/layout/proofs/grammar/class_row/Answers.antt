@@ -1,34 +1,34 @@
 use mathlib.Core.Path.{sym, ◌∙◌}
 use native.Mathlib.Omega.{arith}
-use Rattle.layout.proofs.GrammarLaws.{left_start, left_stop, left_go, left_broken, not-a-class, class-stands, stands_near, class_number, class-over, class-broken, class-right}
+use Rattle.layout.proofs.GrammarLaws.{left_start, left_stop, left_go, left_broken, not_a_class, class_stands, stands_near, class_number, class_over, class_broken, class_right}
 use Rattle.layout.proofs.grammar.class_row.Goals as goal
 
 pub loop-class-init : goal.loop-class-init
 loop-class-init c = left_start _
 
 pub returns-then-not-is_class : goal.returns-then-not-is_class
-returns-then-not-is_class c = left_stop (not-a-class c.fetch-class.ensures _ c.is_class.ensures (c.if-not-is_class.true)) c.loop-class.invariant
+returns-then-not-is_class c = left_stop (not_a_class c.fetch-class.ensures _ c.is_class.ensures (c.if-not-is_class.true)) c.loop-class.invariant
 
 pub returns-then-class-n : goal.returns-then-class-n
-returns-then-class-n c = left_broken (class-stands c.fetch-class.ensures _ c.is_class.ensures c.requires (c.if-not-is_class.false)) c.loop-class.invariant (class_number c.fetch-class.ensures _ c.if-class-n.true)
+returns-then-class-n c = left_broken (class_stands c.fetch-class.ensures _ c.is_class.ensures c.requires (c.if-not-is_class.false)) c.loop-class.invariant (class_number c.fetch-class.ensures _ c.if-class-n.true)
 
 pub returns-then-not-is_laid : goal.returns-then-not-is_laid
-returns-then-not-is_laid c = left_broken (class-stands c.fetch-class.ensures _ c.is_class.ensures c.requires (c.if-not-is_class.false)) c.loop-class.invariant (class-over c.fetch-class.ensures _ c.if-class-n.false (sym c.is_laid.ensures ∙ c.if-not-is_laid.true))
+returns-then-not-is_laid c = left_broken (class_stands c.fetch-class.ensures _ c.is_class.ensures c.requires (c.if-not-is_class.false)) c.loop-class.invariant (class_over c.fetch-class.ensures _ c.if-class-n.false (sym c.is_laid.ensures ∙ c.if-not-is_laid.true))
 
 pub overflow_add-p : goal.overflow_add-p
-overflow_add-p c = omega (arith, stands_near c.requires (class-stands c.fetch-class.ensures _ c.is_class.ensures c.requires (c.if-not-is_class.false)))
+overflow_add-p c = omega (arith, stands_near c.requires (class_stands c.fetch-class.ensures _ c.is_class.ensures c.requires (c.if-not-is_class.false)))
 
 pub are_ranges-requires-clause-n_bound : goal.are_ranges-requires-clause-n_bound
-are_ranges-requires-clause-n_bound c = omega (arith, stands_near c.requires (class-stands c.fetch-class.ensures _ c.is_class.ensures c.requires (c.if-not-is_class.false)))
+are_ranges-requires-clause-n_bound c = omega (arith, stands_near c.requires (class_stands c.fetch-class.ensures _ c.is_class.ensures c.requires (c.if-not-is_class.false)))
 
 pub returns-then-not-are_ranges : goal.returns-then-not-are_ranges
-returns-then-not-are_ranges c = left_broken (class-stands c.fetch-class.ensures _ c.is_class.ensures c.requires (c.if-not-is_class.false)) c.loop-class.invariant (class-broken c.fetch-class.ensures _ c.if-class-n.false (sym c.is_laid.ensures ∙ c.if-not-is_laid.false) c.are_ranges.ensures (c.if-not-are_ranges.true))
+returns-then-not-are_ranges c = left_broken (class_stands c.fetch-class.ensures _ c.is_class.ensures c.requires (c.if-not-is_class.false)) c.loop-class.invariant (class_broken c.fetch-class.ensures _ c.if-class-n.false (sym c.is_laid.ensures ∙ c.if-not-is_laid.false) c.are_ranges.ensures (c.if-not-are_ranges.true))
 
 pub overflow_add-p-in-loop-class-2 : goal.overflow_add-p-in-loop-class-2
-overflow_add-p-in-loop-class-2 c = omega (arith, stands_near c.requires (class-stands c.fetch-class.ensures _ c.is_class.ensures c.requires (c.if-not-is_class.false)))
+overflow_add-p-in-loop-class-2 c = omega (arith, stands_near c.requires (class_stands c.fetch-class.ensures _ c.is_class.ensures c.requires (c.if-not-is_class.false)))
 
 pub loop-class-smaller : goal.loop-class-smaller
-loop-class-smaller c = omega (arith, (class-stands c.fetch-class.ensures _ c.is_class.ensures c.requires (c.if-not-is_class.false)).inside)
+loop-class-smaller c = omega (arith, (class_stands c.fetch-class.ensures _ c.is_class.ensures c.requires (c.if-not-is_class.false)).inside)
 
 pub loop-class-preserved : goal.loop-class-preserved
-loop-class-preserved c = left_go (class-stands c.fetch-class.ensures _ c.is_class.ensures c.requires (c.if-not-is_class.false)) c.loop-class.invariant _ (class-right c.fetch-class.ensures _ c.if-class-n.false (sym c.is_laid.ensures ∙ c.if-not-is_laid.false) c.are_ranges.ensures (c.if-not-are_ranges.false)) (omega arith)
+loop-class-preserved c = left_go (class_stands c.fetch-class.ensures _ c.is_class.ensures c.requires (c.if-not-is_class.false)) c.loop-class.invariant _ (class_right c.fetch-class.ensures _ c.if-class-n.false (sym c.is_laid.ensures ∙ c.if-not-is_laid.false) c.are_ranges.ensures (c.if-not-are_ranges.false)) (omega arith)

@@ -1,7 +1,7 @@
 use mathlib.Core.Path.{sym, ◌∙◌}
 use native.Mathlib.Omega.{arith}
 use Rattle.rules.specs.Records.{units}
-use Rattle.layout.proofs.GrammarLaws.{element_broken, element-unpadded, element-padded, element_near}
+use Rattle.layout.proofs.GrammarLaws.{element_broken, element_unpadded, element_padded, element_near}
 use Rattle.layout.proofs.grammar.element_end.Goals as goal
 
 pub returns-then-not-is_element : goal.returns-then-not-is_element
@@ -18,7 +18,7 @@ unfolding units
 overflow_add-result-then-padded c = record { fits = omega (arith, element_near c.fetch-e.ensures c.requires (sym c.is_element.ensures ∙ c.if-not-is_element.false), c.units.ensures) }
 
 pub returns-then-padded : goal.returns-then-padded
-returns-then-padded c = sym (element-padded c.fetch-e.ensures (c.text_length-text.ensures.is _ _ c.fetch-e.ensures) (sym c.is_element.ensures ∙ c.if-not-is_element.false) c.padded.ensures c.if-padded.true _ c.units.ensures)
+returns-then-padded c = sym (element_padded c.fetch-e.ensures (c.text_length-text.ensures.is _ _ c.fetch-e.ensures) (sym c.is_element.ensures ∙ c.if-not-is_element.false) c.padded.ensures c.if-padded.true _ c.units.ensures)
 
 pub returns-else-padded : goal.returns-else-padded
-returns-else-padded c = sym (element-unpadded c.fetch-e.ensures (c.text_length-text.ensures.is _ _ c.fetch-e.ensures) (sym c.is_element.ensures ∙ c.if-not-is_element.false) c.padded.ensures c.if-padded.false)
+returns-else-padded c = sym (element_unpadded c.fetch-e.ensures (c.text_length-text.ensures.is _ _ c.fetch-e.ensures) (sym c.is_element.ensures ∙ c.if-not-is_element.false) c.padded.ensures c.if-padded.false)

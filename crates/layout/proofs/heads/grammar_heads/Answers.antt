@@ -1,5 +1,5 @@
 use native.Mathlib.Omega.{arith}
-use Rattle.layout.proofs.HeadsRowLaws.{grammar_rows, first_ahead, in_table, second-ahead, tables}
+use Rattle.layout.proofs.HeadsRowLaws.{grammar_rows, first_ahead, in_table, second_ahead, tables}
 use Rattle.layout.proofs.heads.grammar_heads.Goals as goal
 
 pub class_row-one-requires : goal.class_row-one-requires
@@ -15,7 +15,7 @@ pub slice_bounds-production_row-start : goal.slice_bounds-production_row-start
 slice_bounds-production_row-start c = in_table (grammar_rows c.requires.laid_grammar (λ i. (c.type_inv.g i).fits)) c.class_row-one.ensures c.class_row-one.auto.table c.requires.g_in_bounds
 
 pub production_row-two-requires : goal.production_row-two-requires
-production_row-two-requires c = second-ahead (grammar_rows c.requires.laid_grammar (λ i. (c.type_inv.g i).fits)) c.class_row-one.ensures c.class_row-one.auto.table c.requires.g_in_bounds
+production_row-two-requires c = second_ahead (grammar_rows c.requires.laid_grammar (λ i. (c.type_inv.g i).fits)) c.class_row-one.ensures c.class_row-one.auto.table c.requires.g_in_bounds
 
 pub returns : goal.returns
 returns c = tables (grammar_rows c.requires.laid_grammar (λ i. (c.type_inv.g i).fits)) c.class_row-one.ensures c.class_row-one.auto.table c.requires.g_in_bounds c.production_row-two.ensures

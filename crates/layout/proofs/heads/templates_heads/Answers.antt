@@ -1,5 +1,5 @@
 use native.Mathlib.Omega.{arith}
-use Rattle.layout.proofs.HeadsRowLaws.{templates_rows, first_ahead, in_table, second-ahead, tables}
+use Rattle.layout.proofs.HeadsRowLaws.{templates_rows, first_ahead, in_table, second_ahead, tables}
 use Rattle.layout.proofs.heads.templates_heads.Goals as goal
 
 pub type_row-one-requires : goal.type_row-one-requires
@@ -15,7 +15,7 @@ pub slice_bounds-template_row-start : goal.slice_bounds-template_row-start
 slice_bounds-template_row-start c = in_table (templates_rows c.requires.laid_templates) c.type_row-one.ensures c.type_row-one.auto.table c.requires.t_in_bounds
 
 pub template_row-two-requires : goal.template_row-two-requires
-template_row-two-requires c = second-ahead (templates_rows c.requires.laid_templates) c.type_row-one.ensures c.type_row-one.auto.table c.requires.t_in_bounds
+template_row-two-requires c = second_ahead (templates_rows c.requires.laid_templates) c.type_row-one.ensures c.type_row-one.auto.table c.requires.t_in_bounds
 
 pub returns : goal.returns
 returns c = tables (templates_rows c.requires.laid_templates) c.type_row-one.ensures c.type_row-one.auto.table c.requires.t_in_bounds c.template_row-two.ensures

@@ -1,6 +1,6 @@
 use native.Mathlib.Omega.{arith}
 use Rattle.layout.proofs.GrammarLaws.{of_kind_lem, of_another}
-use Rattle.layout.proofs.HeadsFillLaws.{fill_start, fill_stop, fill_room, fill_near, fill-go, records_next}
+use Rattle.layout.proofs.HeadsFillLaws.{fill_start, fill_stop, fill_room, fill_near, fill_go, records_next}
 use Rattle.layout.proofs.heads.type_row.Goals as goal
 
 pub loop-head-init : goal.loop-head-init
@@ -31,4 +31,4 @@ pub loop-head-smaller : goal.loop-head-smaller
 loop-head-smaller c = omega (arith, fill_room (of_kind_lem c.fetch-head.ensures 1 c.if-head-ne1.false) c.loop-head.invariant, c.loop-head.invariant.same)
 
 pub loop-head-preserved : goal.loop-head-preserved
-loop-head-preserved c = fill-go (of_kind_lem c.fetch-head.ensures 1 c.if-head-ne1.false) (records_next c.fetch-head.ensures) c.loop-head.invariant
+loop-head-preserved c = fill_go (of_kind_lem c.fetch-head.ensures 1 c.if-head-ne1.false) (records_next c.fetch-head.ensures) c.loop-head.invariant

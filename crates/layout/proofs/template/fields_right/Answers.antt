@@ -1,12 +1,12 @@
 use native.Mathlib.Omega.{arith}
 use Rattle.layout.proofs.CommonLaws.{reach}
 use Rattle.layout.proofs.TemplateHeads.{near_next}
-use Rattle.layout.proofs.TypeLaws.{fields-used-b, fields_row}
+use Rattle.layout.proofs.TypeLaws.{fields_used_b, fields_row}
 use borrow.Author.Rules.{rules}
 use Rattle.layout.proofs.template.fields_right.Goals as goal
 
 pub returns-then-r-ne0 : goal.returns-then-r-ne0
-returns-then-r-ne0 c = λ p e f. fields-used-b _ p _ f c.requires.c_value c.if-r-ne0.true
+returns-then-r-ne0 c = λ p e f. fields_used_b _ p _ f c.requires.c_value c.if-r-ne0.true
 
 pub forward-requires : goal.forward-requires
 forward-requires c = reach 1 c.requires.counts_on.place_is (omega (arith, c.requires.counts_on.near)) (omega arith)

@@ -1,4 +1,4 @@
-use Rattle.layout.proofs.TemplateHeads.{room_near, no_node, a_build, a_literal, not-literal, a_place, an_expand, an_if, a_for, a_sequence, not-sequence, a_match, unknown}
+use Rattle.layout.proofs.TemplateHeads.{room_near, no_node, a_build, a_literal, not_literal, a_place, an_expand, an_if, a_for, a_sequence, not_sequence, a_match, unknown}
 use Rattle.layout.proofs.template.node_head.Goals as goal
 
 pub returns-then-r-ne5 : goal.returns-then-r-ne5
@@ -29,7 +29,7 @@ pub returns-then-r-eq0 : goal.returns-then-r-eq0
 returns-then-r-eq0 c = λ p e f. a_literal _ p _ f c.if-r-ne5.false c.form_of.ensures c.in-Literal.is c.if-r-eq0.true _ (c.text_head.ensures p e f)
 
 pub returns-else-r-eq0 : goal.returns-else-r-eq0
-returns-else-r-eq0 c = λ p e f. not-literal _ p _ f c.if-r-ne5.false c.form_of.ensures c.in-Literal.is c.if-r-eq0.false
+returns-else-r-eq0 c = λ p e f. not_literal _ p _ f c.if-r-ne5.false c.form_of.ensures c.in-Literal.is c.if-r-eq0.false
 
 pub returns-in-Place : goal.returns-in-Place
 returns-in-Place c = λ p e f. a_place _ p _ f c.if-r-ne5.false c.form_of.ensures c.in-Place.is _ (c.bare_path_head.ensures p e f)
@@ -47,7 +47,7 @@ pub returns-then-r-eq0-2 : goal.returns-then-r-eq0-2
 returns-then-r-eq0-2 c = λ p e f. a_sequence _ p _ f c.if-r-ne5.false c.form_of.ensures c.in-Sequence.is c.if-r-eq0-2.true
 
 pub returns-else-r-eq0-2 : goal.returns-else-r-eq0-2
-returns-else-r-eq0-2 c = λ p e f. not-sequence _ p _ f c.if-r-ne5.false c.form_of.ensures c.in-Sequence.is c.if-r-eq0-2.false
+returns-else-r-eq0-2 c = λ p e f. not_sequence _ p _ f c.if-r-ne5.false c.form_of.ensures c.in-Sequence.is c.if-r-eq0-2.false
 
 pub returns-in-Match : goal.returns-in-Match
 returns-in-Match c = λ p e f. a_match _ p _ f c.if-r-ne5.false c.form_of.ensures c.in-Match.is _ (c.path_head.ensures p e f)

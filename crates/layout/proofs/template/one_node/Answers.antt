@@ -2,7 +2,7 @@ use mathlib.Core.Path.{sym, ◌∙◌}
 use native.Mathlib.Omega.{arith}
 use Rattle.laws.specs.Reads.{few_records}
 use Rattle.layout.proofs.CommonLaws.{reach, in_stream}
-use Rattle.layout.proofs.TreeTurns.{one_start, one_not, one_end, turn-long, turn-wrong, turn-stop, turn-go, own-some}
+use Rattle.layout.proofs.TreeTurns.{one_start, one_not, one_end, turn_long, turn_wrong, turn_stop, turn_go, own_some}
 use Rattle.layout.proofs.template.one_node.Goals as goal
 
 pub place_of-at-requires : goal.place_of-at-requires
@@ -24,13 +24,13 @@ pub overflow_add-end : goal.overflow_add-end
 overflow_add-end c = omega (arith, c.size_of-size.ensures.small, c.loop-q.invariant.1)
 
 pub returns-then-e-end : goal.returns-then-e-end
-returns-then-e-end c = sym (turn-long _ _ _ _ _ c.loop-q-test.true (c.size_of-size.ensures.is _ _ (c.fetch_in-r.ensures _ c.loop-q.invariant.0)) c.if-e-end.true) ∙ c.loop-q.invariant.2
+returns-then-e-end c = sym (turn_long _ _ _ _ _ c.loop-q-test.true (c.size_of-size.ensures.is _ _ (c.fetch_in-r.ensures _ c.loop-q.invariant.0)) c.if-e-end.true) ∙ c.loop-q.invariant.2
 
 pub node_head-requires : goal.node_head-requires
 node_head-requires c = record { sized = c.requires.sized; within = record { index = c.loop-q.q; place_is = c.loop-q.invariant.0; near = c.loop-q.invariant.1; inside = omega (arith, c.if-e-end.false, c.requires.inside) }; size_of = c.size_of-size.ensures }
 
 pub returns-in_default : goal.returns-in_default
-returns-in_default c = sym (turn-wrong _ _ _ _ _ c.loop-q-test.true (c.size_of-size.ensures.is _ _ (c.fetch_in-r.ensures _ c.loop-q.invariant.0)) c.if-e-end.false _ (c.node_head.ensures _ c.loop-q.invariant.0 (c.fetch_in-r.ensures _ c.loop-q.invariant.0)) c.in_default.is) ∙ c.loop-q.invariant.2
+returns-in_default c = sym (turn_wrong _ _ _ _ _ c.loop-q-test.true (c.size_of-size.ensures.is _ _ (c.fetch_in-r.ensures _ c.loop-q.invariant.0)) c.if-e-end.false _ (c.node_head.ensures _ c.loop-q.invariant.0 (c.fetch_in-r.ensures _ c.loop-q.invariant.0)) c.in_default.is) ∙ c.loop-q.invariant.2
 
 pub overflow_add-next : goal.overflow_add-next
 overflow_add-next c = omega (arith, c.loop-q-test.true, few_records _ c.requires.sized, c.requires.inside)
@@ -42,13 +42,13 @@ pub chained-requires-in-loop-q : goal.chained-requires-in-loop-q
 chained-requires-in-loop-q c = record { place_is = c.forward-at.ensures _ c.loop-q.invariant.0; within = record { sized = c.requires.sized; near = omega (arith, c.loop-q-test.true, few_records _ c.requires.sized, c.requires.inside); inside = omega (arith, c.if-e-end.false, c.requires.inside) } }
 
 pub returns-then-not-chained-2 : goal.returns-then-not-chained-2
-returns-then-not-chained-2 c = sym (turn-stop _ _ _ _ _ c.loop-q-test.true (c.size_of-size.ensures.is _ _ (c.fetch_in-r.ensures _ c.loop-q.invariant.0)) c.if-e-end.false _ (c.node_head.ensures _ c.loop-q.invariant.0 (c.fetch_in-r.ensures _ c.loop-q.invariant.0)) _ _ c.in-Right.is _ c.chained-in-loop-q.ensures (c.if-not-chained-2.true)) ∙ c.loop-q.invariant.2
+returns-then-not-chained-2 c = sym (turn_stop _ _ _ _ _ c.loop-q-test.true (c.size_of-size.ensures.is _ _ (c.fetch_in-r.ensures _ c.loop-q.invariant.0)) c.if-e-end.false _ (c.node_head.ensures _ c.loop-q.invariant.0 (c.fetch_in-r.ensures _ c.loop-q.invariant.0)) _ _ c.in-Right.is _ c.chained-in-loop-q.ensures (c.if-not-chained-2.true)) ∙ c.loop-q.invariant.2
 
 pub loop-q-smaller : goal.loop-q-smaller
-loop-q-smaller c = omega (arith, c.loop-q-test.true, own-some _ _ _ _ _ c.loop-q-test.true (c.size_of-size.ensures.is _ _ (c.fetch_in-r.ensures _ c.loop-q.invariant.0)) c.if-e-end.false _ (c.node_head.ensures _ c.loop-q.invariant.0 (c.fetch_in-r.ensures _ c.loop-q.invariant.0)) _ _ c.in-Right.is)
+loop-q-smaller c = omega (arith, c.loop-q-test.true, own_some _ _ _ _ _ c.loop-q-test.true (c.size_of-size.ensures.is _ _ (c.fetch_in-r.ensures _ c.loop-q.invariant.0)) c.if-e-end.false _ (c.node_head.ensures _ c.loop-q.invariant.0 (c.fetch_in-r.ensures _ c.loop-q.invariant.0)) _ _ c.in-Right.is)
 
 pub loop-q-preserved : goal.loop-q-preserved
-loop-q-preserved c = (c.forward-at.ensures _ c.loop-q.invariant.0, omega (arith, c.loop-q-test.true, few_records _ c.requires.sized, c.requires.inside), sym (turn-go _ _ _ _ _ c.loop-q-test.true (c.size_of-size.ensures.is _ _ (c.fetch_in-r.ensures _ c.loop-q.invariant.0)) c.if-e-end.false _ (c.node_head.ensures _ c.loop-q.invariant.0 (c.fetch_in-r.ensures _ c.loop-q.invariant.0)) _ _ c.in-Right.is _ c.chained-in-loop-q.ensures (c.if-not-chained-2.false)) ∙ c.loop-q.invariant.2)
+loop-q-preserved c = (c.forward-at.ensures _ c.loop-q.invariant.0, omega (arith, c.loop-q-test.true, few_records _ c.requires.sized, c.requires.inside), sym (turn_go _ _ _ _ _ c.loop-q-test.true (c.size_of-size.ensures.is _ _ (c.fetch_in-r.ensures _ c.loop-q.invariant.0)) c.if-e-end.false _ (c.node_head.ensures _ c.loop-q.invariant.0 (c.fetch_in-r.ensures _ c.loop-q.invariant.0)) _ _ c.in-Right.is _ c.chained-in-loop-q.ensures (c.if-not-chained-2.false)) ∙ c.loop-q.invariant.2)
 
 pub returns : goal.returns
 returns c = sym (one_end _ _ _ _ c.loop-q-test.false) ∙ c.loop-q.invariant.2

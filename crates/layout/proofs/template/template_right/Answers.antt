@@ -1,7 +1,7 @@
 use native.Mathlib.Omega.{arith}
 use Prim.Native.Nat.{◌+◌}
 use Rattle.laws.specs.Reads.{few_records}
-use Rattle.layout.proofs.TemplateLaws.{template_past, template_d, template-row, template_body}
+use Rattle.layout.proofs.TemplateLaws.{template_past, template_d, template_row, template_body}
 use Rattle.layout.proofs.template.template_right.Goals as goal
 
 pub returns-then-r-ne0 : goal.returns-then-r-ne0
@@ -23,7 +23,7 @@ pub in_row-requires : goal.in_row-requires
 in_row-requires c = record { sized = c.requires.sized; index = c.args.p + 1; place_is = c.place_of.ensures; near = omega (arith, c.requires.inside, few_records _ c.requires.sized) }
 
 pub returns-then-not-in_row : goal.returns-then-not-in_row
-returns-then-not-in_row c = template-row _ _ _ c.requires.fetched c.if-r-ne0.false _ (c.in_row.ensures _ c.place_of.ensures) (c.if-not-in_row.true)
+returns-then-not-in_row c = template_row _ _ _ c.requires.fetched c.if-r-ne0.false _ (c.in_row.ensures _ c.place_of.ensures) (c.if-not-in_row.true)
 
 pub overflow_add-p-2 : goal.overflow_add-p-2
 overflow_add-p-2 c = omega (arith, c.requires.inside, few_records _ c.requires.sized)

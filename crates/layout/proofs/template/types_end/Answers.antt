@@ -1,7 +1,7 @@
 use native.Mathlib.Omega.{arith}
 use Rattle.layout.proofs.CommonLaws.{reach}
 use Rattle.layout.proofs.GrammarLaws.{near, inside, kind_here}
-use Rattle.layout.proofs.TemplateLaws.{types_start, types_stop, types-broken, types-go}
+use Rattle.layout.proofs.TemplateLaws.{types_start, types_stop, types_broken, types_go}
 use borrow.Author.Rules.{rules}
 use Rattle.layout.proofs.template.types_end.Goals as goal
 
@@ -15,7 +15,7 @@ pub type_right-requires : goal.type_right-requires
 type_right-requires c = record { sized = c.requires; index = c.loop-at.p; place_is = c.loop-at.invariant.1; near = omega (arith, c.loop-at.invariant.0) }
 
 pub returns-then-not-type_right : goal.returns-then-not-type_right
-returns-then-not-type_right c = types-broken c.requires (c.fetch_at-r.ensures _ c.loop-at.invariant.1) c.loop-at.invariant.2 c.if-r-ne1.false _ (c.type_right.ensures _ c.loop-at.invariant.1 (c.fetch_at-r.ensures _ c.loop-at.invariant.1)) (c.if-not-type_right.true)
+returns-then-not-type_right c = types_broken c.requires (c.fetch_at-r.ensures _ c.loop-at.invariant.1) c.loop-at.invariant.2 c.if-r-ne1.false _ (c.type_right.ensures _ c.loop-at.invariant.1 (c.fetch_at-r.ensures _ c.loop-at.invariant.1)) (c.if-not-type_right.true)
 
 pub overflow_add-p : goal.overflow_add-p
 overflow_add-p c = omega (arith, c.loop-at.invariant.0)
@@ -27,4 +27,4 @@ pub loop-at-smaller : goal.loop-at-smaller
 loop-at-smaller c = omega (arith, inside _ c.requires _ 0 (kind_here (c.fetch_at-r.ensures _ c.loop-at.invariant.1) 1 c.if-r-ne1.false))
 
 pub loop-at-preserved : goal.loop-at-preserved
-loop-at-preserved c = (omega (arith, near (c.fetch_at-r.ensures _ c.loop-at.invariant.1) c.requires 0 c.if-r-ne1.false), c.forward-at.ensures _ c.loop-at.invariant.1, types-go c.requires (c.fetch_at-r.ensures _ c.loop-at.invariant.1) c.loop-at.invariant.2 c.if-r-ne1.false _ (c.type_right.ensures _ c.loop-at.invariant.1 (c.fetch_at-r.ensures _ c.loop-at.invariant.1)) (c.if-not-type_right.false))
+loop-at-preserved c = (omega (arith, near (c.fetch_at-r.ensures _ c.loop-at.invariant.1) c.requires 0 c.if-r-ne1.false), c.forward-at.ensures _ c.loop-at.invariant.1, types_go c.requires (c.fetch_at-r.ensures _ c.loop-at.invariant.1) c.loop-at.invariant.2 c.if-r-ne1.false _ (c.type_right.ensures _ c.loop-at.invariant.1 (c.fetch_at-r.ensures _ c.loop-at.invariant.1)) (c.if-not-type_right.false))

@@ -1,5 +1,5 @@
 use mathlib.Core.Path.{sym, ◌∙◌}
-use Rattle.layout.proofs.ValueLaws.{yes_right, yes_wrong, case_right, case_wrong, used_a, a_text, not-text, a_list, not-list, low_kind, high_kind}
+use Rattle.layout.proofs.ValueLaws.{yes_right, yes_wrong, case_right, case_wrong, used_a, a_text, not_text, a_list, not_list, low_kind, high_kind}
 use native.Mathlib.Omega.{arith}
 use Rattle.layout.proofs.value.value_head.Goals as goal
 
@@ -25,13 +25,13 @@ pub returns-then-r-eq0 : goal.returns-then-r-eq0
 returns-then-r-eq0 c = λ p e f. a_text _ p _ f c.if-r-ne0.false c.in-1.is c.if-r-eq0.true _ (c.text_head.ensures p e f)
 
 pub returns-else-r-eq0 : goal.returns-else-r-eq0
-returns-else-r-eq0 c = λ p e f. not-text _ p _ f c.if-r-ne0.false c.in-1.is c.if-r-eq0.false
+returns-else-r-eq0 c = λ p e f. not_text _ p _ f c.if-r-ne0.false c.in-1.is c.if-r-eq0.false
 
 pub returns-then-r-eq0-2 : goal.returns-then-r-eq0-2
 returns-then-r-eq0-2 c = λ p e f. a_list _ p _ f c.if-r-ne0.false (omega (arith, c.in-3)) (omega (arith, c.in-3)) c.if-r-eq0-2.true
 
 pub returns-else-r-eq0-2 : goal.returns-else-r-eq0-2
-returns-else-r-eq0-2 c = λ p e f. not-list _ p _ f c.if-r-ne0.false (omega (arith, c.in-3)) (omega (arith, c.in-3)) c.if-r-eq0-2.false
+returns-else-r-eq0-2 c = λ p e f. not_list _ p _ f c.if-r-ne0.false (omega (arith, c.in-3)) (omega (arith, c.in-3)) c.if-r-eq0-2.false
 
 pub returns-in_default : goal.returns-in_default
 returns-in_default c = λ p e f. low_kind _ p _ f (omega (arith, c.in_default)) c.if-kind-eq2.false (omega (arith, c.in_default))

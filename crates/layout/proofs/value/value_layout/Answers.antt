@@ -8,7 +8,7 @@ pub returns-then-record_count-e : goal.returns-then-record_count-e
 returns-then-record_count-e c = (value_past _ _ (c.size_of-e.ensures.is _ 0 c.fetch.ensures) (omega (arith, c.if-record_count-e.true, c.record_count.ensures)), λ z. absurd (false≢true z))
 
 pub one_value-requires : goal.one_value-requires
-one_value-requires c = record { sized = c.requires.v_value; size_is = (c.size_of-e.ensures.is _ 0 c.fetch.ensures); inside = omega (arith, c.if-record_count-e.false, c.record_count.ensures); firsts_room = c.requires.v_in_bounds; places_room = c.requires.v_in_bounds_2 }
+one_value-requires c = record { sized = c.requires.v_value; size_is = (c.size_of-e.ensures.is _ 0 c.fetch.ensures); inside = omega (arith, c.if-record_count-e.false, c.record_count.ensures); firsts_room = c.requires.firsts_room; places_room = c.requires.places_room }
 
 pub returns-then-not-one_value : goal.returns-then-not-one_value
 returns-then-not-one_value c = (value_wrong _ _ (c.size_of-e.ensures.is _ 0 c.fetch.ensures) (sym (c.if-not-one_value.true) ∙ c.one_value.ensures.is), λ z. absurd (false≢true z))

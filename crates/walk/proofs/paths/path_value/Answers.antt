@@ -1,5 +1,5 @@
 use native.Mathlib.Omega.{arith}
-use Rattle.walk.proofs.PathLaws.{got, lost, path_missing, steps_start, steps_end, steps-stop, steps_next}
+use Rattle.walk.proofs.PathLaws.{got, lost, path_missing, steps_start, steps_end, steps_stop, steps_next}
 use Rattle.walk.proofs.paths.path_value.Goals as goal
 
 pub fetch-path-requires : goal.fetch-path-requires
@@ -21,7 +21,7 @@ pub field-requires : goal.field-requires
 field-requires c = (c.requires.value_lent, c.loop-i.invariant.stands)
 
 pub returns-in_default-field : goal.returns-in_default-field
-returns-in_default-field c = steps-stop c.loop-i.invariant _ c.steps_of-n.ensures.0 c.loop-i-test.true _ c.step_at.ensures (lost c.field.ensures.is c.in_default-field.is)
+returns-in_default-field c = steps_stop c.loop-i.invariant _ c.steps_of-n.ensures.0 c.loop-i-test.true _ c.step_at.ensures (lost c.field.ensures.is c.in_default-field.is)
 
 pub overflow_add-i : goal.overflow_add-i
 overflow_add-i c = record { fits = omega (arith, c.loop-i-test.true, c.steps_of-n.ensures.1) }

@@ -7,16 +7,16 @@ use Rattle.walk.specs.Nodes.{after_at, ended_at}
 use Rattle.walk.proofs.PathLaws.{got, lost}
 use Rattle.walk.proofs.RunLaws.{visited_stuck}
 use Rattle.walk.proofs.MarkLaws.{heads_some}
-use Rattle.walk.proofs.FormLaws.{literal_is, place_is, unknown_is, build_none, if-lost, if-other, if-is, match-lost, match-other, match-missing, for_piece, listed_none, listed-other, for-none}
+use Rattle.walk.proofs.FormLaws.{literal_is, place_is, unknown_is, build_none, if_lost, if_other, if_is, match_lost, match_other, match_missing, for_piece, listed_none, listed_other, for_none}
 use Rattle.walk.proofs.SeparatorLaws.{Apart, due_later}
-use Rattle.walk.proofs.LoopLaws.{follows, vars_inside, after_level, below-falls, sequence_lost, sequence_start, sequence-end, items-few}
-use Rattle.walk.proofs.LoopLaws.{turns-visitable, turns-for, turns-stop, turns_next, apart-room, apart-stop, apart-skipped, apart-written, item-visitable, item-falls, item-stop, item-next}
-use Rattle.walk.proofs.ForLaws.{for_start, for-end, turn_room, for-there, for-slot, for-apart-stop, past-none, past-written, for_level, for-vars, for-visitable, for-falls, for-stop, for-next}
+use Rattle.walk.proofs.LoopLaws.{follows, vars_inside, after_level, below_falls, sequence_lost, sequence_start, sequence_end, items_few}
+use Rattle.walk.proofs.LoopLaws.{turns_visitable, turns_for, turns_stop, turns_next, apart_room, apart_stop, apart_skipped, apart_written, item_visitable, item_falls, item_stop, item_next}
+use Rattle.walk.proofs.ForLaws.{for_start, for_end, turn_room, for_there, for_slot, for_apart_stop, past_none, past_written, for_level, for_vars, for_visitable, for_falls, for_stop, for_next}
 use Rattle.walk.proofs.ForLaws.{turned_over, list_there, turned_whole}
-use Rattle.walk.proofs.BuildLaws.{build_start, build-end, write-asks, keyword-stop, keyword-next, child-missing, child-visitable, child-falls, child-stop, child-next}
-use Rattle.walk.proofs.EnterLaws.{falls_there, branch_visitable, branch_visited, expand_missing, count_few, expand-room, enter-lost, enter-visitable, enter-falls, enter-visited}
-use Rattle.walk.proofs.MatchLaws.{no_arm, an_arm, arm_there, arm_vars, arm-visitable, arm-falls, arm-visited}
-use Rattle.walk.proofs.EnterLaws.{spent_visited, deepest-visited, form-asked, form_falls, form_here, form-formed, form-visited, form-ran}
+use Rattle.walk.proofs.BuildLaws.{build_start, build_end, write_asks, keyword_stop, keyword_next, child_missing, child_visitable, child_falls, child_stop, child_next}
+use Rattle.walk.proofs.EnterLaws.{falls_there, branch_visitable, branch_visited, expand_missing, count_few, expand_room, enter_lost, enter_visitable, enter_falls, enter_visited}
+use Rattle.walk.proofs.MatchLaws.{no_arm, an_arm, arm_there, arm_vars, arm_visitable, arm_falls, arm_visited}
+use Rattle.walk.proofs.EnterLaws.{spent_visited, deepest_visited, form_asked, form_falls, form_here, form_formed, form_visited, form_ran}
 use borrow.Author.Rules.{rules}
 use Rattle.walk.proofs.visits.+visits.Goals as goal
 use Rattle.walk.proofs.visits.+visits.Goals.{for_items-then-is_due+else-written-ne0, for_items-else-is_due, sequence_items-then-is_due+else-r-ne0-2, sequence_items-else-is_due}
@@ -43,7 +43,7 @@ pub build_items-overflow_add-turn : goal.build_items-overflow_add-turn
 build_items-overflow_add-turn t c = record { fits = omega (arith, c.loop-taken.invariant.count_few, c.loop-taken-test.true) }
 
 pub build_items-write-written-requires : goal.build_items-write-written-requires
-build_items-write-written-requires t c = (c.requires.0.visitable.lent.grammar_sized, write-asks c.requires.0 c.loop-taken.invariant c.loop-taken-test.true c.fetch-e.ensures)
+build_items-write-written-requires t c = (c.requires.0.visitable.lent.grammar_sized, write_asks c.requires.0 c.loop-taken.invariant c.loop-taken-test.true c.fetch-e.ensures)
 
 pub build_items-shape_of-out-then-written-ne0 : goal.build_items-shape_of-out-then-written-ne0
 build_items-shape_of-out-then-written-ne0 t c = c.write-written.auto.out ∙ c.loop-taken.invariant.going.len
@@ -52,7 +52,7 @@ pub build_items-shape_of-scratch-then-written-ne0 : goal.build_items-shape_of-sc
 build_items-shape_of-scratch-then-written-ne0 t c = c.loop-taken.invariant.going.lens
 
 pub build_items-returns-then-written-ne0 : goal.build_items-returns-then-written-ne0
-build_items-returns-then-written-ne0 t c = keyword-stop c.requires.0 c.loop-taken.invariant c.loop-taken-test.true c.fetch-e.ensures c.if-e-eq0.true c.write-written.ensures c.write-written.auto.out c.if-written-ne0.true
+build_items-returns-then-written-ne0 t c = keyword_stop c.requires.0 c.loop-taken.invariant c.loop-taken-test.true c.fetch-e.ensures c.if-e-eq0.true c.write-written.ensures c.write-written.auto.out c.if-written-ne0.true
 
 pub build_items-overflow_add-element-then-e-eq0 : goal.build_items-overflow_add-element-then-e-eq0
 build_items-overflow_add-element-then-e-eq0 t c = record { fits = omega (arith, c.loop-taken.invariant.near, c.loop-taken.invariant.place_few, c.loop-taken.invariant.count_few, c.loop-taken-test.true, c.size_of-element.ensures.small) }
@@ -61,7 +61,7 @@ pub build_items-loop-taken-smaller-then-e-eq0 : goal.build_items-loop-taken-smal
 build_items-loop-taken-smaller-then-e-eq0 t c = omega (arith, c.loop-taken-test.true)
 
 pub build_items-loop-taken-preserved-then-e-eq0 : goal.build_items-loop-taken-preserved-then-e-eq0
-build_items-loop-taken-preserved-then-e-eq0 t c = keyword-next c.requires.0 c.loop-taken.invariant c.loop-taken-test.true c.fetch-e.ensures c.if-e-eq0.true c.write-written.ensures c.write-written.auto.out c.if-written-ne0.false c.after-here.ensures _ c.size_of-element.ensures
+build_items-loop-taken-preserved-then-e-eq0 t c = keyword_next c.requires.0 c.loop-taken.invariant c.loop-taken-test.true c.fetch-e.ensures c.if-e-eq0.true c.write-written.ensures c.write-written.auto.out c.if-written-ne0.false c.after-here.ensures _ c.size_of-element.ensures
 
 pub build_items-shape_of-out-then-head-used : goal.build_items-shape_of-out-then-head-used
 build_items-shape_of-out-then-head-used t c = c.loop-taken.invariant.going.len
@@ -70,7 +70,7 @@ pub build_items-shape_of-scratch-then-head-used : goal.build_items-shape_of-scra
 build_items-shape_of-scratch-then-head-used t c = c.loop-taken.invariant.going.lens
 
 pub build_items-returns-then-head-used : goal.build_items-returns-then-head-used
-build_items-returns-then-head-used t c = child-missing c.requires.0 c.loop-taken.invariant c.loop-taken-test.true c.fetch-e.ensures c.if-e-eq0.false c.if-head-used.true c.stuck-then-head-used.ensures
+build_items-returns-then-head-used t c = child_missing c.requires.0 c.loop-taken.invariant c.loop-taken-test.true c.fetch-e.ensures c.if-e-eq0.false c.if-head-used.true c.stuck-then-head-used.ensures
 
 pub build_items-below-below-requires : goal.build_items-below-below-requires
 build_items-below-below-requires t c = after_level c.requires.0 c.loop-taken.invariant.going c.loop-taken.invariant.is
@@ -82,7 +82,7 @@ pub build_items-overflow_add-used : goal.build_items-overflow_add-used
 build_items-overflow_add-used t c = record { fits = omega (arith, c.loop-taken.invariant.used_few, c.loop-taken.invariant.count_few, c.loop-taken-test.true) }
 
 pub build_items-visit-end-requires : goal.build_items-visit-end-requires
-build_items-visit-end-requires t c = (omega (arith, c.decreases, child-falls c.requires.0 c.loop-taken.invariant c.loop-taken-test.true c.fetch-e.ensures c.if-e-eq0.false c.if-head-used.false c.below-below.ensures), child-visitable c.requires.0 c.loop-taken.invariant c.loop-taken-test.true c.fetch-e.ensures c.if-e-eq0.false c.if-head-used.false c.below-below.ensures)
+build_items-visit-end-requires t c = (omega (arith, c.decreases, child_falls c.requires.0 c.loop-taken.invariant c.loop-taken-test.true c.fetch-e.ensures c.if-e-eq0.false c.if-head-used.false c.below-below.ensures), child_visitable c.requires.0 c.loop-taken.invariant c.loop-taken-test.true c.fetch-e.ensures c.if-e-eq0.false c.if-head-used.false c.below-below.ensures)
 
 pub build_items-shape_of-out-then-end-ne0 : goal.build_items-shape_of-out-then-end-ne0
 build_items-shape_of-out-then-end-ne0 t c = c.visit-end.auto.out ∙ c.loop-taken.invariant.going.len
@@ -91,7 +91,7 @@ pub build_items-shape_of-scratch-then-end-ne0 : goal.build_items-shape_of-scratc
 build_items-shape_of-scratch-then-end-ne0 t c = c.visit-end.auto.scratch ∙ c.loop-taken.invariant.going.lens
 
 pub build_items-returns-then-end-ne0 : goal.build_items-returns-then-end-ne0
-build_items-returns-then-end-ne0 t c = child-stop c.requires.0 c.loop-taken.invariant c.loop-taken-test.true c.fetch-e.ensures c.if-e-eq0.false c.if-head-used.false c.below-below.ensures c.visit-end.ensures c.visit-end.auto.out c.if-end-ne0.true
+build_items-returns-then-end-ne0 t c = child_stop c.requires.0 c.loop-taken.invariant c.loop-taken-test.true c.fetch-e.ensures c.if-e-eq0.false c.if-head-used.false c.below-below.ensures c.visit-end.ensures c.visit-end.auto.out c.if-end-ne0.true
 
 pub build_items-size_at-child-requires : goal.build_items-size_at-child-requires
 build_items-size_at-child-requires t c = c.requires.0.visitable.lent.templates_sized
@@ -103,7 +103,7 @@ pub build_items-loop-taken-smaller : goal.build_items-loop-taken-smaller
 build_items-loop-taken-smaller t c = omega (arith, c.loop-taken-test.true)
 
 pub build_items-loop-taken-preserved : goal.build_items-loop-taken-preserved
-build_items-loop-taken-preserved t c = child-next c.requires.0 c.loop-taken.invariant c.loop-taken-test.true c.fetch-e.ensures c.if-e-eq0.false c.if-head-used.false c.below-below.ensures c.visit-end.ensures c.visit-end.auto.out c.if-end-ne0.false c.visit-end.auto.scratch c.after-here-else-e-eq0.ensures _ c.size_of-element-else-e-eq0.ensures _ c.size_at-child.ensures.0 c.size_at-child.ensures.1
+build_items-loop-taken-preserved t c = child_next c.requires.0 c.loop-taken.invariant c.loop-taken-test.true c.fetch-e.ensures c.if-e-eq0.false c.if-head-used.false c.below-below.ensures c.visit-end.ensures c.visit-end.auto.out c.if-end-ne0.false c.visit-end.auto.scratch c.after-here-else-e-eq0.ensures _ c.size_of-element-else-e-eq0.ensures _ c.size_at-child.ensures.0 c.size_at-child.ensures.1
 
 pub build_items-shape_of-out : goal.build_items-shape_of-out
 build_items-shape_of-out t c = c.loop-taken.invariant.going.len
@@ -112,7 +112,7 @@ pub build_items-shape_of-scratch : goal.build_items-shape_of-scratch
 build_items-shape_of-scratch t c = c.loop-taken.invariant.going.lens
 
 pub build_items-returns : goal.build_items-returns
-build_items-returns t c = build-end c.requires.0 c.loop-taken.invariant c.loop-taken-test.false c.going.ensures
+build_items-returns t c = build_end c.requires.0 c.loop-taken.invariant c.loop-taken-test.false c.going.ensures
 
 pub expand_body-returns-in_default : goal.expand_body-returns-in_default
 expand_body-returns-in_default t c = visited_stuck c.args.at c.requires.0.visitable.room c.stuck.ensures (expand_missing c.requires.0 _ c.requires.1.b (lost c.head_at.ensures c.in_default.is))
@@ -127,19 +127,19 @@ pub expand_body-overflow_add-next : goal.expand_body-overflow_add-next
 expand_body-overflow_add-next t c = record { fits = omega (arith, vars_inside c.requires.0, c.well_formed.1.1.1.1.1.1.1.1.1.0.0) }
 
 pub expand_body-pass-requires : goal.expand_body-pass-requires
-expand_body-pass-requires t c = (follows c.requires.0, expand-room c.requires.0 _ c.requires.1.b (got c.head_at.ensures c.in-Found.is) _ c.requires.1.d, omega (arith, c.requires.0.visitable.near, count_few c.requires.0 _ c.requires.1.b (got c.head_at.ensures c.in-Found.is) _ c.requires.1.d))
+expand_body-pass-requires t c = (follows c.requires.0, expand_room c.requires.0 _ c.requires.1.b (got c.head_at.ensures c.in-Found.is) _ c.requires.1.d, omega (arith, c.requires.0.visitable.near, count_few c.requires.0 _ c.requires.1.b (got c.head_at.ensures c.in-Found.is) _ c.requires.1.d))
 
 pub expand_body-shape_of-scratch-then-not-pass : goal.expand_body-shape_of-scratch-then-not-pass
 expand_body-shape_of-scratch-then-not-pass t c = c.pass.auto.scratch
 
 pub expand_body-returns-then-not-pass : goal.expand_body-returns-then-not-pass
-expand_body-returns-then-not-pass t c = enter-lost c.requires.0 _ c.requires.1.b (got c.head_at.ensures c.in-Found.is) _ c.requires.1.d c.pass.ensures c.pass.auto.scratch (c.if-not-pass.true) c.stuck-then-not-pass.ensures
+expand_body-returns-then-not-pass t c = enter_lost c.requires.0 _ c.requires.1.b (got c.head_at.ensures c.in-Found.is) _ c.requires.1.d c.pass.ensures c.pass.auto.scratch (c.if-not-pass.true) c.stuck-then-not-pass.ensures
 
 pub expand_body-below-requires : goal.expand_body-below-requires
 expand_body-below-requires t c = c.requires.0.level
 
 pub expand_body-visit-requires : goal.expand_body-visit-requires
-expand_body-visit-requires t c = (omega (arith, c.decreases, enter-falls c.requires.0 _ c.requires.1.b (got c.head_at.ensures c.in-Found.is) _ c.requires.1.d c.pass.ensures c.pass.auto.scratch (c.if-not-pass.false) _ c.body_of-body.ensures.0 c.below.ensures c.framed-below.ensures), enter-visitable c.requires.0 _ c.requires.1.b (got c.head_at.ensures c.in-Found.is) _ c.requires.1.d c.pass.ensures c.pass.auto.scratch (c.if-not-pass.false) _ c.body_of-body.ensures.0 c.below.ensures c.framed-below.ensures c.body_of-body.ensures.1)
+expand_body-visit-requires t c = (omega (arith, c.decreases, enter_falls c.requires.0 _ c.requires.1.b (got c.head_at.ensures c.in-Found.is) _ c.requires.1.d c.pass.ensures c.pass.auto.scratch (c.if-not-pass.false) _ c.body_of-body.ensures.0 c.below.ensures c.framed-below.ensures), enter_visitable c.requires.0 _ c.requires.1.b (got c.head_at.ensures c.in-Found.is) _ c.requires.1.d c.pass.ensures c.pass.auto.scratch (c.if-not-pass.false) _ c.body_of-body.ensures.0 c.below.ensures c.framed-below.ensures c.body_of-body.ensures.1)
 
 pub expand_body-shape_of-out : goal.expand_body-shape_of-out
 expand_body-shape_of-out t c = c.visit.auto.out
@@ -148,7 +148,7 @@ pub expand_body-shape_of-scratch : goal.expand_body-shape_of-scratch
 expand_body-shape_of-scratch t c = c.visit.auto.scratch ∙ c.pass.auto.scratch
 
 pub expand_body-returns : goal.expand_body-returns
-expand_body-returns t c = enter-visited c.requires.0 _ c.requires.1.b (got c.head_at.ensures c.in-Found.is) _ c.requires.1.d c.pass.ensures c.pass.auto.scratch (c.if-not-pass.false) _ c.body_of-body.ensures.0 c.below.ensures c.framed-below.ensures c.visit.ensures
+expand_body-returns t c = enter_visited c.requires.0 _ c.requires.1.b (got c.head_at.ensures c.in-Found.is) _ c.requires.1.d c.pass.ensures c.pass.auto.scratch (c.if-not-pass.false) _ c.body_of-body.ensures.0 c.below.ensures c.framed-below.ensures c.visit.ensures
 
 pub for_items-overflow_add-body : goal.for_items-overflow_add-body
 for_items-overflow_add-body t c = record { fits = omega (arith, c.requires.0.visitable.near) }
@@ -169,22 +169,22 @@ pub for_items-shape_of-scratch-then-written-ne0 : goal.for_items-shape_of-scratc
 for_items-shape_of-scratch-then-written-ne0 t c = c.loop-done.invariant.going.lens
 
 pub for_items-returns-then-written-ne0 : goal.for_items-returns-then-written-ne0
-for_items-returns-then-written-ne0 t c = for-apart-stop c.requires.0 c.requires.1 c.loop-done.invariant c.loop-done-test.true (c.separate-written.ensures _ (due_later _ _ (sym c.is_due.ensures ∙ c.if-is_due.true))) c.separate-written.auto.out c.if-written-ne0.true
+for_items-returns-then-written-ne0 t c = for_apart_stop c.requires.0 c.requires.1 c.loop-done.invariant c.loop-done-test.true (c.separate-written.ensures _ (due_later _ _ (sym c.is_due.ensures ∙ c.if-is_due.true))) c.separate-written.auto.out c.if-written-ne0.true
 
 for_items_past : (t : ℕ) (c : goal.for_items-Joined-is_due t)
     → Apart c.args.g.now c.args.sep (c.args.before + c.loop-done.done) c.loop-done.here c.loop-done.out (ended_at 0 c.if-is_due.here) c.if-is_due.out
     × (c.if-is_due.here ≡ after_at c.args.at (ended_at 0 c.if-is_due.here))
 for_items_past t c =
     elim c.if-is_due.branch [
-      | for_items-then-is_due+else-written-ne0 w ↦ past-written c.requires.0 c.requires.1 c.loop-done.invariant c.loop-done-test.true (w.separate-written.ensures _ (due_later _ _ (sym c.is_due.ensures ∙ w.if-is_due.true))) w.separate-written.auto.out w.if-written-ne0.false w.after-here.ensures w.out-is w.here-is
-      | for_items-else-is_due w ↦ past-none c.requires.0 c.requires.1 c.loop-done.invariant c.loop-done-test.true (sym c.is_due.ensures ∙ w.if-is_due.false) w.out-is w.here-is
+      | for_items-then-is_due+else-written-ne0 w ↦ past_written c.requires.0 c.requires.1 c.loop-done.invariant c.loop-done-test.true (w.separate-written.ensures _ (due_later _ _ (sym c.is_due.ensures ∙ w.if-is_due.true))) w.separate-written.auto.out w.if-written-ne0.false w.after-here.ensures w.out-is w.here-is
+      | for_items-else-is_due w ↦ past_none c.requires.0 c.requires.1 c.loop-done.invariant c.loop-done-test.true (sym c.is_due.ensures ∙ w.if-is_due.false) w.out-is w.here-is
     ]
 
 pub for_items-child_at-item-requires : goal.for_items-child_at-item-requires
-for_items-child_at-item-requires t c = for-there c.requires.0 c.requires.1 c.loop-done.invariant c.loop-done-test.true
+for_items-child_at-item-requires t c = for_there c.requires.0 c.requires.1 c.loop-done.invariant c.loop-done-test.true
 
 pub for_items-bind-requires : goal.for_items-bind-requires
-for_items-bind-requires t c = for-slot c.requires.0 c.requires.1 c.loop-done.invariant c.loop-done-test.true
+for_items-bind-requires t c = for_slot c.requires.0 c.requires.1 c.loop-done.invariant c.loop-done-test.true
 
 pub for_items-below-requires : goal.for_items-below-requires
 for_items-below-requires t c =
@@ -194,12 +194,12 @@ for_items-below-requires t c =
 pub for_items-bound-below-requires : goal.for_items-bound-below-requires
 for_items-bound-below-requires t c =
     let past = for_items_past t (record { before = c.before.before.before.before.before.before.before; type_inv = record { ts = c.type_inv.ts; places = c.type_inv.places; firsts = c.type_inv.firsts; v = c.type_inv.v; ps = c.type_inv.ps; t = c.type_inv.t; g = c.type_inv.g } }) in
-    for-vars c.requires.0 c.requires.1 c.loop-done.invariant c.loop-done-test.true past.0 past.1 c.below.ensures
+    for_vars c.requires.0 c.requires.1 c.loop-done.invariant c.loop-done-test.true past.0 past.1 c.below.ensures
 
 pub for_items-visit-end-requires : goal.for_items-visit-end-requires
 for_items-visit-end-requires t c =
     let past = for_items_past t (record { before = c.before.before.before.before.before.before.before.before.before.before; type_inv = record { ts = c.type_inv.ts; places = c.type_inv.places; firsts = c.type_inv.firsts; v = c.type_inv.v; ps = c.type_inv.ps; t = c.type_inv.t; g = c.type_inv.g } }) in
-    (omega (arith, c.decreases, for-falls c.requires.0 c.requires.1 c.loop-done.invariant c.loop-done-test.true past.0 past.1 _ c.child_at-item.ensures _ c.bind.ensures c.bind.auto.scratch c.below.ensures c.bound-below.ensures), for-visitable c.requires.0 c.requires.1 c.loop-done.invariant c.loop-done-test.true past.0 past.1 _ c.child_at-item.ensures _ c.bind.ensures c.bind.auto.scratch c.below.ensures c.bound-below.ensures)
+    (omega (arith, c.decreases, for_falls c.requires.0 c.requires.1 c.loop-done.invariant c.loop-done-test.true past.0 past.1 _ c.child_at-item.ensures _ c.bind.ensures c.bind.auto.scratch c.below.ensures c.bound-below.ensures), for_visitable c.requires.0 c.requires.1 c.loop-done.invariant c.loop-done-test.true past.0 past.1 _ c.child_at-item.ensures _ c.bind.ensures c.bind.auto.scratch c.below.ensures c.bound-below.ensures)
 
 pub for_items-shape_of-out-then-end-ne0 : goal.for_items-shape_of-out-then-end-ne0
 for_items-shape_of-out-then-end-ne0 t c =
@@ -212,7 +212,7 @@ for_items-shape_of-scratch-then-end-ne0 t c = c.visit-end.auto.scratch ∙ c.bin
 pub for_items-returns-then-end-ne0 : goal.for_items-returns-then-end-ne0
 for_items-returns-then-end-ne0 t c =
     let past = for_items_past t (record { before = c.before.before.before.before.before.before.before.before.before.before.before.before.before.before.before.before.before; type_inv = record { ts = c.type_inv.ts; places = c.type_inv.places; firsts = c.type_inv.firsts; v = c.type_inv.v; ps = c.type_inv.ps; t = c.type_inv.t; g = c.type_inv.g } }) in
-    for-stop c.requires.0 c.requires.1 c.loop-done.invariant c.loop-done-test.true past.0 past.1 _ c.child_at-item.ensures _ c.bind.ensures c.bind.auto.scratch c.below.ensures c.bound-below.ensures c.visit-end.ensures c.visit-end.auto.out c.if-end-ne0.true
+    for_stop c.requires.0 c.requires.1 c.loop-done.invariant c.loop-done-test.true past.0 past.1 _ c.child_at-item.ensures _ c.bind.ensures c.bind.auto.scratch c.below.ensures c.bound-below.ensures c.visit-end.ensures c.visit-end.auto.out c.if-end-ne0.true
 
 pub for_items-overflow_add-turn : goal.for_items-overflow_add-turn
 for_items-overflow_add-turn t c = record { fits = omega (arith, c.loop-done-test.true, c.requires.1.few) }
@@ -223,7 +223,7 @@ for_items-loop-done-smaller t c = omega (arith, c.loop-done-test.true)
 pub for_items-loop-done-preserved : goal.for_items-loop-done-preserved
 for_items-loop-done-preserved t c =
     let past = for_items_past t (record { before = c.before.before.before.before.before.before.before.before.before.before.before.before.before.before.before.before.before.before; type_inv = record { ts = c.type_inv.ts; places = c.type_inv.places; firsts = c.type_inv.firsts; v = c.type_inv.v; ps = c.type_inv.ps; t = c.type_inv.t; g = c.type_inv.g } }) in
-    for-next c.requires.0 c.requires.1 c.loop-done.invariant c.loop-done-test.true past.0 past.1 _ c.child_at-item.ensures _ c.bind.ensures c.bind.auto.scratch c.below.ensures c.bound-below.ensures c.visit-end.ensures c.visit-end.auto.out c.if-end-ne0.false c.visit-end.auto.scratch c.after-here-in-loop-done.ensures
+    for_next c.requires.0 c.requires.1 c.loop-done.invariant c.loop-done-test.true past.0 past.1 _ c.child_at-item.ensures _ c.bind.ensures c.bind.auto.scratch c.below.ensures c.bound-below.ensures c.visit-end.ensures c.visit-end.auto.out c.if-end-ne0.false c.visit-end.auto.scratch c.after-here-in-loop-done.ensures
 
 pub for_items-shape_of-out : goal.for_items-shape_of-out
 for_items-shape_of-out t c = c.loop-done.invariant.going.len
@@ -232,7 +232,7 @@ pub for_items-shape_of-scratch : goal.for_items-shape_of-scratch
 for_items-shape_of-scratch t c = c.loop-done.invariant.going.lens
 
 pub for_items-returns : goal.for_items-returns
-for_items-returns t c = for-end c.requires.0 c.requires.1 c.loop-done.invariant c.loop-done-test.false c.going.ensures
+for_items-returns t c = for_end c.requires.0 c.requires.1 c.loop-done.invariant c.loop-done-test.false c.going.ensures
 
 pub for_node-returns-then-spent : goal.for_node-returns-then-spent
 for_node-returns-then-spent t c = rw c.turned.ensures (turned_over 10 c.args.at (λ z. omega arith) c.ended.ensures (spent_visited c.requires.0 _ (leb-true _ _ (sym c.spent.ensures ∙ c.if-spent.true)) c.ended.ensures))
@@ -241,19 +241,19 @@ pub for_node-counted-here-requires : goal.for_node-counted-here-requires
 for_node-counted-here-requires t c = leb-false _ _ (sym c.spent.ensures ∙ c.if-spent.false)
 
 pub for_node-returns-then-at-eq0 : goal.for_node-returns-then-at-eq0
-for_node-returns-then-at-eq0 t c = rw c.turned-then-at-eq0.ensures (turned_over 11 c.counted-here.result (λ z. omega arith) c.ended-then-at-eq0.ensures (deepest-visited c.requires.0 _ (leb-false _ _ (sym c.spent.ensures ∙ c.if-spent.false)) c.counted-here.ensures c.if-at-eq0.true c.ended-then-at-eq0.ensures))
+for_node-returns-then-at-eq0 t c = rw c.turned-then-at-eq0.ensures (turned_over 11 c.counted-here.result (λ z. omega arith) c.ended-then-at-eq0.ensures (deepest_visited c.requires.0 _ (leb-false _ _ (sym c.spent.ensures ∙ c.if-spent.false)) c.counted-here.ensures c.if-at-eq0.true c.ended-then-at-eq0.ensures))
 
 pub for_node-overflow_add-path : goal.for_node-overflow_add-path
-for_node-overflow_add-path t c = record { fits = omega (arith, (form-formed c.requires.0 (leb-false _ _ (sym c.spent.ensures ∙ c.if-spent.false)) c.counted-here.ensures c.if-at-eq0.false c.requires.1).visitable.near) }
+for_node-overflow_add-path t c = record { fits = omega (arith, (form_formed c.requires.0 (leb-false _ _ (sym c.spent.ensures ∙ c.if-spent.false)) c.counted-here.ensures c.if-at-eq0.false c.requires.1).visitable.near) }
 
 pub for_node-path_value-requires : goal.for_node-path_value-requires
-for_node-path_value-requires t c = follows (form-formed c.requires.0 (leb-false _ _ (sym c.spent.ensures ∙ c.if-spent.false)) c.counted-here.ensures c.if-at-eq0.false c.requires.1)
+for_node-path_value-requires t c = follows (form_formed c.requires.0 (leb-false _ _ (sym c.spent.ensures ∙ c.if-spent.false)) c.counted-here.ensures c.if-at-eq0.false c.requires.1)
 
 pub for_node-shape_of-scratch-in_default : goal.for_node-shape_of-scratch-in_default
 for_node-shape_of-scratch-in_default t c = refl
 
 pub for_node-returns-in_default : goal.for_node-returns-in_default
-for_node-returns-in_default t c = rw c.turned-in_default.ensures (turned_over 99 c.counted-here.result (λ z. omega arith) c.stuck.ensures (form-asked c.requires.0 _ (leb-false _ _ (sym c.spent.ensures ∙ c.if-spent.false)) c.counted-here.ensures c.if-at-eq0.false c.requires.1 (visited_stuck c.counted-here.result (form-formed c.requires.0 (leb-false _ _ (sym c.spent.ensures ∙ c.if-spent.false)) c.counted-here.ensures c.if-at-eq0.false c.requires.1).visitable.room c.stuck.ensures (for-none _ _ _ _ _ _ _ _ _ _ _ (listed_none _ _ _ _ _ _ _ (lost c.path_value.ensures.is c.in_default.is))))))
+for_node-returns-in_default t c = rw c.turned-in_default.ensures (turned_over 99 c.counted-here.result (λ z. omega arith) c.stuck.ensures (form_asked c.requires.0 _ (leb-false _ _ (sym c.spent.ensures ∙ c.if-spent.false)) c.counted-here.ensures c.if-at-eq0.false c.requires.1 (visited_stuck c.counted-here.result (form_formed c.requires.0 (leb-false _ _ (sym c.spent.ensures ∙ c.if-spent.false)) c.counted-here.ensures c.if-at-eq0.false c.requires.1).visitable.room c.stuck.ensures (for_none _ _ _ _ _ _ _ _ _ _ _ (listed_none _ _ _ _ _ _ _ (lost c.path_value.ensures.is c.in_default.is))))))
 
 pub for_node-fetch-list-requires : goal.for_node-fetch-list-requires
 for_node-fetch-list-requires t c = c.requires.0.lent.value_lent.sized
@@ -262,10 +262,10 @@ pub for_node-shape_of-scratch-then-list-ne3 : goal.for_node-shape_of-scratch-the
 for_node-shape_of-scratch-then-list-ne3 t c = refl
 
 pub for_node-returns-then-list-ne3 : goal.for_node-returns-then-list-ne3
-for_node-returns-then-list-ne3 t c = rw c.turned-then-list-ne3.ensures (turned_over 99 c.counted-here.result (λ z. omega arith) c.stuck-then-list-ne3.ensures (form-asked c.requires.0 _ (leb-false _ _ (sym c.spent.ensures ∙ c.if-spent.false)) c.counted-here.ensures c.if-at-eq0.false c.requires.1 (visited_stuck c.counted-here.result (form-formed c.requires.0 (leb-false _ _ (sym c.spent.ensures ∙ c.if-spent.false)) c.counted-here.ensures c.if-at-eq0.false c.requires.1).visitable.room c.stuck-then-list-ne3.ensures (for-none _ _ _ _ _ _ _ _ _ _ _ (listed-other _ _ _ _ _ _ _ _ (got c.path_value.ensures.is c.in-Found.is) (λ e. c.if-list-ne3.true (c.fetch-list.ensures.kind ∙ e)))))))
+for_node-returns-then-list-ne3 t c = rw c.turned-then-list-ne3.ensures (turned_over 99 c.counted-here.result (λ z. omega arith) c.stuck-then-list-ne3.ensures (form_asked c.requires.0 _ (leb-false _ _ (sym c.spent.ensures ∙ c.if-spent.false)) c.counted-here.ensures c.if-at-eq0.false c.requires.1 (visited_stuck c.counted-here.result (form_formed c.requires.0 (leb-false _ _ (sym c.spent.ensures ∙ c.if-spent.false)) c.counted-here.ensures c.if-at-eq0.false c.requires.1).visitable.room c.stuck-then-list-ne3.ensures (for_none _ _ _ _ _ _ _ _ _ _ _ (listed_other _ _ _ _ _ _ _ _ (got c.path_value.ensures.is c.in-Found.is) (λ e. c.if-list-ne3.true (c.fetch-list.ensures.kind ∙ e)))))))
 
 pub for_node-for_items-run-requires : goal.for_node-for_items-run-requires
-for_node-for_items-run-requires t c = (omega (arith, c.decreases, form_falls c.requires.0 (leb-false _ _ (sym c.spent.ensures ∙ c.if-spent.false)) c.counted-here.ensures), ((form-formed c.requires.0 (leb-false _ _ (sym c.spent.ensures ∙ c.if-spent.false)) c.counted-here.ensures c.if-at-eq0.false c.requires.1), (list_there _ (got c.path_value.ensures.is c.in-Found.is) (c.path_value.ensures.stands _ (got c.path_value.ensures.is c.in-Found.is)) c.fetch-list.ensures c.if-list-ne3.false), c.requires.2))
+for_node-for_items-run-requires t c = (omega (arith, c.decreases, form_falls c.requires.0 (leb-false _ _ (sym c.spent.ensures ∙ c.if-spent.false)) c.counted-here.ensures), ((form_formed c.requires.0 (leb-false _ _ (sym c.spent.ensures ∙ c.if-spent.false)) c.counted-here.ensures c.if-at-eq0.false c.requires.1), (list_there _ (got c.path_value.ensures.is c.in-Found.is) (c.path_value.ensures.stands _ (got c.path_value.ensures.is c.in-Found.is)) c.fetch-list.ensures c.if-list-ne3.false), c.requires.2))
 
 pub for_node-overflow_add-before : goal.for_node-overflow_add-before
 for_node-overflow_add-before t c = record { fits = omega (arith, c.requires.2) }
@@ -277,7 +277,7 @@ pub for_node-shape_of-scratch : goal.for_node-shape_of-scratch
 for_node-shape_of-scratch t c = c.for_items-run.auto.scratch
 
 pub for_node-returns : goal.for_node-returns
-for_node-returns t c = rw c.turned-2.ensures (turned_whole _ c.counted-here.ensures (form-formed c.requires.0 (leb-false _ _ (sym c.spent.ensures ∙ c.if-spent.false)) c.counted-here.ensures c.if-at-eq0.false c.requires.1) (list_there _ (got c.path_value.ensures.is c.in-Found.is) (c.path_value.ensures.stands _ (got c.path_value.ensures.is c.in-Found.is)) c.fetch-list.ensures c.if-list-ne3.false) (form-asked c.requires.0 _ (leb-false _ _ (sym c.spent.ensures ∙ c.if-spent.false)) c.counted-here.ensures c.if-at-eq0.false c.requires.1 c.for_items-run.ensures))
+for_node-returns t c = rw c.turned-2.ensures (turned_whole _ c.counted-here.ensures (form_formed c.requires.0 (leb-false _ _ (sym c.spent.ensures ∙ c.if-spent.false)) c.counted-here.ensures c.if-at-eq0.false c.requires.1) (list_there _ (got c.path_value.ensures.is c.in-Found.is) (c.path_value.ensures.stands _ (got c.path_value.ensures.is c.in-Found.is)) c.fetch-list.ensures c.if-list-ne3.false) (form_asked c.requires.0 _ (leb-false _ _ (sym c.spent.ensures ∙ c.if-spent.false)) c.counted-here.ensures c.if-at-eq0.false c.requires.1 c.for_items-run.ensures))
 
 pub if_branch-overflow_add-path : goal.if_branch-overflow_add-path
 if_branch-overflow_add-path t c = record { fits = omega (arith, c.requires.visitable.near) }
@@ -289,7 +289,7 @@ pub if_branch-shape_of-scratch-in_default : goal.if_branch-shape_of-scratch-in_d
 if_branch-shape_of-scratch-in_default t c = refl
 
 pub if_branch-returns-in_default : goal.if_branch-returns-in_default
-if_branch-returns-in_default t c = visited_stuck c.args.at c.requires.visitable.room c.stuck.ensures (if-lost _ _ _ _ _ _ _ _ _ _ (lost c.path_value.ensures.is c.in_default.is))
+if_branch-returns-in_default t c = visited_stuck c.args.at c.requires.visitable.room c.stuck.ensures (if_lost _ _ _ _ _ _ _ _ _ _ (lost c.path_value.ensures.is c.in_default.is))
 
 pub if_branch-fetch-head-requires : goal.if_branch-fetch-head-requires
 if_branch-fetch-head-requires t c = c.requires.visitable.lent.value_lent.sized
@@ -298,7 +298,7 @@ pub if_branch-shape_of-scratch-then-head-ne2 : goal.if_branch-shape_of-scratch-t
 if_branch-shape_of-scratch-then-head-ne2 t c = refl
 
 pub if_branch-returns-then-head-ne2 : goal.if_branch-returns-then-head-ne2
-if_branch-returns-then-head-ne2 t c = visited_stuck c.args.at c.requires.visitable.room c.stuck-then-head-ne2.ensures (if-other _ _ _ _ _ _ _ _ _ _ _ (got c.path_value.ensures.is c.in-Found.is) _ c.fetch-head.ensures.kind c.if-head-ne2.true)
+if_branch-returns-then-head-ne2 t c = visited_stuck c.args.at c.requires.visitable.room c.stuck-then-head-ne2.ensures (if_other _ _ _ _ _ _ _ _ _ _ _ (got c.path_value.ensures.is c.in-Found.is) _ c.fetch-head.ensures.kind c.if-head-ne2.true)
 
 pub if_branch-branch_of-branch-requires : goal.if_branch-branch_of-branch-requires
 if_branch-branch_of-branch-requires t c = (c.requires.visitable.lent.templates_sized, omega (arith, c.requires.level, c.requires.visitable.near))
@@ -316,7 +316,7 @@ pub if_branch-shape_of-scratch : goal.if_branch-shape_of-scratch
 if_branch-shape_of-scratch t c = c.visit.auto.scratch
 
 pub if_branch-returns : goal.if_branch-returns
-if_branch-returns t c = branch_visited c.requires c.below-below.ensures (if-is _ _ _ _ _ _ _ _ _ _ _ (got c.path_value.ensures.is c.in-Found.is) _ c.fetch-head.ensures.kind c.if-head-ne2.false _ _ c.fetch-head.ensures.a c.branch_of-branch.ensures.0) c.visit.ensures
+if_branch-returns t c = branch_visited c.requires c.below-below.ensures (if_is _ _ _ _ _ _ _ _ _ _ _ (got c.path_value.ensures.is c.in-Found.is) _ c.fetch-head.ensures.kind c.if-head-ne2.false _ _ c.fetch-head.ensures.a c.branch_of-branch.ensures.0) c.visit.ensures
 
 pub match_arm-overflow_add-path : goal.match_arm-overflow_add-path
 match_arm-overflow_add-path t c = record { fits = omega (arith, c.requires.0.visitable.near) }
@@ -328,7 +328,7 @@ pub match_arm-shape_of-scratch-in_default : goal.match_arm-shape_of-scratch-in_d
 match_arm-shape_of-scratch-in_default t c = refl
 
 pub match_arm-returns-in_default : goal.match_arm-returns-in_default
-match_arm-returns-in_default t c = visited_stuck c.args.at c.requires.0.visitable.room c.stuck.ensures (match-lost _ _ _ _ _ _ _ _ _ _ (lost c.path_value.ensures.is c.in_default.is))
+match_arm-returns-in_default t c = visited_stuck c.args.at c.requires.0.visitable.room c.stuck.ensures (match_lost _ _ _ _ _ _ _ _ _ _ (lost c.path_value.ensures.is c.in_default.is))
 
 pub match_arm-fetch-case-requires : goal.match_arm-fetch-case-requires
 match_arm-fetch-case-requires t c = c.requires.0.visitable.lent.value_lent.sized
@@ -337,13 +337,13 @@ pub match_arm-shape_of-scratch-then-case-ne5 : goal.match_arm-shape_of-scratch-t
 match_arm-shape_of-scratch-then-case-ne5 t c = refl
 
 pub match_arm-returns-then-case-ne5 : goal.match_arm-returns-then-case-ne5
-match_arm-returns-then-case-ne5 t c = visited_stuck c.args.at c.requires.0.visitable.room c.stuck-then-case-ne5.ensures (match-other _ _ _ _ _ _ _ _ _ _ _ (got c.path_value.ensures.is c.in-Found.is) _ c.fetch-case.ensures.kind c.if-case-ne5.true)
+match_arm-returns-then-case-ne5 t c = visited_stuck c.args.at c.requires.0.visitable.room c.stuck-then-case-ne5.ensures (match_other _ _ _ _ _ _ _ _ _ _ _ (got c.path_value.ensures.is c.in-Found.is) _ c.fetch-case.ensures.kind c.if-case-ne5.true)
 
 pub match_arm-shape_of-scratch-then-head-case : goal.match_arm-shape_of-scratch-then-head-case
 match_arm-shape_of-scratch-then-head-case t c = refl
 
 pub match_arm-returns-then-head-case : goal.match_arm-returns-then-head-case
-match_arm-returns-then-head-case t c = visited_stuck c.args.at c.requires.0.visitable.room c.stuck-then-head-case.ensures (match-missing _ _ _ _ _ _ _ _ _ _ _ (got c.path_value.ensures.is c.in-Found.is) _ c.fetch-case.ensures.kind c.if-case-ne5.false _ c.fetch-case.ensures.a (no_arm c.requires.1 _ c.if-head-case.true))
+match_arm-returns-then-head-case t c = visited_stuck c.args.at c.requires.0.visitable.room c.stuck-then-head-case.ensures (match_missing _ _ _ _ _ _ _ _ _ _ _ (got c.path_value.ensures.is c.in-Found.is) _ c.fetch-case.ensures.kind c.if-case-ne5.false _ c.fetch-case.ensures.a (no_arm c.requires.1 _ c.if-head-case.true))
 
 pub match_arm-arm_of-arm-requires : goal.match_arm-arm_of-arm-requires
 match_arm-arm_of-arm-requires t c = (c.requires.0.visitable.lent.templates_sized, omega (arith, c.requires.0.level, c.requires.0.visitable.near))
@@ -361,7 +361,7 @@ pub match_arm-bound-below-requires : goal.match_arm-bound-below-requires
 match_arm-bound-below-requires t c = arm_vars c.requires.0 c.below.ensures
 
 pub match_arm-visit-requires : goal.match_arm-visit-requires
-match_arm-visit-requires t c = (omega (arith, c.decreases, arm-falls c.requires.0 (c.path_value.ensures.stands _ (got c.path_value.ensures.is c.in-Found.is)) c.fetch-case.ensures c.if-case-ne5.false (an_arm c.requires.1 _ c.if-head-case.false c.arm_of-arm.ensures.0) _ c.child_at-content.ensures _ c.bind.ensures c.below.ensures c.bound-below.ensures), arm-visitable c.requires.0 (c.path_value.ensures.stands _ (got c.path_value.ensures.is c.in-Found.is)) c.fetch-case.ensures c.if-case-ne5.false (an_arm c.requires.1 _ c.if-head-case.false c.arm_of-arm.ensures.0) _ c.child_at-content.ensures _ c.bind.ensures c.below.ensures c.bound-below.ensures c.arm_of-arm.ensures.1 c.bind.auto.scratch)
+match_arm-visit-requires t c = (omega (arith, c.decreases, arm_falls c.requires.0 (c.path_value.ensures.stands _ (got c.path_value.ensures.is c.in-Found.is)) c.fetch-case.ensures c.if-case-ne5.false (an_arm c.requires.1 _ c.if-head-case.false c.arm_of-arm.ensures.0) _ c.child_at-content.ensures _ c.bind.ensures c.below.ensures c.bound-below.ensures), arm_visitable c.requires.0 (c.path_value.ensures.stands _ (got c.path_value.ensures.is c.in-Found.is)) c.fetch-case.ensures c.if-case-ne5.false (an_arm c.requires.1 _ c.if-head-case.false c.arm_of-arm.ensures.0) _ c.child_at-content.ensures _ c.bind.ensures c.below.ensures c.bound-below.ensures c.arm_of-arm.ensures.1 c.bind.auto.scratch)
 
 pub match_arm-shape_of-out : goal.match_arm-shape_of-out
 match_arm-shape_of-out t c = c.visit.auto.out
@@ -370,7 +370,7 @@ pub match_arm-shape_of-scratch : goal.match_arm-shape_of-scratch
 match_arm-shape_of-scratch t c = c.visit.auto.scratch ∙ c.bind.auto.scratch
 
 pub match_arm-returns : goal.match_arm-returns
-match_arm-returns t c = arm-visited c.requires.0 (c.path_value.ensures.stands _ (got c.path_value.ensures.is c.in-Found.is)) c.fetch-case.ensures c.if-case-ne5.false (an_arm c.requires.1 _ c.if-head-case.false c.arm_of-arm.ensures.0) _ c.child_at-content.ensures _ c.bind.ensures c.below.ensures c.bound-below.ensures (got c.path_value.ensures.is c.in-Found.is) c.visit.ensures
+match_arm-returns t c = arm_visited c.requires.0 (c.path_value.ensures.stands _ (got c.path_value.ensures.is c.in-Found.is)) c.fetch-case.ensures c.if-case-ne5.false (an_arm c.requires.1 _ c.if-head-case.false c.arm_of-arm.ensures.0) _ c.child_at-content.ensures _ c.bind.ensures c.below.ensures c.bound-below.ensures (got c.path_value.ensures.is c.in-Found.is) c.visit.ensures
 
 pub sequence_items-fetch-e-requires : goal.sequence_items-fetch-e-requires
 sequence_items-fetch-e-requires t c = c.requires.0.visitable.lent.grammar_sized
@@ -397,7 +397,7 @@ pub sequence_items-overflow_add-item-then-is_for : goal.sequence_items-overflow_
 sequence_items-overflow_add-item-then-is_for t c = record { fits = omega (arith, c.loop-visited.invariant.along.near, c.loop-visited.invariant.along.few, c.loop-visited-test.true, c.requires.0.visitable.near, c.size_in-item.ensures.1) }
 
 pub sequence_items-for_node-end-requires : goal.sequence_items-for_node-end-requires
-sequence_items-for_node-end-requires t c = (omega (arith, c.decreases, below-falls c.requires.0 c.loop-visited.invariant.going c.after.ensures c.below-below.ensures), (turns-visitable c.requires.0 c.loop-visited.invariant c.loop-visited-test.true c.fetch-next.ensures (eqb-true _ _ (sym c.is_for.ensures ∙ c.if-is_for.true)) c.after.ensures c.below-below.ensures, turns-for c.requires.0 c.loop-visited.invariant c.loop-visited-test.true c.fetch-next.ensures (eqb-true _ _ (sym c.is_for.ensures ∙ c.if-is_for.true)) c.after.ensures c.below-below.ensures, items-few c.requires.0 c.loop-visited.invariant c.loop-visited-test.true))
+sequence_items-for_node-end-requires t c = (omega (arith, c.decreases, below_falls c.requires.0 c.loop-visited.invariant.going c.after.ensures c.below-below.ensures), (turns_visitable c.requires.0 c.loop-visited.invariant c.loop-visited-test.true c.fetch-next.ensures (eqb-true _ _ (sym c.is_for.ensures ∙ c.if-is_for.true)) c.after.ensures c.below-below.ensures, turns_for c.requires.0 c.loop-visited.invariant c.loop-visited-test.true c.fetch-next.ensures (eqb-true _ _ (sym c.is_for.ensures ∙ c.if-is_for.true)) c.after.ensures c.below-below.ensures, items_few c.requires.0 c.loop-visited.invariant c.loop-visited-test.true))
 
 pub sequence_items-shape_of-out-then-r-ne0 : goal.sequence_items-shape_of-out-then-r-ne0
 sequence_items-shape_of-out-then-r-ne0 t c = c.for_node-end.auto.out ∙ c.loop-visited.invariant.going.len
@@ -406,7 +406,7 @@ pub sequence_items-shape_of-scratch-then-r-ne0 : goal.sequence_items-shape_of-sc
 sequence_items-shape_of-scratch-then-r-ne0 t c = c.for_node-end.auto.scratch ∙ c.loop-visited.invariant.going.lens
 
 pub sequence_items-returns-then-r-ne0 : goal.sequence_items-returns-then-r-ne0
-sequence_items-returns-then-r-ne0 t c = turns-stop c.requires.0 c.loop-visited.invariant c.loop-visited-test.true c.fetch-next.ensures (eqb-true _ _ (sym c.is_for.ensures ∙ c.if-is_for.true)) c.after.ensures c.below-below.ensures c.for_node-end.ensures c.for_node-end.auto.out c.if-r-ne0.true
+sequence_items-returns-then-r-ne0 t c = turns_stop c.requires.0 c.loop-visited.invariant c.loop-visited-test.true c.fetch-next.ensures (eqb-true _ _ (sym c.is_for.ensures ∙ c.if-is_for.true)) c.after.ensures c.below-below.ensures c.for_node-end.ensures c.for_node-end.auto.out c.if-r-ne0.true
 
 pub sequence_items-loop-visited-smaller-then-is_for : goal.sequence_items-loop-visited-smaller-then-is_for
 sequence_items-loop-visited-smaller-then-is_for t c = omega (arith, c.loop-visited-test.true)
@@ -415,7 +415,7 @@ pub sequence_items-loop-visited-preserved-then-is_for : goal.sequence_items-loop
 sequence_items-loop-visited-preserved-then-is_for t c = rw c.size_in-item.ensures.0 (turns_next c.requires.0 c.loop-visited.invariant c.loop-visited-test.true c.fetch-next.ensures (eqb-true _ _ (sym c.is_for.ensures ∙ c.if-is_for.true)) c.after.ensures c.below-below.ensures c.for_node-end.ensures c.for_node-end.auto.out c.if-r-ne0.false c.for_node-end.auto.scratch)
 
 pub sequence_items-separate-r-requires : goal.sequence_items-separate-r-requires
-sequence_items-separate-r-requires t c = (c.requires.0.visitable.lent.grammar_sized, apart-room c.requires.0 c.loop-visited.invariant c.loop-visited-test.true c.fetch-next.ensures (eqb-false _ _ (sym c.is_for.ensures ∙ c.if-is_for.false)) c.after-then-is_due.ensures)
+sequence_items-separate-r-requires t c = (c.requires.0.visitable.lent.grammar_sized, apart_room c.requires.0 c.loop-visited.invariant c.loop-visited-test.true c.fetch-next.ensures (eqb-false _ _ (sym c.is_for.ensures ∙ c.if-is_for.false)) c.after-then-is_due.ensures)
 
 pub sequence_items-shape_of-out-then-r-ne0-2 : goal.sequence_items-shape_of-out-then-r-ne0-2
 sequence_items-shape_of-out-then-r-ne0-2 t c = c.separate-r.auto.out ∙ c.loop-visited.invariant.going.len
@@ -424,7 +424,7 @@ pub sequence_items-shape_of-scratch-then-r-ne0-2 : goal.sequence_items-shape_of-
 sequence_items-shape_of-scratch-then-r-ne0-2 t c = c.loop-visited.invariant.going.lens
 
 pub sequence_items-returns-then-r-ne0-2 : goal.sequence_items-returns-then-r-ne0-2
-sequence_items-returns-then-r-ne0-2 t c = apart-stop c.requires.0 c.loop-visited.invariant c.loop-visited-test.true c.fetch-next.ensures (eqb-false _ _ (sym c.is_for.ensures ∙ c.if-is_for.false)) c.after-then-is_due.ensures (c.separate-r.ensures _ (due_later _ _ (sym c.is_due.ensures ∙ c.if-is_due.true))) c.separate-r.auto.out c.if-r-ne0-2.true
+sequence_items-returns-then-r-ne0-2 t c = apart_stop c.requires.0 c.loop-visited.invariant c.loop-visited-test.true c.fetch-next.ensures (eqb-false _ _ (sym c.is_for.ensures ∙ c.if-is_for.false)) c.after-then-is_due.ensures (c.separate-r.ensures _ (due_later _ _ (sym c.is_due.ensures ∙ c.if-is_due.true))) c.separate-r.auto.out c.if-r-ne0-2.true
 
 pub sequence_items-after-requires-else-is_for : goal.sequence_items-after-requires-else-is_for
 sequence_items-after-requires-else-is_for t c = search rules
@@ -433,8 +433,8 @@ sequence_items_apart : (t : ℕ) (c : goal.sequence_items-Joined-is_due t)
     → Apart c.args.g.now c.separator_of-sep.result c.loop-visited.n (after_at c.args.at c.loop-visited.r) c.loop-visited.out c.if-is_due.r c.if-is_due.out
 sequence_items_apart t c =
     elim c.if-is_due.branch [
-      | sequence_items-then-is_due+else-r-ne0-2 w ↦ apart-written c.requires.0 c.loop-visited.invariant c.loop-visited-test.true c.fetch-next.ensures (eqb-false _ _ (sym c.is_for.ensures ∙ c.if-is_for.false)) w.after-then-is_due.ensures (w.separate-r.ensures _ (due_later _ _ (sym c.is_due.ensures ∙ w.if-is_due.true))) w.separate-r.auto.out w.if-r-ne0-2.false w.out-is w.r-is
-      | sequence_items-else-is_due w ↦ apart-skipped c.requires.0 c.loop-visited.invariant c.loop-visited-test.true c.fetch-next.ensures (eqb-false _ _ (sym c.is_for.ensures ∙ c.if-is_for.false)) (sym c.is_due.ensures ∙ w.if-is_due.false) w.out-is w.r-is
+      | sequence_items-then-is_due+else-r-ne0-2 w ↦ apart_written c.requires.0 c.loop-visited.invariant c.loop-visited-test.true c.fetch-next.ensures (eqb-false _ _ (sym c.is_for.ensures ∙ c.if-is_for.false)) w.after-then-is_due.ensures (w.separate-r.ensures _ (due_later _ _ (sym c.is_due.ensures ∙ w.if-is_due.true))) w.separate-r.auto.out w.if-r-ne0-2.false w.out-is w.r-is
+      | sequence_items-else-is_due w ↦ apart_skipped c.requires.0 c.loop-visited.invariant c.loop-visited-test.true c.fetch-next.ensures (eqb-false _ _ (sym c.is_for.ensures ∙ c.if-is_for.false)) (sym c.is_due.ensures ∙ w.if-is_due.false) w.out-is w.r-is
     ]
 
 pub sequence_items-below-below-requires-else-is_for : goal.sequence_items-below-below-requires-else-is_for
@@ -444,12 +444,12 @@ pub sequence_items-overflow_add-item-else-is_for : goal.sequence_items-overflow_
 sequence_items-overflow_add-item-else-is_for t c = record { fits = omega (arith, c.loop-visited.invariant.along.near, c.loop-visited.invariant.along.few, c.loop-visited-test.true, c.requires.0.visitable.near, c.size_in-item-else-is_for.ensures.1) }
 
 pub sequence_items-overflow_add-n : goal.sequence_items-overflow_add-n
-sequence_items-overflow_add-n t c = record { fits = omega (arith, items-few c.requires.0 c.loop-visited.invariant c.loop-visited-test.true) }
+sequence_items-overflow_add-n t c = record { fits = omega (arith, items_few c.requires.0 c.loop-visited.invariant c.loop-visited-test.true) }
 
 pub sequence_items-visit-r-requires : goal.sequence_items-visit-r-requires
 sequence_items-visit-r-requires t c =
     let past = sequence_items_apart t (record { before = c.before.before.before.before.before.before; type_inv = record { ts = c.type_inv.ts; places = c.type_inv.places; firsts = c.type_inv.firsts; v = c.type_inv.v; ps = c.type_inv.ps; t = c.type_inv.t; g = c.type_inv.g } }) in
-    (omega (arith, c.decreases, item-falls c.requires.0 c.loop-visited.invariant c.loop-visited-test.true c.fetch-next.ensures (eqb-false _ _ (sym c.is_for.ensures ∙ c.if-is_for.false)) past c.after-else-is_for.ensures c.below-below-else-is_for.ensures), item-visitable c.requires.0 c.loop-visited.invariant c.loop-visited-test.true c.fetch-next.ensures (eqb-false _ _ (sym c.is_for.ensures ∙ c.if-is_for.false)) past c.after-else-is_for.ensures c.below-below-else-is_for.ensures)
+    (omega (arith, c.decreases, item_falls c.requires.0 c.loop-visited.invariant c.loop-visited-test.true c.fetch-next.ensures (eqb-false _ _ (sym c.is_for.ensures ∙ c.if-is_for.false)) past c.after-else-is_for.ensures c.below-below-else-is_for.ensures), item_visitable c.requires.0 c.loop-visited.invariant c.loop-visited-test.true c.fetch-next.ensures (eqb-false _ _ (sym c.is_for.ensures ∙ c.if-is_for.false)) past c.after-else-is_for.ensures c.below-below-else-is_for.ensures)
 
 pub sequence_items-shape_of-out-then-r-ne0-3 : goal.sequence_items-shape_of-out-then-r-ne0-3
 sequence_items-shape_of-out-then-r-ne0-3 t c =
@@ -462,7 +462,7 @@ sequence_items-shape_of-scratch-then-r-ne0-3 t c = c.visit-r.auto.scratch ∙ c.
 pub sequence_items-returns-then-r-ne0-3 : goal.sequence_items-returns-then-r-ne0-3
 sequence_items-returns-then-r-ne0-3 t c =
     let past = sequence_items_apart t (record { before = c.before.before.before.before.before.before.before.before.before.before.before.before.before; type_inv = record { ts = c.type_inv.ts; places = c.type_inv.places; firsts = c.type_inv.firsts; v = c.type_inv.v; ps = c.type_inv.ps; t = c.type_inv.t; g = c.type_inv.g } }) in
-    item-stop c.requires.0 c.loop-visited.invariant c.loop-visited-test.true c.fetch-next.ensures (eqb-false _ _ (sym c.is_for.ensures ∙ c.if-is_for.false)) past c.after-else-is_for.ensures c.below-below-else-is_for.ensures c.visit-r.ensures c.visit-r.auto.out c.if-r-ne0-3.true
+    item_stop c.requires.0 c.loop-visited.invariant c.loop-visited-test.true c.fetch-next.ensures (eqb-false _ _ (sym c.is_for.ensures ∙ c.if-is_for.false)) past c.after-else-is_for.ensures c.below-below-else-is_for.ensures c.visit-r.ensures c.visit-r.auto.out c.if-r-ne0-3.true
 
 pub sequence_items-loop-visited-smaller : goal.sequence_items-loop-visited-smaller
 sequence_items-loop-visited-smaller t c = omega (arith, c.loop-visited-test.true)
@@ -470,7 +470,7 @@ sequence_items-loop-visited-smaller t c = omega (arith, c.loop-visited-test.true
 pub sequence_items-loop-visited-preserved : goal.sequence_items-loop-visited-preserved
 sequence_items-loop-visited-preserved t c =
     let past = sequence_items_apart t (record { before = c.before.before.before.before.before.before.before.before.before.before.before.before.before; type_inv = record { ts = c.type_inv.ts; places = c.type_inv.places; firsts = c.type_inv.firsts; v = c.type_inv.v; ps = c.type_inv.ps; t = c.type_inv.t; g = c.type_inv.g } }) in
-    rw c.size_in-item-else-is_for.ensures.0 (item-next c.requires.0 c.loop-visited.invariant c.loop-visited-test.true c.fetch-next.ensures (eqb-false _ _ (sym c.is_for.ensures ∙ c.if-is_for.false)) past c.after-else-is_for.ensures c.below-below-else-is_for.ensures c.visit-r.ensures c.visit-r.auto.out c.if-r-ne0-3.false c.visit-r.auto.scratch)
+    rw c.size_in-item-else-is_for.ensures.0 (item_next c.requires.0 c.loop-visited.invariant c.loop-visited-test.true c.fetch-next.ensures (eqb-false _ _ (sym c.is_for.ensures ∙ c.if-is_for.false)) past c.after-else-is_for.ensures c.below-below-else-is_for.ensures c.visit-r.ensures c.visit-r.auto.out c.if-r-ne0-3.false c.visit-r.auto.scratch)
 
 pub sequence_items-shape_of-out : goal.sequence_items-shape_of-out
 sequence_items-shape_of-out t c = c.loop-visited.invariant.going.len
@@ -479,7 +479,7 @@ pub sequence_items-shape_of-scratch : goal.sequence_items-shape_of-scratch
 sequence_items-shape_of-scratch t c = c.loop-visited.invariant.going.lens
 
 pub sequence_items-returns : goal.sequence_items-returns
-sequence_items-returns t c = sequence-end c.requires.0 c.loop-visited.invariant c.loop-visited-test.false
+sequence_items-returns t c = sequence_end c.requires.0 c.loop-visited.invariant c.loop-visited-test.false
 
 pub visit-returns-then-spent : goal.visit-returns-then-spent
 visit-returns-then-spent t c = spent_visited c.requires _ (leb-true _ _ (sym c.spent.ensures ∙ c.if-spent.true)) c.ended.ensures
@@ -488,31 +488,31 @@ pub visit-counted-here-requires : goal.visit-counted-here-requires
 visit-counted-here-requires t c = leb-false _ _ (sym c.spent.ensures ∙ c.if-spent.false)
 
 pub visit-returns-then-at-eq0 : goal.visit-returns-then-at-eq0
-visit-returns-then-at-eq0 t c = deepest-visited c.requires _ (leb-false _ _ (sym c.spent.ensures ∙ c.if-spent.false)) c.counted-here.ensures c.if-at-eq0.true c.ended-then-at-eq0.ensures
+visit-returns-then-at-eq0 t c = deepest_visited c.requires _ (leb-false _ _ (sym c.spent.ensures ∙ c.if-spent.false)) c.counted-here.ensures c.if-at-eq0.true c.ended-then-at-eq0.ensures
 
 pub visit-fetch-head-requires : goal.visit-fetch-head-requires
 visit-fetch-head-requires t c = c.requires.lent.templates_sized
 
 pub visit-build_items-requires : goal.visit-build_items-requires
-visit-build_items-requires t c = (omega (arith, c.decreases, form_falls c.requires (leb-false _ _ (sym c.spent.ensures ∙ c.if-spent.false)) c.counted-here.ensures), (form-formed c.requires (leb-false _ _ (sym c.spent.ensures ∙ c.if-spent.false)) c.counted-here.ensures c.if-at-eq0.false (form_here c.requires (leb-false _ _ (sym c.spent.ensures ∙ c.if-spent.false)) c.counted-here.ensures c.fetch-head.ensures _ c.form_of.ensures ∙ c.in-Build.is), c.fetch-head.ensures))
+visit-build_items-requires t c = (omega (arith, c.decreases, form_falls c.requires (leb-false _ _ (sym c.spent.ensures ∙ c.if-spent.false)) c.counted-here.ensures), (form_formed c.requires (leb-false _ _ (sym c.spent.ensures ∙ c.if-spent.false)) c.counted-here.ensures c.if-at-eq0.false (form_here c.requires (leb-false _ _ (sym c.spent.ensures ∙ c.if-spent.false)) c.counted-here.ensures c.fetch-head.ensures _ c.form_of.ensures ∙ c.in-Build.is), c.fetch-head.ensures))
 
 pub visit-write-requires : goal.visit-write-requires
-visit-write-requires t c = (c.requires.lent.templates_sized, (form-formed c.requires (leb-false _ _ (sym c.spent.ensures ∙ c.if-spent.false)) c.counted-here.ensures c.if-at-eq0.false (form_here c.requires (leb-false _ _ (sym c.spent.ensures ∙ c.if-spent.false)) c.counted-here.ensures c.fetch-head.ensures _ c.form_of.ensures ∙ c.in-Literal.is)).visitable.room)
+visit-write-requires t c = (c.requires.lent.templates_sized, (form_formed c.requires (leb-false _ _ (sym c.spent.ensures ∙ c.if-spent.false)) c.counted-here.ensures c.if-at-eq0.false (form_here c.requires (leb-false _ _ (sym c.spent.ensures ∙ c.if-spent.false)) c.counted-here.ensures c.fetch-head.ensures _ c.form_of.ensures ∙ c.in-Literal.is)).visitable.room)
 
 pub visit-place-requires : goal.visit-place-requires
-visit-place-requires t c = let f = form-formed c.requires (leb-false _ _ (sym c.spent.ensures ∙ c.if-spent.false)) c.counted-here.ensures c.if-at-eq0.false (form_here c.requires (leb-false _ _ (sym c.spent.ensures ∙ c.if-spent.false)) c.counted-here.ensures c.fetch-head.ensures _ c.form_of.ensures ∙ c.in-Place.is) in (follows f, omega (arith, f.level, f.visitable.near), f.visitable.room, f.visitable.lent.grammar_sized, f.visitable.lent.productions_are, heads_some f.visitable.lent.productions_are)
+visit-place-requires t c = let f = form_formed c.requires (leb-false _ _ (sym c.spent.ensures ∙ c.if-spent.false)) c.counted-here.ensures c.if-at-eq0.false (form_here c.requires (leb-false _ _ (sym c.spent.ensures ∙ c.if-spent.false)) c.counted-here.ensures c.fetch-head.ensures _ c.form_of.ensures ∙ c.in-Place.is) in (follows f, omega (arith, f.level, f.visitable.near), f.visitable.room, f.visitable.lent.grammar_sized, f.visitable.lent.productions_are, heads_some f.visitable.lent.productions_are)
 
 pub visit-expand_body-requires : goal.visit-expand_body-requires
-visit-expand_body-requires t c = (omega (arith, c.decreases, form_falls c.requires (leb-false _ _ (sym c.spent.ensures ∙ c.if-spent.false)) c.counted-here.ensures), (form-formed c.requires (leb-false _ _ (sym c.spent.ensures ∙ c.if-spent.false)) c.counted-here.ensures c.if-at-eq0.false (form_here c.requires (leb-false _ _ (sym c.spent.ensures ∙ c.if-spent.false)) c.counted-here.ensures c.fetch-head.ensures _ c.form_of.ensures ∙ c.in-Expand.is), c.fetch-head.ensures))
+visit-expand_body-requires t c = (omega (arith, c.decreases, form_falls c.requires (leb-false _ _ (sym c.spent.ensures ∙ c.if-spent.false)) c.counted-here.ensures), (form_formed c.requires (leb-false _ _ (sym c.spent.ensures ∙ c.if-spent.false)) c.counted-here.ensures c.if-at-eq0.false (form_here c.requires (leb-false _ _ (sym c.spent.ensures ∙ c.if-spent.false)) c.counted-here.ensures c.fetch-head.ensures _ c.form_of.ensures ∙ c.in-Expand.is), c.fetch-head.ensures))
 
 pub visit-if_branch-requires : goal.visit-if_branch-requires
-visit-if_branch-requires t c = (omega (arith, c.decreases, form_falls c.requires (leb-false _ _ (sym c.spent.ensures ∙ c.if-spent.false)) c.counted-here.ensures), form-formed c.requires (leb-false _ _ (sym c.spent.ensures ∙ c.if-spent.false)) c.counted-here.ensures c.if-at-eq0.false (form_here c.requires (leb-false _ _ (sym c.spent.ensures ∙ c.if-spent.false)) c.counted-here.ensures c.fetch-head.ensures _ c.form_of.ensures ∙ c.in-If.is))
+visit-if_branch-requires t c = (omega (arith, c.decreases, form_falls c.requires (leb-false _ _ (sym c.spent.ensures ∙ c.if-spent.false)) c.counted-here.ensures), form_formed c.requires (leb-false _ _ (sym c.spent.ensures ∙ c.if-spent.false)) c.counted-here.ensures c.if-at-eq0.false (form_here c.requires (leb-false _ _ (sym c.spent.ensures ∙ c.if-spent.false)) c.counted-here.ensures c.fetch-head.ensures _ c.form_of.ensures ∙ c.in-If.is))
 
 pub visit-sequence_items-requires : goal.visit-sequence_items-requires
-visit-sequence_items-requires t c = (omega (arith, c.decreases, form_falls c.requires (leb-false _ _ (sym c.spent.ensures ∙ c.if-spent.false)) c.counted-here.ensures), (form-formed c.requires (leb-false _ _ (sym c.spent.ensures ∙ c.if-spent.false)) c.counted-here.ensures c.if-at-eq0.false (form_here c.requires (leb-false _ _ (sym c.spent.ensures ∙ c.if-spent.false)) c.counted-here.ensures c.fetch-head.ensures _ c.form_of.ensures ∙ c.in-Sequence.is), c.fetch-head.ensures))
+visit-sequence_items-requires t c = (omega (arith, c.decreases, form_falls c.requires (leb-false _ _ (sym c.spent.ensures ∙ c.if-spent.false)) c.counted-here.ensures), (form_formed c.requires (leb-false _ _ (sym c.spent.ensures ∙ c.if-spent.false)) c.counted-here.ensures c.if-at-eq0.false (form_here c.requires (leb-false _ _ (sym c.spent.ensures ∙ c.if-spent.false)) c.counted-here.ensures c.fetch-head.ensures _ c.form_of.ensures ∙ c.in-Sequence.is), c.fetch-head.ensures))
 
 pub visit-match_arm-requires : goal.visit-match_arm-requires
-visit-match_arm-requires t c = (omega (arith, c.decreases, form_falls c.requires (leb-false _ _ (sym c.spent.ensures ∙ c.if-spent.false)) c.counted-here.ensures), (form-formed c.requires (leb-false _ _ (sym c.spent.ensures ∙ c.if-spent.false)) c.counted-here.ensures c.if-at-eq0.false (form_here c.requires (leb-false _ _ (sym c.spent.ensures ∙ c.if-spent.false)) c.counted-here.ensures c.fetch-head.ensures _ c.form_of.ensures ∙ c.in-Match.is), c.fetch-head.ensures))
+visit-match_arm-requires t c = (omega (arith, c.decreases, form_falls c.requires (leb-false _ _ (sym c.spent.ensures ∙ c.if-spent.false)) c.counted-here.ensures), (form_formed c.requires (leb-false _ _ (sym c.spent.ensures ∙ c.if-spent.false)) c.counted-here.ensures c.if-at-eq0.false (form_here c.requires (leb-false _ _ (sym c.spent.ensures ∙ c.if-spent.false)) c.counted-here.ensures c.fetch-head.ensures _ c.form_of.ensures ∙ c.in-Match.is), c.fetch-head.ensures))
 
 pub visit-shape_of-out-in-Build : goal.visit-shape_of-out-in-Build
 visit-shape_of-out-in-Build t c = c.build_items.auto.out
@@ -521,13 +521,13 @@ pub visit-shape_of-scratch-in-Build : goal.visit-shape_of-scratch-in-Build
 visit-shape_of-scratch-in-Build t c = c.build_items.auto.scratch
 
 pub visit-returns-in-Build : goal.visit-returns-in-Build
-visit-returns-in-Build t c = form-visited c.requires (leb-false _ _ (sym c.spent.ensures ∙ c.if-spent.false)) c.counted-here.ensures c.if-at-eq0.false (form_here c.requires (leb-false _ _ (sym c.spent.ensures ∙ c.if-spent.false)) c.counted-here.ensures c.fetch-head.ensures _ c.form_of.ensures ∙ c.in-Build.is) c.build_items.ensures
+visit-returns-in-Build t c = form_visited c.requires (leb-false _ _ (sym c.spent.ensures ∙ c.if-spent.false)) c.counted-here.ensures c.if-at-eq0.false (form_here c.requires (leb-false _ _ (sym c.spent.ensures ∙ c.if-spent.false)) c.counted-here.ensures c.fetch-head.ensures _ c.form_of.ensures ∙ c.in-Build.is) c.build_items.ensures
 
 pub visit-shape_of-out-in-Literal : goal.visit-shape_of-out-in-Literal
 visit-shape_of-out-in-Literal t c = c.write.auto.out
 
 pub visit-returns-in-Literal : goal.visit-returns-in-Literal
-visit-returns-in-Literal t c = form-ran c.requires (leb-false _ _ (sym c.spent.ensures ∙ c.if-spent.false)) c.counted-here.ensures c.if-at-eq0.false (form_here c.requires (leb-false _ _ (sym c.spent.ensures ∙ c.if-spent.false)) c.counted-here.ensures c.fetch-head.ensures _ c.form_of.ensures ∙ c.in-Literal.is) (literal_is _ _ _ _ _ _ _ _ _ _ _ c.fetch-head.ensures.b) c.write.ensures
+visit-returns-in-Literal t c = form_ran c.requires (leb-false _ _ (sym c.spent.ensures ∙ c.if-spent.false)) c.counted-here.ensures c.if-at-eq0.false (form_here c.requires (leb-false _ _ (sym c.spent.ensures ∙ c.if-spent.false)) c.counted-here.ensures c.fetch-head.ensures _ c.form_of.ensures ∙ c.in-Literal.is) (literal_is _ _ _ _ _ _ _ _ _ _ _ c.fetch-head.ensures.b) c.write.ensures
 
 pub visit-shape_of-out-in-Place : goal.visit-shape_of-out-in-Place
 visit-shape_of-out-in-Place t c = c.place.auto.out
@@ -536,7 +536,7 @@ pub visit-shape_of-scratch-in-Place : goal.visit-shape_of-scratch-in-Place
 visit-shape_of-scratch-in-Place t c = refl
 
 pub visit-returns-in-Place : goal.visit-returns-in-Place
-visit-returns-in-Place t c = form-ran c.requires (leb-false _ _ (sym c.spent.ensures ∙ c.if-spent.false)) c.counted-here.ensures c.if-at-eq0.false (form_here c.requires (leb-false _ _ (sym c.spent.ensures ∙ c.if-spent.false)) c.counted-here.ensures c.fetch-head.ensures _ c.form_of.ensures ∙ c.in-Place.is) (place_is _ _ _ _ _ _) c.place.ensures
+visit-returns-in-Place t c = form_ran c.requires (leb-false _ _ (sym c.spent.ensures ∙ c.if-spent.false)) c.counted-here.ensures c.if-at-eq0.false (form_here c.requires (leb-false _ _ (sym c.spent.ensures ∙ c.if-spent.false)) c.counted-here.ensures c.fetch-head.ensures _ c.form_of.ensures ∙ c.in-Place.is) (place_is _ _ _ _ _ _) c.place.ensures
 
 pub visit-shape_of-out-in-Expand : goal.visit-shape_of-out-in-Expand
 visit-shape_of-out-in-Expand t c = c.expand_body.auto.out
@@ -545,7 +545,7 @@ pub visit-shape_of-scratch-in-Expand : goal.visit-shape_of-scratch-in-Expand
 visit-shape_of-scratch-in-Expand t c = c.expand_body.auto.scratch
 
 pub visit-returns-in-Expand : goal.visit-returns-in-Expand
-visit-returns-in-Expand t c = form-visited c.requires (leb-false _ _ (sym c.spent.ensures ∙ c.if-spent.false)) c.counted-here.ensures c.if-at-eq0.false (form_here c.requires (leb-false _ _ (sym c.spent.ensures ∙ c.if-spent.false)) c.counted-here.ensures c.fetch-head.ensures _ c.form_of.ensures ∙ c.in-Expand.is) c.expand_body.ensures
+visit-returns-in-Expand t c = form_visited c.requires (leb-false _ _ (sym c.spent.ensures ∙ c.if-spent.false)) c.counted-here.ensures c.if-at-eq0.false (form_here c.requires (leb-false _ _ (sym c.spent.ensures ∙ c.if-spent.false)) c.counted-here.ensures c.fetch-head.ensures _ c.form_of.ensures ∙ c.in-Expand.is) c.expand_body.ensures
 
 pub visit-shape_of-out-in-If : goal.visit-shape_of-out-in-If
 visit-shape_of-out-in-If t c = c.if_branch.auto.out
@@ -554,10 +554,10 @@ pub visit-shape_of-scratch-in-If : goal.visit-shape_of-scratch-in-If
 visit-shape_of-scratch-in-If t c = c.if_branch.auto.scratch
 
 pub visit-returns-in-If : goal.visit-returns-in-If
-visit-returns-in-If t c = form-visited c.requires (leb-false _ _ (sym c.spent.ensures ∙ c.if-spent.false)) c.counted-here.ensures c.if-at-eq0.false (form_here c.requires (leb-false _ _ (sym c.spent.ensures ∙ c.if-spent.false)) c.counted-here.ensures c.fetch-head.ensures _ c.form_of.ensures ∙ c.in-If.is) c.if_branch.ensures
+visit-returns-in-If t c = form_visited c.requires (leb-false _ _ (sym c.spent.ensures ∙ c.if-spent.false)) c.counted-here.ensures c.if-at-eq0.false (form_here c.requires (leb-false _ _ (sym c.spent.ensures ∙ c.if-spent.false)) c.counted-here.ensures c.fetch-head.ensures _ c.form_of.ensures ∙ c.in-If.is) c.if_branch.ensures
 
 pub visit-returns-in-For : goal.visit-returns-in-For
-visit-returns-in-For t c = form-visited c.requires (leb-false _ _ (sym c.spent.ensures ∙ c.if-spent.false)) c.counted-here.ensures c.if-at-eq0.false (form_here c.requires (leb-false _ _ (sym c.spent.ensures ∙ c.if-spent.false)) c.counted-here.ensures c.fetch-head.ensures _ c.form_of.ensures ∙ c.in-For.is) (visited_stuck c.counted-here.result (form-formed c.requires (leb-false _ _ (sym c.spent.ensures ∙ c.if-spent.false)) c.counted-here.ensures c.if-at-eq0.false (form_here c.requires (leb-false _ _ (sym c.spent.ensures ∙ c.if-spent.false)) c.counted-here.ensures c.fetch-head.ensures _ c.form_of.ensures ∙ c.in-For.is)).visitable.room c.stuck.ensures (for_piece _ _ _ _ _ _ _ _ _ _))
+visit-returns-in-For t c = form_visited c.requires (leb-false _ _ (sym c.spent.ensures ∙ c.if-spent.false)) c.counted-here.ensures c.if-at-eq0.false (form_here c.requires (leb-false _ _ (sym c.spent.ensures ∙ c.if-spent.false)) c.counted-here.ensures c.fetch-head.ensures _ c.form_of.ensures ∙ c.in-For.is) (visited_stuck c.counted-here.result (form_formed c.requires (leb-false _ _ (sym c.spent.ensures ∙ c.if-spent.false)) c.counted-here.ensures c.if-at-eq0.false (form_here c.requires (leb-false _ _ (sym c.spent.ensures ∙ c.if-spent.false)) c.counted-here.ensures c.fetch-head.ensures _ c.form_of.ensures ∙ c.in-For.is)).visitable.room c.stuck.ensures (for_piece _ _ _ _ _ _ _ _ _ _))
 
 pub visit-shape_of-out-in-Sequence : goal.visit-shape_of-out-in-Sequence
 visit-shape_of-out-in-Sequence t c = c.sequence_items.auto.out
@@ -566,7 +566,7 @@ pub visit-shape_of-scratch-in-Sequence : goal.visit-shape_of-scratch-in-Sequence
 visit-shape_of-scratch-in-Sequence t c = c.sequence_items.auto.scratch
 
 pub visit-returns-in-Sequence : goal.visit-returns-in-Sequence
-visit-returns-in-Sequence t c = form-visited c.requires (leb-false _ _ (sym c.spent.ensures ∙ c.if-spent.false)) c.counted-here.ensures c.if-at-eq0.false (form_here c.requires (leb-false _ _ (sym c.spent.ensures ∙ c.if-spent.false)) c.counted-here.ensures c.fetch-head.ensures _ c.form_of.ensures ∙ c.in-Sequence.is) c.sequence_items.ensures
+visit-returns-in-Sequence t c = form_visited c.requires (leb-false _ _ (sym c.spent.ensures ∙ c.if-spent.false)) c.counted-here.ensures c.if-at-eq0.false (form_here c.requires (leb-false _ _ (sym c.spent.ensures ∙ c.if-spent.false)) c.counted-here.ensures c.fetch-head.ensures _ c.form_of.ensures ∙ c.in-Sequence.is) c.sequence_items.ensures
 
 pub visit-shape_of-out-in-Match : goal.visit-shape_of-out-in-Match
 visit-shape_of-out-in-Match t c = c.match_arm.auto.out
@@ -575,7 +575,7 @@ pub visit-shape_of-scratch-in-Match : goal.visit-shape_of-scratch-in-Match
 visit-shape_of-scratch-in-Match t c = c.match_arm.auto.scratch
 
 pub visit-returns-in-Match : goal.visit-returns-in-Match
-visit-returns-in-Match t c = form-visited c.requires (leb-false _ _ (sym c.spent.ensures ∙ c.if-spent.false)) c.counted-here.ensures c.if-at-eq0.false (form_here c.requires (leb-false _ _ (sym c.spent.ensures ∙ c.if-spent.false)) c.counted-here.ensures c.fetch-head.ensures _ c.form_of.ensures ∙ c.in-Match.is) c.match_arm.ensures
+visit-returns-in-Match t c = form_visited c.requires (leb-false _ _ (sym c.spent.ensures ∙ c.if-spent.false)) c.counted-here.ensures c.if-at-eq0.false (form_here c.requires (leb-false _ _ (sym c.spent.ensures ∙ c.if-spent.false)) c.counted-here.ensures c.fetch-head.ensures _ c.form_of.ensures ∙ c.in-Match.is) c.match_arm.ensures
 
 pub visit-returns-in-Unknown : goal.visit-returns-in-Unknown
-visit-returns-in-Unknown t c = form-visited c.requires (leb-false _ _ (sym c.spent.ensures ∙ c.if-spent.false)) c.counted-here.ensures c.if-at-eq0.false (form_here c.requires (leb-false _ _ (sym c.spent.ensures ∙ c.if-spent.false)) c.counted-here.ensures c.fetch-head.ensures _ c.form_of.ensures ∙ c.in-Unknown.is) (visited_stuck c.counted-here.result (form-formed c.requires (leb-false _ _ (sym c.spent.ensures ∙ c.if-spent.false)) c.counted-here.ensures c.if-at-eq0.false (form_here c.requires (leb-false _ _ (sym c.spent.ensures ∙ c.if-spent.false)) c.counted-here.ensures c.fetch-head.ensures _ c.form_of.ensures ∙ c.in-Unknown.is)).visitable.room c.stuck-in-Unknown.ensures (unknown_is _ _ _ _ _ _ _ _ _ _))
+visit-returns-in-Unknown t c = form_visited c.requires (leb-false _ _ (sym c.spent.ensures ∙ c.if-spent.false)) c.counted-here.ensures c.if-at-eq0.false (form_here c.requires (leb-false _ _ (sym c.spent.ensures ∙ c.if-spent.false)) c.counted-here.ensures c.fetch-head.ensures _ c.form_of.ensures ∙ c.in-Unknown.is) (visited_stuck c.counted-here.result (form_formed c.requires (leb-false _ _ (sym c.spent.ensures ∙ c.if-spent.false)) c.counted-here.ensures c.if-at-eq0.false (form_here c.requires (leb-false _ _ (sym c.spent.ensures ∙ c.if-spent.false)) c.counted-here.ensures c.fetch-head.ensures _ c.form_of.ensures ∙ c.in-Unknown.is)).visitable.room c.stuck-in-Unknown.ensures (unknown_is _ _ _ _ _ _ _ _ _ _))

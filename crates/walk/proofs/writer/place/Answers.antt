@@ -1,6 +1,6 @@
 use Rattle.walk.proofs.PathLaws.{got, lost}
 use Rattle.walk.proofs.RunLaws.{ran_is, ran_stuck}
-use Rattle.walk.proofs.FormLaws.{place_lost, place_other, place_text, place-escaped}
+use Rattle.walk.proofs.FormLaws.{place_lost, place_other, place_text, place_escaped}
 use Rattle.walk.proofs.writer.place.Goals as goal
 
 pub returns-in_default : goal.returns-in_default
@@ -22,4 +22,4 @@ pub write_escaped-requires : goal.write_escaped-requires
 write_escaped-requires c = (c.requires.0.value_lent.sized, c.requires.2)
 
 pub returns : goal.returns
-returns c = ran_is (place-escaped _ _ _ _ _ _ _ (got c.path_value.ensures.is c.in-Found.is) _ c.fetch-head.ensures.kind c.if-head-ne1.false _ c.fetch-head.ensures.b c.as_it_stands.ensures c.if-as_it_stands.false) c.write_escaped.ensures
+returns c = ran_is (place_escaped _ _ _ _ _ _ _ (got c.path_value.ensures.is c.in-Found.is) _ c.fetch-head.ensures.kind c.if-head-ne1.false _ c.fetch-head.ensures.b c.as_it_stands.ensures c.if-as_it_stands.false) c.write_escaped.ensures
