@@ -10,9 +10,6 @@ pub loop-n-init : goal.loop-n-init
 unfolding classes_named
 loop-n-init c = (omega arith, refl)
 
-pub overflow_cast-result : goal.overflow_cast-result
-overflow_cast-result c = omega (arith, (c.shared_slice_known-2-1.given c.loop-n.n).fits)
-
 pub returns-then-not-class_named : goal.returns-then-not-class_named
 returns-then-not-class_named c = every_stop _ c.loop-n.invariant.1 (numbered_more _ _ c.loop-n-test.true) (need_wrong _ (sym c.class_named.ensures ∙ c.if-not-class_named.true))
 
