@@ -1,14 +1,18 @@
-//! Links the static library of the Rattle crate `feed`, and has `rt` make it if it isn't there.
+//! Links the static library of the Rattle crate `feed_c`, and has `tools/staticlib` make it if it isn't
+//! there.
 //!
 //! `FEED_STATICLIB_DIR` names another folder that holds `libfeed.a`, for a machine without `rt`.
 
 use std::env;
-use std::io::ErrorKind;
 use std::path::{Path, PathBuf};
 use std::process::Command;
 
 const ARCHIVE: &str = "libfeed.a";
 const FOLDER_VARIABLE: &str = "FEED_STATICLIB_DIR";
+
+/// The script that makes the archive, and its status where there is no `rt`.
+const MAKER: &str = "tools/staticlib";
+const NO_RT: i32 = 127;
 
 fn main() {
     println!("cargo::rerun-if-env-changed={FOLDER_VARIABLE}");
@@ -49,7 +53,7 @@ fn given(folder: PathBuf) -> PathBuf {
     folder
 }
 
-/// The folder where `rt staticlib` puts the archive; `rt` is run if it isn't there.
+/// The folder where `tools/staticlib` puts the archive; it is run if the archive isn't there.
 fn made(repository: &Path) -> PathBuf {
     let folder = repository.join("target").join("staticlib");
     if !folder.join(ARCHIVE).is_file() {
@@ -57,7 +61,7 @@ fn made(repository: &Path) -> PathBuf {
     }
     if !folder.join(ARCHIVE).is_file() {
         fail(&format!(
-            "`rt staticlib feed` made no {}",
+            "`{MAKER}` made no {}",
             folder.join(ARCHIVE).display()
         ));
     }
@@ -65,23 +69,22 @@ fn made(repository: &Path) -> PathBuf {
 }
 
 fn make(repository: &Path) {
-    let run = Command::new("rt")
-        .args(["staticlib", "feed"])
+    let run = Command::new(repository.join(MAKER))
         .current_dir(repository)
         .output();
     match run {
         Ok(output) if output.status.success() => {}
+        Ok(output) if output.status.code() == Some(NO_RT) => fail(&format!(
+            "the static library isn't built, and `rt`, the Rattle toolchain that builds it, is not on the PATH. \
+             Put it there, or let {FOLDER_VARIABLE} name a folder that holds {ARCHIVE}"
+        )),
         Ok(output) => fail(&format!(
-            "`rt staticlib feed` failed ({}):\n{}{}",
+            "`{MAKER}` failed ({}):\n{}{}",
             output.status,
             String::from_utf8_lossy(&output.stdout),
             String::from_utf8_lossy(&output.stderr)
         )),
-        Err(error) if error.kind() == ErrorKind::NotFound => fail(&format!(
-            "the static library isn't built, and `rt`, the Rattle toolchain that builds it, is not on the PATH. \
-             Put it there, or let {FOLDER_VARIABLE} name a folder that holds {ARCHIVE}"
-        )),
-        Err(error) => fail(&format!("`rt staticlib feed` could not be run: {error}")),
+        Err(error) => fail(&format!("`{MAKER}` could not be run: {error}")),
     }
 }
 

@@ -10,30 +10,32 @@ use std::process::{Command, Output};
 const BUILT: &str = "\
 render: the program is not built; rt builds it now, and passes over the crates that it has proved as they are
 render: proving crate 1 of 4: rules
-render: proving crates 2-3 of 4: stream, records
+render: proving crate 2 of 4: stream
+render: proving crate 3 of 4: records
 render: proving crate 4 of 4: harbour
 ";
 
-/// Keeps what it is asked for in `runs`, says what the real one says, and builds the program. With
-/// a file `broken` there, the second level is not proved; with `idle`, no program is built.
+/// Keeps what it is asked for in `runs`, says what the real one says, and builds the program and runs it.
+/// With a file `broken` at the top, `records` is not proved; with `idle`, no program is built.
 const RT: &str = r#"#!/bin/sh
-echo "$*" >>runs
-for name; do
-    [ "$name" != check ] || continue
-    if [ "$name" = records ] && [ -e broken ]; then
-        echo "crates/records/src/lib.source:1:1: error: not proved"
-        echo "rt: records NOT PROVED (exit 1, 3 s)" >&2
-        exit 1
-    fi
-    echo "rt: $name proved (3 s)"
-done
-[ "$2" != harbour ] || [ -e idle ] || { mkdir -p target/bin && cp program target/bin/harbour; }
-echo "rt: ok, 4 crates proved"
+name=${PWD##*/}
+top=../..
+echo "$* in $name" >>$top/runs
+if [ "$name" = records ] && [ -e $top/broken ]; then
+    echo "src/lib.source:1:1: error: not proved"
+    echo "logic=not-proved" >&2
+    exit 1
+fi
+echo "logic=proved"
+mkdir -p out/lib/src && echo "$name" >out/lib/src/lib.source
+[ "$1" = run ] || exit 0
+[ -e $top/idle ] || cp $top/program out/harbour
+echo "1 1 0 0 0"
 "#;
 
 /// Answers what the file `answer` at the top of the repository has, if it is run beside the streams.
 const PROGRAM: &str = r#"#!/bin/sh
-cat grammar.blk template.blk value.blk >/dev/null && cat "$(dirname "$0")/../../answer"
+cat grammar.blk template.blk value.blk >/dev/null && cat "$(dirname "$0")/../../../answer"
 "#;
 
 const ANSWER: &str = "0 0 0 7 4\ntext";
@@ -43,7 +45,8 @@ rules:
 # what harbour does not need
 spare: rules
 stream: rules
-records: rules # two on one level
+records: rules stream # both below
+exports staticlib: harbour
 harbour: stream records rules io
 ";
 
@@ -173,7 +176,7 @@ fn a_finished_text() {
     little.write("answer", bytes);
     little.says(&["set"], 0, bytes, BUILT);
     little.says(&["set/"], 0, bytes, "");
-    let runs = "check rules\ncheck stream records\ncheck harbour\n";
+    let runs = "lib in rules\nlib in stream\nlib in records\nrun in harbour\n";
     assert_eq!(little.runs(), runs);
     little.sh("ln -s ../render set/link");
     let mut by_link = Command::new("./link");
@@ -200,7 +203,7 @@ fn a_program_that_fails() {
         little.write("answer", answer);
         little.fails(&["set"], odd);
     }
-    little.sh("rm target/bin/harbour");
+    little.sh("rm crates/harbour/out/harbour");
     little.executable("program", "#!/bin/sh\necho 0 0 0 7 4\nexit 3\n");
     let said = format!("{BUILT}render: the program ended with status 3\n");
     little.says(&["set"], 2, "0 0 0 7 4\n", &said);
@@ -303,14 +306,17 @@ fn built_when_a_source_has_changed() {
 #[test]
 fn built_by_something_else() {
     let little = Repository::new("else");
-    little.executable("target/bin/harbour", PROGRAM);
+    little.executable("crates/harbour/out/harbour", PROGRAM);
     assert!(!little.is_built());
-    little.age("target/bin/harbour"); // the sums are kept, and times count no more
+    little.age("crates/harbour/out/harbour"); // the sums are kept, and times count no more
     assert!(!little.is_built());
-    little.executable("target/bin/harbour", format!("{PROGRAM}# of other sources"));
+    little.executable(
+        "crates/harbour/out/harbour",
+        format!("{PROGRAM}# of other sources"),
+    );
     assert!(little.is_built());
-    little.sh("rm target/bin/harbour.sources");
-    little.age("target/bin/harbour");
+    little.sh("rm target/harbour.sources");
+    little.age("crates/harbour/out/harbour");
     assert!(little.is_built());
 }
 
@@ -323,8 +329,8 @@ fn a_build_that_fails() {
     let mut said = String::from("render: the program or a source of it has changed; ");
     said += BUILT.split("; ").nth(1).expect("a line");
     said.truncate(said.find("render: proving crate 4").expect("a line"));
-    said += "rt: stream proved (3 s)\ncrates/records/src/lib.source:1:1: error: not proved\nrt: records NOT PROVED (exit 1, 3 s)\n";
-    said += "render: the program is not built: `rt check stream records` failed\n";
+    said += "src/lib.source:1:1: error: not proved\nlogic=not-proved\n";
+    said += "render: the program is not built: `rt lib` in crates/records failed\n";
     little.fails(&["set"], &said);
     let why = "the last build did not end well";
     said = said.replace("the program or a source of it has changed", why);
@@ -332,9 +338,9 @@ fn a_build_that_fails() {
     little.sh("rm broken");
     assert!(little.is_built());
     assert!(!little.is_built());
-    little.sh("rm target/bin/harbour");
+    little.sh("rm crates/harbour/out/harbour");
     little.write("idle", "");
-    let program = little.path("target/bin/harbour");
+    let program = little.path("crates/harbour/out/harbour");
     let said = format!("{BUILT}render: rt has built no {}\n", program.display());
     little.fails(&["set"], &said);
 }

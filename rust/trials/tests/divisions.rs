@@ -76,7 +76,9 @@ fn every_crate_is_read() {
     let sources = sources();
     let list = fs::read_to_string(root().join("crates.txt")).expect("crates.txt");
     let names = list.lines().filter(|line| !line.starts_with('#'));
-    let names: Vec<&str> = names.filter_map(|line| line.split(':').next()).collect();
+    let names: Vec<&str> = names
+        .filter_map(|line| line.split([':', ' ']).next())
+        .collect();
     assert!(names.contains(&"stream"));
     for name in names.into_iter().filter(|name| !name.is_empty()) {
         let folder = format!("crates/{name}/src/");
@@ -110,6 +112,10 @@ fn other_divisors_are_found() {
             "if requires { a / 5 } }",
         ),
         ("fn f()\n    ensures { { a / 5 } }\n{ b / 5 }", "{ b / 5 }"),
+        (
+            "fn f()\n    ensures low { { a / 5 } }\n{ b / 5 }",
+            "{ b / 5 }",
+        ),
     ] {
         assert_eq!(others(source), [code], "{source}");
     }
@@ -129,6 +135,8 @@ fn powers_of_two_and_what_is_no_code_are_passed_over() {
         "a // half a / 63",
         "ghost use Nat.{_/_,\n    _%_};",
         "fn f<'a>(b: &'a [u8; 4])\nrequires { a\n/ 63 }\nensures { λ r. { r } % 3 }\n{ 1 }",
+        "fn f()\nrequires low { a / 63 }\nensures* lent { { r } % 3 }\nensures { b / 5 }\n{ 1 }",
+        "struct S { a: u8, ghost low: { a / 3 < 2 } }\nimpl S {\nghost view = { λ s. s % 5 }; }",
         "f(\"a / 63\", b\"% 5\", '/', b'%')",
     ] {
         assert_eq!(others(source), [""; 0], "{source}");
@@ -146,7 +154,7 @@ fn root() -> PathBuf {
     Path::new(env!("CARGO_MANIFEST_DIR")).join("../..")
 }
 
-/// All Rattle sources below `crates`.
+/// All Rattle sources below `crates`, but for the copies that `rt` keeps in `out`.
 fn sources() -> Sources {
     let mut sources = Sources::new();
     let mut folders = vec!["crates".to_string()];
@@ -154,7 +162,9 @@ fn sources() -> Sources {
         for entry in fs::read_dir(root().join(&folder)).expect("a folder") {
             let entry = entry.expect("an entry");
             let path = format!("{folder}/{}", entry.file_name().to_string_lossy());
-            if entry.path().is_dir() {
+            if entry.file_name() == "out" {
+                continue;
+            } else if entry.path().is_dir() {
                 folders.push(path);
             } else if path.ends_with(".rt") {
                 let text = fs::read_to_string(entry.path()).expect("a source");
@@ -225,7 +235,8 @@ fn constant(code: &[Token], name: &str) -> Option<u128> {
     }
 }
 
-/// The tokens without `ghost use` and contracts, which stand between `fn` and the body.
+/// The tokens without what only a proof reads: `ghost` items, and contracts, which stand between `fn`
+/// and the body.
 fn code(source: &str) -> Vec<Token<'_>> {
     let mut code = Vec::new();
     let mut in_head = false;
@@ -234,7 +245,8 @@ fn code(source: &str) -> Vec<Token<'_>> {
         let next = rest.peek().map_or("", |token| token.text);
         match token.text {
             "ghost" if next == "use" => assert!(rest.any(|token| token.text == ";")),
-            "requires" | "ensures" if in_head && next == "{" => skip_block(&mut rest),
+            "ghost" => skip_block(&mut rest),
+            "requires" | "ensures" if in_head => skip_block(&mut rest),
             text => {
                 in_head = text == "fn" || in_head && text != "{";
                 code.push(token);
@@ -244,12 +256,12 @@ fn code(source: &str) -> Vec<Token<'_>> {
     code
 }
 
-/// Skips from an opening brace past the one that closes it.
+/// Skips a name and what else stands before an opening brace, and past the one that closes it.
 fn skip_block<'a>(rest: &mut impl Iterator<Item = Token<'a>>) {
     let mut depth = 0;
     let is_end = |token: Token| {
         depth += i32::from(token.text == "{") - i32::from(token.text == "}");
-        depth == 0
+        token.text == "}" && depth == 0
     };
     assert!(rest.any(is_end), "a contract ends");
 }
