@@ -3,8 +3,8 @@
  *
  * A grammar, a template set and a value go in, each as a stream of blocks of
  * 512 bytes; a text that the grammar derives comes out, or one numbered refusal.
- * Link the static library of crate `feed` (target/staticlib/libfeed.a, which
- * `rt staticlib feed` makes). It has no state of its own, takes no memory but
+ * Link the static library of crate `feed_c` (target/staticlib/libfeed.a, which
+ * `tools/staticlib` makes). It has no state of its own, takes no memory but
  * what it is lent and its stack, and may be called from several threads at once.
  * A call takes less than 256 KiB of stack, as measured on the deepest sets;
  * the tests run it on a thread of 512 KiB.
