@@ -1,5 +1,5 @@
 // The calls, and what is printed of each behind the arrow.
-use crate::print::{fields, hash, labelled};
+use crate::print::{fields, hash, labelled, text};
 use rules::Answer;
 use std::io;
 
@@ -52,21 +52,21 @@ fn dispatch(
 ) -> io::Result<()> {
     let kind = (number % 256) as u8;
     match call {
-        10 => hash(rt, " ", first),
+        10 => hash(rt, b" ", first),
         11 => block_payload(rt, first, number),
         12 => pack(rt, kind, first, out),
         13 => unpack(rt, kind, first, out),
         14 => evaluate(rt, first, second, third, number, out, scratch),
         15 => unescape(rt, first, out),
-        _ => print!(rt; " no call"),
+        _ => text(rt, b" no call"),
     }
 }
 
 // The length of what is handed back, and its bytes.
 fn block_payload(rt: &impl Print, block: &[u8], start: u32) -> io::Result<()> {
     let payload = feed::block_payload(block, start);
-    labelled(rt, " ", payload.len())?;
-    hash(rt, "  bytes-fnv=", payload)
+    labelled(rt, b" ", payload.len())?;
+    hash(rt, b"  bytes-fnv=", payload)
 }
 
 // The five fields, and the bytes that they count.
@@ -74,7 +74,7 @@ fn written(rt: &impl Print, a: Answer, out: &[u8]) -> io::Result<()> {
     fields(rt, a)?;
     let n = a.bytes as usize;
     if n <= out.len() {
-        hash(rt, "  bytes-fnv=", &out[0..n])?;
+        hash(rt, b"  bytes-fnv=", &out[0..n])?;
     }
     Ok(())
 }
@@ -115,19 +115,19 @@ fn all_numbers(s: &[u16], x: u16) -> bool {
 fn rest(rt: &impl Print, a: Answer, out: &[u8]) -> io::Result<()> {
     let n = a.bytes as usize;
     if n <= out.len() && all_bytes(&out[n..], 165) {
-        print!(rt; "  rest kept")
+        text(rt, b"  rest kept")
     } else {
-        print!(rt; "  rest changed")
+        text(rt, b"  rest changed")
     }
 }
 
 fn scratched(rt: &impl Print, scratch: &[u16]) -> io::Result<()> {
     if all_numbers(scratch, 23130) {
-        print!(rt; "  scratch kept")
+        text(rt, b"  scratch kept")
     } else if all_numbers(scratch, 0) {
-        print!(rt; "  scratch zero")
+        text(rt, b"  scratch zero")
     } else {
-        print!(rt; "  scratch changed")
+        text(rt, b"  scratch changed")
     }
 }
 
@@ -145,6 +145,6 @@ fn evaluate(
     written(rt, a, out)?;
     rest(rt, a, out)?;
     scratched(rt, scratch)?;
-    print!(rt; "  check ->")?;
+    text(rt, b"  check ->")?;
     fields(rt, feed::check(g, t))
 }

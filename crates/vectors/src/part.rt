@@ -2,6 +2,7 @@
 ghost use Rattle.std.specs.Io.{ReadsAtMost};
 
 use crate::call::{Lent, make_call};
+use crate::print::text;
 use std::io;
 use std::io::{ErrorKind, Read};
 
@@ -71,7 +72,7 @@ fn put(file: &mut impl Read, head: &[u8; 32], s: &mut [u8]) -> io::Result<()> {
 // Reads a label that fills the space, and prints it.
 fn label(rt: &impl Print, file: &mut impl Read, space: &mut [u8]) -> io::Result<()> {
     let n = read_full(file, space)?;
-    rt.write_all(&space[..n])
+    text(rt, &space[..n])
 }
 
 // Prints a case's line.
@@ -86,7 +87,7 @@ fn ask(
     let mut space = [0u8; 256];
     let length = (number(head, 1) % 256) as usize;
     label(rt, file, &mut space[0..length])?;
-    print!(rt; " ->")?;
+    text(rt, b" ->")?;
     let lent = Lent {
         number: number(head, 2),
         room: number(head, 6) as usize,
@@ -100,7 +101,7 @@ fn ask(
         front(second, number(head, 4)),
         front(third, number(head, 5)),
     )?;
-    println!(rt)
+    text(rt, b"\n")
 }
 
 // Reads a part and does what it says. False where there is no other.
