@@ -17,8 +17,15 @@ OWN = "entities|feed|finite|laws|layout|lexeme|limits|records|rules|stream|theor
 WORD = re.compile(r"[^\s(){}\[\].,;:@«»λ\"`|]+")
 # A constructor of rules and a definition of layout, which no file cites together.
 BOTH = ["yes-no", "yesNo"]
+# Names that get a word more, since another thing has the plain one.
+APART = {
+    "asks-class": "asks_a_class",
+    "asks-nonterminal": "asks_a_nonterminal",
+    "asks-repetition": "asks_a_repetition",
+    "oneMore": "one_more_production",
+}
 # Lemmas that would come to the name of a definition: that of port.py's spelling, or of this one's.
-LEMMAS = "end-at has-type type-named byte-of text-of kind-of place-of plain-of sites-of typed-of visit-at bit-and bit-or below_at first_byte no_plain one_more plain_end".split()
+LEMMAS = "end-at has-type type-named byte-of text-of kind-of place-of plain-of sites-of typed-of visit-at bit-and bit-or below_at first_byte no_plain plain_end".split()
 
 
 def antt_files():
@@ -30,6 +37,8 @@ def snake_of(name):
 
 
 def snake(name):
+    if name in APART:
+        return APART[name]
     return snake_of(name) + "_lem" * (name in LEMMAS)
 
 
@@ -89,7 +98,7 @@ def main():
     for new, olds in together.items():
         if len(olds) > 1:
             for old in olds:
-                if "-" in old and "definition" in kinds[old] and old not in BOTH:
+                if "-" in old and "definition" in kinds[old] and old not in BOTH and old not in APART:
                     to[old] = new + "_lem"
     files = antt_files() + sorted(glob.glob("crates/*/src/**/*.rt", recursive=True)) + sorted(glob.glob("crates/*/must-fail/*.edit"))
     used = collections.Counter()

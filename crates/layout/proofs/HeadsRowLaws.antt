@@ -13,7 +13,7 @@ use Rattle.rules.specs.Records.{base, byte_of, field_a, record_count, field_c, h
 use Rattle.rules.specs.Grammar.{is_class, production_size, grammar_size, classes, productions}
 use Rattle.rules.specs.Templates.{templates_size, types, templates}
 use Rattle.theorems.specs.Streams.{length_exactly}
-use Rattle.theorems.specs.LaidOut.{InRow, no_thing, one_thing, Numbered, no_more, one_more_lem, Tail}
+use Rattle.theorems.specs.LaidOut.{InRow, no_thing, one_thing, Numbered, no_more, one_more, Tail}
 use Rattle.theorems.specs.Heads.{Spans, Sorts, kind_after, not_first, grammar_sorts, templates_sorts, class_spans, production_spans, type_spans, template_spans, classes_are, productions_are, types_are, templates_are}
 use Rattle.theorems.specs.Sizes.{each_in_row, each_numbered, row_grows, class_number}
 use Rattle.theorems.specs.LayoutExactly.{grammar_laid_exactly, templates_laid_exactly}
@@ -137,7 +137,7 @@ module _ {s : List ℕ} {is is' : ℕ → Bool} {size other : ℕ → ℕ} {most
 -- numbers of 8 bits
 few_numbered : {Thing : ℕ → ℕ → ℕ → Type 0} {n m p q : ℕ} → ((n p q : ℕ) → Thing n p q → n < 256) → Numbered Thing n m p q → n ≤ 256 → n + m ≤ 256
 few_numbered f (no_more n p) l = omega arith
-few_numbered f (one_more_lem n m p q r x xs) l = let a = f n p q x in let b = few_numbered f xs (omega arith) in omega arith
+few_numbered f (one_more n m p q r x xs) l = let a = f n p q x in let b = few_numbered f xs (omega arith) in omega arith
 
 number_small : (g : List ℕ) → ((i : ℕ) → get_or g i 0 < 256) → (p : ℕ) → field_a g p < 256
 unfolding field_a byte_of

@@ -11,7 +11,7 @@ use borrow.Author.Tests.{ltb-true, ltb-false}
 use Rattle.lexeme.specs.Sets.{bit_at, is_in, WordOf}
 use Rattle.lexeme.specs.Runs.{RunsTo}
 use Rattle.lexeme.proofs.BitLaws.{word_says}
-use Rattle.lexeme.proofs.RunLaws.{no_bit, lead_bit, one_more_lem, two_more, ran_none, ran_then}
+use Rattle.lexeme.proofs.RunLaws.{no_bit, lead_bit, one_more, two_more, ran_none, ran_then}
 
 -- the words: two of ASCII, and w, the lead's
 pub mixed_words : ℕ → ℕ → ℕ → List ℕ
@@ -100,7 +100,7 @@ module _ (set₁ part words : List ℕ) (from i leads b v : ℕ) (l : i < length
       let step : RunsTo set₁ part i (i + 1) 1 = record {
         ahead = omega arith;
         inside = omega arith;
-        same = λ g p r n. one_more_lem g set₁ part p r n i l (rw e at k) (rw e at f);
+        same = λ g p r n. one_more g set₁ part p r n i l (rw e at k) (rw e at f);
       } in
       rw q record {
         inside = omega arith;

@@ -47,10 +47,10 @@ drop_two xs i l =
 
 -- a character more
 module _ (g set part : List ℕ) (p : ℕ) (r : ClassSet g p set) (n i : ℕ) where
-  pub one_more_lem : i < length part → get_or part i 0 < 0x80 → is_in set (get_or part i 0) ≡ true
+  pub one_more : i < length part → get_or part i 0 < 0x80 → is_in set (get_or part i 0) ≡ true
       → scanned g (ranges g p) (clean n) (drop i part) ≡ scanned g (ranges g p) (clean (n + 1)) (drop (i + 1) part)
   unfolding scanned
-  one_more_lem l m e =
+  one_more l m e =
       let b : ℕ = get_or part i 0 in
       let s : seen g (ranges g p) (clean n) b ≡ clean (n + 1) =
       seen_first g (ranges g p) n b
@@ -147,7 +147,7 @@ module _ (set₁ : List ℕ) (low high : ℕ) (u : WordOf set₁ 0 low) (v : Wor
   plain_scan g part p r (suc d) from to n e l each =
       let h = plain_byte (get_or part from 0) (each from (omega arith) (omega arith)) in
       let q : n + 1 + d ≡ n + suc d = omega arith in
-      one_more_lem g set₁ part p r n from (omega arith) h.0 h.1
+      one_more g set₁ part p r n from (omega arith) h.0 h.1
       ∙ plain_scan g part p r d (from + 1) to (n + 1) (omega arith) l (λ k a b. each k (omega arith) b)
       ∙ ap (λ (m : ℕ). scanned g (ranges g p) (clean m) (drop to part)) q
 

@@ -68,21 +68,21 @@ told_wrong a b e t = sym e ∙ not-true a t
 pub told_right : (a b : Bool) → a ≡ b → not a ≡ false → b ≡ true
 told_right a b e t = sym e ∙ not-false a t
 
-one_more_lem : (k n : ℕ) → n < k → row (k - n) n ≡ n ∷ row (k - (n + 1)) (n + 1)
+one_more : (k n : ℕ) → n < k → row (k - n) n ≡ n ∷ row (k - (n + 1)) (n + 1)
 unfolding row heads
-one_more_lem k n l = let z : k - n ≡ suc (k - (n + 1)) = omega arith in rw (z, row, heads)
+one_more k n l = let z : k - n ≡ suc (k - (n + 1)) = omega arith in rw (z, row, heads)
 
 module _ (kind : ℕ) (s : List ℕ) (k n : ℕ) where
   pub fault_later : n < k → block_right kind s n ≡ true → fault_from kind s k n ≡ fault_from kind s k (n + 1)
   unfolding every need both
-  fault_later l e = rw (one_more_lem k n l, every, e)
+  fault_later l e = rw (one_more k n l, every, e)
 
   fault_next : (m : ℕ) → m ≡ n + 1 → n < k → block_right kind s n ≡ true → fault_from kind s k n ≡ fault_from kind s k m
   fault_next m z l e = rw z (fault_later l e)
 
   pub fault_here : n < k → block_right kind s n ≡ false → fault_from kind s k n ≡ some n
   unfolding every need both
-  fault_here l e = rw (one_more_lem k n l, every, e)
+  fault_here l e = rw (one_more k n l, every, e)
 
   pub fault_none : k ≤ n → fault_from kind s k n ≡ none
   unfolding every row heads

@@ -137,8 +137,8 @@ module _ (kind : ℕ) (p out₀ out : List ℕ) (blocks start n : ℕ) (so : blo
       let f : 504 * n + 504 ≡ 504 * (n + 1) = omega arith in
       c.rest ∙ rw (e, packed_blocks, drop-drop 504 (504 * n) p, f, add-one n)
 
-  one_more_lem : take (512 * (n + 1)) whole ≡ take (512 * n) whole ++ here
-  one_more_lem =
+  one_more : take (512 * (n + 1)) whole ≡ take (512 * n) whole ++ here
+  one_more =
       let e : 512 * (n + 1) ≡ 512 * n + 512 = omega arith in
       rw (e, take-add (512 * n) 512 whole, at_block, take_at here onward 512 here_length)
 
@@ -156,7 +156,7 @@ module _ (kind : ℕ) (p out₀ out : List ℕ) (blocks start n : ℕ) (so : blo
       let q : take (to - 504 * n) (drop (504 * n) p) ≡ take 504 (drop (504 * n) p) = payload_part p n to t (omega arith) in
       let w : length (take (512 * n) whole) ≡ 512 * n = length-take-le (512 * n) whole (rw packed_length (omega arith)) in
       record {
-        put = rw one_more_lem (begun_more out₀ out (take (512 * n) whole) here last (512 * n) 512 w here_length c.put (rw q at e));
+        put = rw one_more (begun_more out₀ out (take (512 * n) whole) here last (512 * n) 512 w here_length c.put (rw q at e));
         rest = onward_rest ∙ rw (h, q);
       }
 

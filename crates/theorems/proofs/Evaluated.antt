@@ -17,7 +17,7 @@ use Rattle.rules.specs.Walk.{in_order, items_of, visit_in, visit_form, counted, 
 use Rattle.rules.specs.declared.Form.{Form}
 use Rattle.rules.specs.declared.Form.TheVariants.{Build, Literal, Place, Expand, If, For, Sequence, Match, Unknown}
 use Rattle.rules.specs.declared.Position.{Position}
-use Rattle.theorems.specs.Children.{Asks, asks_class_lem, asks_nonterminal_lem, asks_repetition_lem, asks_nothing}
+use Rattle.theorems.specs.Children.{Asks, asks_a_class, asks_a_nonterminal, asks_a_repetition, asks_nothing}
 use Rattle.theorems.specs.Finds.{Finds, text_is, yes_is, no_is, finds_exactly, finds_all_exactly, case_is}
 use Rattle.theorems.proofs.Places.{place_text}
 use Rattle.theorems.specs.Handed.{IsFor, a_for, no_for, is_for_lem, filled_by_lem, listed_is, for_visited, item_visited, one_brought, turns_brought}
@@ -76,9 +76,9 @@ module _ (i : Input) (go : Asked → ℕ → List ℕ → State → End) (below 
   pieces_built p env [] cs s s' e = wrote_nothing _ s s' e no_element
   pieces_built p env (keyword w ∷ es) cs s s' e =
       then_wrote _ _ _ _ _ s s' e (write_wrote i.room p w s) (λ s₁. pieces_built p env es cs s₁ s') λ x y m n q b. rw (← q.0, ← q.1, zero-add) (own_bytes b)
-  pieces_built p env (lexeme c ∷ es) cs s s' e = next_built p env _ _ es cs s s' (asks_class_lem c) (λ ds s₁. pieces_built p env es ds s₁ s') e
-  pieces_built p env (nonterminal n ∷ es) cs s s' e = next_built p env _ _ es cs s s' (asks_nonterminal_lem n) (λ ds s₁. pieces_built p env es ds s₁ s') e
-  pieces_built p env (repetition n x ∷ es) cs s s' e = next_built p env _ _ es cs s s' (asks_repetition_lem n x) (λ ds s₁. pieces_built p env es ds s₁ s') e
+  pieces_built p env (lexeme c ∷ es) cs s s' e = next_built p env _ _ es cs s s' (asks_a_class c) (λ ds s₁. pieces_built p env es ds s₁ s') e
+  pieces_built p env (nonterminal n ∷ es) cs s s' e = next_built p env _ _ es cs s s' (asks_a_nonterminal n) (λ ds s₁. pieces_built p env es ds s₁ s') e
+  pieces_built p env (repetition n x ∷ es) cs s s' e = next_built p env _ _ es cs s s' (asks_a_repetition n x) (λ ds s₁. pieces_built p env es ds s₁ s') e
   pieces_built p env (unknown ∷ es) cs s s' e = next_built p env _ _ es cs s s' asks_nothing (λ ds s₁. pieces_built p env es ds s₁ s') e
 
   separate_wrote : (f : Filled) (k : ℕ) (s s' : State) → separate i.room f k s ≡ done s' → Wrote (λ z n. BeforeItem f.separator k z × (0 ≡ n)) s s'

@@ -21,7 +21,7 @@ use Rattle.rules.specs.Walk.{Filled, Asked, piece, items, separate, visit_item, 
 use Rattle.rules.specs.declared.Form.{Form}
 use Rattle.rules.specs.declared.Form.TheVariants.{Build, Literal, Place, Expand, If, For, Sequence, Match, Unknown}
 use Rattle.rules.specs.declared.Position.{Position}
-use Rattle.theorems.specs.Children.{Asks, asks_class_lem, asks_nonterminal_lem, asks_repetition_lem, asks_nothing}
+use Rattle.theorems.specs.Children.{Asks, asks_a_class, asks_a_nonterminal, asks_a_repetition, asks_nothing}
 use Rattle.theorems.specs.Finds.{Finds, text_is, yes_is, no_is, finds_exactly, finds_all_exactly, case_is}
 use Rattle.theorems.specs.Ends.{write_done}
 use Rattle.theorems.specs.Levels.{filling}
@@ -160,9 +160,9 @@ module _ (i : Input) where
         write_fair p x s (hw x [] 0 s this_keyword (after_none s)) λ s₁ b.
         pieces_fair p env es cs s₁ (λ e c n y s₂ to l. hc e c n _ s₂ (past_keyword to) (after_text b l))
         (λ w y n s₂ to l. hw w _ n s₂ (past_keyword to) (after_text b l))
-    pieces_fair p env (lexeme c ∷ es) cs s hc hw = child_fair p env _ es cs s (asks_class_lem c) hc hw (pieces_fair p env es)
-    pieces_fair p env (nonterminal n ∷ es) cs s hc hw = child_fair p env _ es cs s (asks_nonterminal_lem n) hc hw (pieces_fair p env es)
-    pieces_fair p env (repetition n x ∷ es) cs s hc hw = child_fair p env _ es cs s (asks_repetition_lem n x) hc hw (pieces_fair p env es)
+    pieces_fair p env (lexeme c ∷ es) cs s hc hw = child_fair p env _ es cs s (asks_a_class c) hc hw (pieces_fair p env es)
+    pieces_fair p env (nonterminal n ∷ es) cs s hc hw = child_fair p env _ es cs s (asks_a_nonterminal n) hc hw (pieces_fair p env es)
+    pieces_fair p env (repetition n x ∷ es) cs s hc hw = child_fair p env _ es cs s (asks_a_repetition n x) hc hw (pieces_fair p env es)
     pieces_fair p env (unknown ∷ es) cs s hc hw = child_fair p env _ es cs s asks_nothing hc hw (pieces_fair p env es)
 
     -- an item: its separator has no room, or it is visited after that

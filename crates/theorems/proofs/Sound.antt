@@ -22,7 +22,7 @@ use Rattle.rules.specs.declared.Position.TheVariants.{Nonterminal, Item}
 use Rattle.laws.specs.Faults.{both_none, nth_in, every_in, on_found_none, at_none}
 use Rattle.theorems.specs.Ends.{Ends, finished, limited, ends_map, then_ends, found_ends, reached_ends, write_ends, ends_done}
 use Rattle.theorems.proofs.Lexemes.{piece_exactly}
-use Rattle.theorems.specs.Children.{Asks, asks_class_lem, asks_nonterminal_lem, asks_repetition_lem}
+use Rattle.theorems.specs.Children.{Asks, asks_a_class, asks_a_nonterminal, asks_a_repetition}
 use Rattle.theorems.specs.Levels.{filling}
 use Rattle.theorems.specs.Handed.{pieces_child, IsFor, a_for, no_for, is_for_lem, for_visited, item_visited, one_brought}
 use Rattle.theorems.specs.Evaluation.{BeforeItem, the_first, another}
@@ -113,7 +113,7 @@ module _ (i : Input) (below : Asked → ℕ → List ℕ → State → End) (sou
       → (s : State) → Ends (Wrote (Further g f.nonterminal f.separator k (k + 1)) s.text) (visit_item room below f k c env s)
   unfolding visit_item
   item_sound f k su h s =
-      writes_then _ (λ z x b d. further_one x b (piece_derived d)) (separate_sound f k s) (sound.writes su (asks_nonterminal_lem _) h)
+      writes_then _ (λ z x b d. further_one x b (piece_derived d)) (separate_sound f k s) (sound.writes su (asks_a_nonterminal _) h)
 
   node_sound : {vars env : List ℕ} {c : ℕ} (f : Filled) (k : ℕ) → Suits g t vars c (Item f.nonterminal) → EachOf g t v vars env
       → (s : State) → Ends (Wrote (Further g f.nonterminal f.separator k (k + items_of i env c)) s.text) (visit_in i below f env k c s)
@@ -144,16 +144,16 @@ module _ (i : Input) (below : Asked → ℕ → List ℕ → State → End) (sou
   form_sound : BodiesSuit g t → {vars env : List ℕ} {p : ℕ} {e : Element} {at : Position} → Suits g t vars p at → Asks e at → EachOf g t v vars env
       → (s : State) → Ends (Wrote (Piece g e) s.text) (visit_form i (form_of t p) below (piece e) p env s)
   unfolding visit_form filled_by on_found
-  form_sound bodies (by_build vars p n q f e b fs) (asks_nonterminal_lem n') h s =
+  form_sound bodies (by_build vars p n q f e b fs) (asks_a_nonterminal n') h s =
       rw f (found_ends _ e (writes_map (λ x ps. derived n x (produced n (field_b t p) q x e b ps)) (fills_sound p fs h s)))
-  form_sound bodies (by_literal vars p c f e) (asks_class_lem c') h s = rw f (writes_whole room p _ s ((piece_exactly g c _).1 e))
-  form_sound bodies (by_place vars p c d ty f e b k) (asks_class_lem c') h s =
+  form_sound bodies (by_literal vars p c f e) (asks_a_class c') h s = rw f (writes_whole room p _ s ((piece_exactly g c _).1 e))
+  form_sound bodies (by_place vars p c d ty f e b k) (asks_a_class c') h s =
       let w = path_of e h in
       let x = shaped (text d) w.2 b in
       rw f (found_ends _ w.1 (found_ends _ x.1 (writes_whole room p _ s ((piece_exactly g c _).1 (place_lexeme k x.2 (place_text g (lexeme c) refl))))))
-  form_sound bodies (by_expand vars p n q f e b as') (asks_nonterminal_lem n') h s =
+  form_sound bodies (by_expand vars p n q f e b as') (asks_a_nonterminal n') h s =
       let ws = arguments_of as' h in
-      rw (f, ← b) (found_ends _ e (found_ends _ ws.1 (sound.writes (bodies _ q e) (asks_nonterminal_lem _) ws.2 s)))
+      rw (f, ← b) (found_ends _ e (found_ends _ ws.1 (sound.writes (bodies _ q e) (asks_a_nonterminal _) ws.2 s)))
   form_sound bodies (by_if vars p n ty f e b su su') a h s =
       let w = path_of e h in
       let y = shaped yes_no w.2 b in
@@ -165,7 +165,7 @@ module _ (i : Input) (below : Asked → ℕ → List ℕ → State → End) (sou
       rw f (found_ends _ w.1 (found_ends _ is (found_ends _ y (sound.writes su a (each_more h o) s))))
   form_sound bodies {vars = vars} {env = env} {p = p} {e = e} (by_for _ _ n ty item _ _ _ _) a h s = elim a [ ]
   form_sound bodies {vars = vars} {env = env} {p = p} {e = e} (as_item _ _ n _) a h s = elim a [ ]
-  form_sound bodies (by_sequence vars p n f is) (asks_repetition_lem n' x) h s =
+  form_sound bodies (by_sequence vars p n f is) (asks_a_repetition n' x) h s =
       rw f (writes_map (λ y r. repeated n x y (further_row r.1 refl)) (items_sound p 0 is h s))
 
   for_sound : {vars env : List ℕ} {p : ℕ} (f : Filled) (k : ℕ) → form_of t p ≡ For → Suits g t vars p (Item f.nonterminal) → EachOf g t v vars env
@@ -210,7 +210,7 @@ module _ (i : Input) (h : WellTyped i) where
         r.0,
         r.1,
         found_ends _ r.1
-            (writes_map (λ x. piece_derived) ((visit_sound deepest).writes (bodies_suit 0 r.0 r.1) (asks_nonterminal_lem _) r.2 start)),
+            (writes_map (λ x. piece_derived) ((visit_sound deepest).writes (bodies_suit 0 r.0 r.1) (asks_a_nonterminal _) r.2 start)),
       )
 
 ends_not_stuck : {Q : State → Type 0} {e : End} → Ends Q e → e ≡ stuck → ⊥

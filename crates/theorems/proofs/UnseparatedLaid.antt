@@ -10,7 +10,7 @@ use Rattle.rules.specs.Grammar.{text_length, element_size, grammar_size, product
 use Rattle.rules.specs.Layout.{layout_fault, grammar_layout}
 use Rattle.laws.specs.Faults.{In, here, later, need_alike}
 use Rattle.theorems.specs.Streams.{WellSized}
-use Rattle.theorems.specs.LaidOut.{InRow, no_thing, one_thing, Numbered, no_more, one_more_lem, Padded, Tail, RangeAt, ClassAt, ElementHead, ElementAt, ProductionAt, GrammarLaid}
+use Rattle.theorems.specs.LaidOut.{InRow, no_thing, one_thing, Numbered, no_more, one_more, Padded, Tail, RangeAt, ClassAt, ElementHead, ElementAt, ProductionAt, GrammarLaid}
 use Rattle.theorems.specs.LaidOut.ClassAt.{a_plain, an_escaped}
 use Rattle.theorems.specs.LaidOut.ElementAt.{a_keyword, a_name, a_separated}
 use Rattle.theorems.specs.LayoutExactly.{grammar_laid_exactly}
@@ -33,8 +33,8 @@ numbered_too : {A B : ℕ → ℕ → ℕ → Type 0} (size : ℕ → ℕ) {m n 
     → ((k x q : ℕ) → In x (heads size n p) → A k x q → B k x q) → Numbered A m n p r → Numbered B m n p r
 unfolding heads
 numbered_too size e h (no_more m p) = no_more m p
-numbered_too size e h (one_more_lem m n p q r a as') =
-    one_more_lem m n p q r (h m p q (here _) a)
+numbered_too size e h (one_more m n p q r a as') =
+    one_more m n p q r (h m p q (here _) a)
     (numbered_too size e (λ k x y i. h k x y (later p _ (subst (λ (z : ℕ). In x (heads size n z)) (e m p q a) i))) as')
 
 -- a repetition without separator has no text and so no padding

@@ -23,7 +23,7 @@ use Rattle.rules.specs.declared.Form.{Form}
 use Rattle.rules.specs.declared.Form.TheVariants.{Build, Literal, Place, Expand, If, For, Sequence, Match, Unknown}
 use Rattle.rules.specs.declared.Position.{Position}
 use Rattle.laws.specs.Faults.{In, here, later}
-use Rattle.theorems.specs.Children.{Asks, asks_class_lem, asks_nonterminal_lem, asks_repetition_lem, asks_nothing, ChildFor, this_child, past_keyword, past_child}
+use Rattle.theorems.specs.Children.{Asks, asks_a_class, asks_a_nonterminal, asks_a_repetition, asks_nothing, ChildFor, this_child, past_keyword, past_child}
 use Rattle.theorems.specs.Ends.{reached_done}
 use Rattle.theorems.specs.Finds.{Finds, text_is, yes_is, no_is, finds_exactly, finds_all_exactly, case_is}
 use Rattle.theorems.proofs.Places.{place_text}
@@ -109,9 +109,9 @@ module _ (i : Input) (fuel room : ℕ) (R : State → End → End → Type 0) (k
     pieces_both [] cs h k s = kept.nothing s
     pieces_both (keyword x ∷ es) cs h k s =
         kept.one_then _ _ (h x (here es) s) (pieces_both es cs (λ y j. h y (later _ es j)) (λ e c j. k e c (past_keyword x e c es cs j)))
-    pieces_both (lexeme c ∷ es) cs h k s = child_both _ es cs _ (asks_class_lem c) k (λ ds. pieces_both es ds (λ y j. h y (later _ es j))) s
-    pieces_both (nonterminal n ∷ es) cs h k s = child_both _ es cs _ (asks_nonterminal_lem n) k (λ ds. pieces_both es ds (λ y j. h y (later _ es j))) s
-    pieces_both (repetition n x ∷ es) cs h k s = child_both _ es cs _ (asks_repetition_lem n x) k (λ ds. pieces_both es ds (λ y j. h y (later _ es j))) s
+    pieces_both (lexeme c ∷ es) cs h k s = child_both _ es cs _ (asks_a_class c) k (λ ds. pieces_both es ds (λ y j. h y (later _ es j))) s
+    pieces_both (nonterminal n ∷ es) cs h k s = child_both _ es cs _ (asks_a_nonterminal n) k (λ ds. pieces_both es ds (λ y j. h y (later _ es j))) s
+    pieces_both (repetition n x ∷ es) cs h k s = child_both _ es cs _ (asks_a_repetition n x) k (λ ds. pieces_both es ds (λ y j. h y (later _ es j))) s
     pieces_both (unknown ∷ es) cs h k s = child_both _ es cs _ asks_nothing k (λ ds. pieces_both es ds (λ y j. h y (later _ es j))) s
 
   -- before an item: nothing, or the separator, which is the sequence's piece

@@ -14,7 +14,7 @@ use Rattle.rules.specs.Layout.{grammar_layout}
 use Rattle.rules.specs.Cases.{head, production}
 use Rattle.laws.specs.Faults.{need_iff}
 use Rattle.theorems.specs.Streams.{WellSized, length_exactly}
-use Rattle.theorems.specs.LaidOut.{InRow, no_thing, Numbered, no_more, one_more_lem, Tail, ElementAt, ProductionAt, GrammarLaid}
+use Rattle.theorems.specs.LaidOut.{InRow, no_thing, Numbered, no_more, one_more, Tail, ElementAt, ProductionAt, GrammarLaid}
 use Rattle.theorems.specs.LayoutExactly.{grammar_laid_exactly}
 use Rattle.theorems.specs.ManyProductions.{count_is}
 use Rattle.theorems.specs.Packing.{fill_count, fill_small, packed_meets_neither, unpacked_packed}
@@ -127,7 +127,7 @@ module _ (n : ℕ) (some-production : 1 ≤ n) (fits : n ≤ 8064) where
   row zero i e = let z : i ≡ n = omega arith in subst (λ (m : ℕ). Numbered (ProductionAt (grammar_of n)) i 0 i m) z (no_more i i)
   row (suc k) i e =
       let next : suc i ≡ i + 1 = omega arith in
-      one_more_lem i k i (i + 1) n (a_production i (omega arith)) (subst (λ (p : ℕ). Numbered (ProductionAt (grammar_of n)) (suc i) k p n) next (row k (suc i) (omega arith)))
+      one_more i k i (i + 1) n (a_production i (omega arith)) (subst (λ (p : ℕ). Numbered (ProductionAt (grammar_of n)) (suc i) k p n) next (row k (suc i) (omega arith)))
 
   laid : GrammarLaid (grammar_of n)
   laid = record { class_count = 0; production_count = n; middle = 0; end = n; classes = no_more 0 0; productions = row n 0 (zero-add n); tail = tail }

@@ -6,9 +6,9 @@ use Rattle.rules.specs.declared.Position.TheVariants.{Class, Nonterminal, Repeti
 
 -- "Every position asks for a class, a nonterminal or a repetition": the position of an element that is no keyword
 pub data Asks : Element → Position → Type 0 where
-  asks_class_lem : (c : ℕ) → Asks (lexeme c) (Class c)
-  asks_nonterminal_lem : (n : ℕ) → Asks (nonterminal n) (Nonterminal n)
-  asks_repetition_lem : (n : ℕ) (x : List ℕ) → Asks (repetition n x) (Repetition n)
+  asks_a_class : (c : ℕ) → Asks (lexeme c) (Class c)
+  asks_a_nonterminal : (n : ℕ) → Asks (nonterminal n) (Nonterminal n)
+  asks_a_repetition : (n : ℕ) (x : List ℕ) → Asks (repetition n x) (Repetition n)
   asks_nothing : Asks unknown Nothing
 
 -- as many children as there are elements that are no keyword

@@ -11,7 +11,7 @@ use Rattle.rules.specs.Templates.{templates_size, types, templates, type, templa
 use Rattle.rules.specs.Value.{value_size, children, values_below, content}
 use Rattle.theorems.specs.Streams.{WellSized}
 use Rattle.theorems.specs.Readings.{ElementIs, element_is}
-use Rattle.theorems.specs.LaidOut.{InRow, no_thing, one_thing, Numbered, no_more, one_more_lem, RangeAt, ClassAt, ElementAt, ProductionAt, GrammarLaid, NamingAt, TypeAt, PathAt, NodeAt, NodesAt, no_node, one_node, TemplateAt, TemplatesLaid, ValueAt}
+use Rattle.theorems.specs.LaidOut.{InRow, no_thing, one_thing, Numbered, no_more, one_more, RangeAt, ClassAt, ElementAt, ProductionAt, GrammarLaid, NamingAt, TypeAt, PathAt, NodeAt, NodesAt, no_node, one_node, TemplateAt, TemplatesLaid, ValueAt}
 use Rattle.theorems.specs.Sizes.{each_numbered, range_size, class_number, ranges_row, class_size, element_size_lem, production_size_lem, naming_size, type_size, template_size, path_size, node_size, value_size_lem}
 use Rattle.theorems.specs.Heads.{classes_are, productions_are, types_are, templates_are}
 use Rattle.theorems.specs.Ranges.{AnyClass, AnyProduction, nodes_row, values_row}
@@ -62,9 +62,9 @@ numbered_nth : {Thing : ℕ → ℕ → ℕ → Type 0} (number size : ℕ → �
     → {m c p r : ℕ} → Numbered Thing m c p r → (n x : ℕ) → nth (heads size c p) n ≡ some x → number x ≡ m + n
 unfolding heads nth
 numbered_nth number size f h (no_more m p) n x e = absurd (none-ne-some x e)
-numbered_nth number size f h (one_more_lem m c p q r a as') zero x e =
+numbered_nth number size f h (one_more m c p q r a as') zero x e =
     let i : p ≡ x = some-injective p x e in let k = f m p q a in ap number (sym i) ∙ omega arith
-numbered_nth number size f h (one_more_lem m c p q r a as') (suc n) x e =
+numbered_nth number size f h (one_more m c p q r a as') (suc n) x e =
     let z = h m p q a in
     let k = numbered_nth number size f h as' n x (subst (λ (y : ℕ). nth (heads size c y) n ≡ some x) (sym z) e) in omega arith
 

@@ -16,7 +16,7 @@ use Rattle.rules.specs.declared.Position.{Position}
 use Rattle.rules.specs.declared.Form.{Form}
 use Rattle.rules.specs.declared.Form.TheVariants.{Build, Literal, Place, Expand, If, For, Sequence, Match, Unknown}
 use Rattle.laws.specs.Faults.{on_found_some}
-use Rattle.theorems.specs.Children.{Asks, asks_class_lem, asks_nonterminal_lem, asks_repetition_lem, asks_nothing}
+use Rattle.theorems.specs.Children.{Asks, asks_a_class, asks_a_nonterminal, asks_a_repetition, asks_nothing}
 use Rattle.theorems.specs.Finds.{Finds, list_is, finds_exactly, path_found}
 use Rattle.theorems.specs.Levels.{Brings, one_item, its_turns, filling}
 
@@ -24,9 +24,9 @@ use Rattle.theorems.specs.Levels.{Brings, one_item, its_turns, filling}
 pub pieces_child : (put : List ℕ → State → End) (visited : Element → ℕ → State → End) {e : Element} {at : Position} (es : List Element) (cs : List ℕ) (s : State)
     → Asks e at → pieces put visited (e ∷ es) cs s ≡ with_child (visited e) cs (pieces put visited es) s
 unfolding pieces
-pieces_child put visited es cs s (asks_class_lem c) = refl
-pieces_child put visited es cs s (asks_nonterminal_lem n) = refl
-pieces_child put visited es cs s (asks_repetition_lem n x) = refl
+pieces_child put visited es cs s (asks_a_class c) = refl
+pieces_child put visited es cs s (asks_a_nonterminal n) = refl
+pieces_child put visited es cs s (asks_a_repetition n x) = refl
 pieces_child put visited es cs s asks_nothing = refl
 
 -- whether a form is a for

@@ -10,7 +10,7 @@ pub data InRow (Thing : ℕ → ℕ → Type 0) : ℕ → ℕ → ℕ → Type 0
 -- the same, numbered from n on
 pub data Numbered (Thing : ℕ → ℕ → ℕ → Type 0) : ℕ → ℕ → ℕ → ℕ → Type 0 where
   no_more : (n p : ℕ) → Numbered Thing n 0 p p
-  one_more_lem : (n m p q r : ℕ) → Thing n p q → Numbered Thing (suc n) m q r → Numbered Thing n (suc m) p r
+  one_more : (n m p q r : ℕ) → Thing n p q → Numbered Thing (suc n) m q r → Numbered Thing n (suc m) p r
 
 -- "the last zero-padded": every byte past the text of n bytes in its units
 abbrev pub Padded : List ℕ → ℕ → ℕ → Type 0

@@ -17,7 +17,7 @@ use Rattle.rules.specs.Layout.{then_read, in_row, while_is, text_end, range_end,
 use Rattle.laws.specs.Faults.{need_iff, on_found_true, only_if_iff, and_iff, eqb_iff, leb_iff}
 use Rattle.laws.specs.Sorts.{class_kinds}
 use Rattle.theorems.specs.Streams.{WellSized}
-use Rattle.theorems.specs.LaidOut.{InRow, no_thing, one_thing, Numbered, no_more, one_more_lem, Padded, Tail, RangeAt, ClassAt, ElementHead, ElementAt, ProductionAt, GrammarLaid, NamingAt, TypeAt, PathAt, NodeHead, NodeAt, NodesAt, TemplateAt, TemplatesLaid, ValueAt, ValuesAt, ValueLaid}
+use Rattle.theorems.specs.LaidOut.{InRow, no_thing, one_thing, Numbered, no_more, one_more, Padded, Tail, RangeAt, ClassAt, ElementHead, ElementAt, ProductionAt, GrammarLaid, NamingAt, TypeAt, PathAt, NodeHead, NodeAt, NodesAt, TemplateAt, TemplatesLaid, ValueAt, ValuesAt, ValueLaid}
 use Rattle.theorems.specs.LaidOut.ClassAt.{a_plain, an_escaped}
 use Rattle.theorems.specs.LaidOut.ElementAt.{a_keyword, a_name, a_separated}
 use Rattle.theorems.specs.Sizes.{by_equal, by_less, each_numbered, row_of_ones, row_grows, keyword_text, name_text, separator_text, naming_size, node_grows, nodes_grow, value_grows, values_grow}
@@ -97,7 +97,7 @@ module _ (is : ℕ → Bool) (one : ℕ → ℕ → Option ℕ) where
         go true i rest =
             let h = (then_iff (one n p) (while_is is one k (suc n)) q).0 (sym (while_more k n p i) ∙ e) in
             let r = rest h.0 q h.2 in
-            (suc r.0, one_more_lem n r.0 p h.0 q (f n p h.0 i h.1) r.1)
+            (suc r.0, one_more n r.0 p h.0 q (f n p h.0 i h.1) r.1)
         go false i rest = none_read n p q (sym (while_stop (suc k) n p i) ∙ e)
 
     -- back: every thing ends within the stream, and what comes after the last is not of this sort
@@ -106,8 +106,8 @@ module _ (is : ℕ → Bool) (one : ℕ → ℕ → Option ℕ) where
         → {n m p q : ℕ} → Numbered Thing n m p q → q ≤ most → is q ≡ false
         → (k : ℕ) → m ≤ k → while_is is one k n p ≡ some q
     while_to a f (no_more n p) l o k j = while_stop k n p o
-    while_to a f (one_more_lem n m p q r x xs) l o zero j = absurd (omega arith)
-    while_to a f (one_more_lem n m p q r x xs) l o (suc k) j =
+    while_to a f (one_more n m p q r x xs) l o zero j = absurd (omega arith)
+    while_to a f (one_more n m p q r x xs) l o (suc k) j =
         let i = row_grows (λ p q h. h.grows) (each_numbered a xs) in
         while_more k n p (a n p q x).is_one
         ∙ (then_iff (one n p) (while_is is one k (suc n)) r).1 (q, f n p q x (omega arith), while_to a f xs l o k (omega arith))
@@ -563,7 +563,7 @@ grammar_laid_exactly g w = (
 -- types and templates have no numbers of their own
 with_numbers : {A : ℕ → ℕ → Type 0} {m p q : ℕ} (n : ℕ) → InRow A m p q → Numbered (λ n. A) n m p q
 with_numbers n (no_thing p) = no_more n p
-with_numbers n (one_thing m p q r x xs) = one_more_lem n m p q r x (with_numbers (suc n) xs)
+with_numbers n (one_thing m p q r x xs) = one_more n m p q r x (with_numbers (suc n) xs)
 
 pub templates_laid_exactly : (t : List ℕ) → WellSized t → (templates_layout t ≡ none) ↔ TemplatesLaid t
 unfolding templates_layout templates_end

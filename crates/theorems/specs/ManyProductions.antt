@@ -10,7 +10,7 @@ use Rattle.rules.specs.Layout.{then_read, in_row, while_is, class_end, element_e
 use Rattle.laws.specs.Faults.{and_iff, eqb_iff, need_some, need_alike}
 use Rattle.laws.specs.Rows.{length_heads}
 use Rattle.theorems.specs.Streams.{WellSized}
-use Rattle.theorems.specs.LaidOut.{Numbered, no_more, one_more_lem, Tail, ClassAt, ProductionAt, GrammarLaid}
+use Rattle.theorems.specs.LaidOut.{Numbered, no_more, one_more, Tail, ClassAt, ProductionAt, GrammarLaid}
 use Rattle.theorems.specs.Sizes.{production_size_lem}
 use Rattle.theorems.specs.Heads.{grammar_sorts, class_spans, production_spans, productions_are}
 use Rattle.theorems.specs.LayoutExactly.{only_if_then, class_from, class_to, elements_exactly, production_exactly, fault_iff, two_rows_from, two_rows_to, grammar_laid_exactly}
@@ -69,20 +69,20 @@ low_read {g} {n} {p} {q} x = sym (same_below g n p x.0) ∙ ((production_exactly
 
 each_too : {A B : ℕ → ℕ → ℕ → Type 0} → ((n p q : ℕ) → A n p q → B n p q) → {n m p q : ℕ} → Numbered A n m p q → Numbered B n m p q
 each_too f (no_more n p) = no_more n p
-each_too f (one_more_lem n m p q r x xs) = one_more_lem n m p q r (f n p q x) (each_too f xs)
+each_too f (one_more n m p q r x xs) = one_more n m p q r (f n p q x) (each_too f xs)
 
 all_low : {g : List ℕ} {n m p q : ℕ} → Numbered (ProductionAt g) n m p q → n + m ≤ 256 → Numbered (LowProduction g) n m p q
 all_low (no_more n p) l = no_more n p
-all_low (one_more_lem n m p q r x xs) l = one_more_lem n m p q r (omega arith, x) (all_low xs (omega arith))
+all_low (one_more n m p q r x xs) l = one_more n m p q r (omega arith, x) (all_low xs (omega arith))
 
 few_low : {g : List ℕ} {n m p q : ℕ} → Numbered (LowProduction g) n m p q → n ≤ 256 → n + m ≤ 256
 few_low (no_more n p) l = omega arith
-few_low (one_more_lem n m p q r x xs) l = let a = x.0 in let b = few_low xs (omega arith) in omega arith
+few_low (one_more n m p q r x xs) l = let a = x.0 in let b = few_low xs (omega arith) in omega arith
 
 low_heads : {g : List ℕ} {n m p q : ℕ} → Numbered (LowProduction g) n m p q → OldProductions g n (heads (grammar_size g) m p) p q
 unfolding heads
 low_heads (no_more n p) = no_production n p
-low_heads {g} (one_more_lem n m p q r x xs) =
+low_heads {g} (one_more n m p q r x xs) =
     one_production n p q r _ x.1.kind (low_read x)
     (subst (λ (z : ℕ). OldProductions g (suc n) (heads (grammar_size g) m z) q r) (production_size_lem x.1) (low_heads xs))
 

@@ -13,7 +13,7 @@ use Rattle.rules.specs.declared.Form.TheVariants.{Build, Literal, Place, Expand,
 use Rattle.rules.specs.declared.Position.{Position}
 use Rattle.rules.specs.declared.Position.TheVariants.{Nonterminal, Item}
 use Rattle.laws.specs.Faults.{In, here, later, in_map, on_found_true, and_iff, Below, itself, under}
-use Rattle.theorems.specs.Children.{Asks, asks_class_lem, asks_nonterminal_lem, asks_repetition_lem, asks_nothing, ChildFor, this_child, past_keyword, past_child}
+use Rattle.theorems.specs.Children.{Asks, asks_a_class, asks_a_nonterminal, asks_a_repetition, asks_nothing, ChildFor, this_child, past_keyword, past_child}
 use Rattle.theorems.specs.Judgement.{Arguments}
 use Rattle.theorems.specs.OwnRule.{AsksText, Fits, ChildNode, build_child, first_branch, second_branch, loop_body, sequence_item, Stands, the_body, below, match_arm}
 use Rattle.theorems.specs.HeadByHead.{in_cons, map_in, found_in, below_more}
@@ -30,16 +30,16 @@ pub positions_of : (es : List Element) → Positions es (positions es)
 unfolding positions
 positions_of [] = no_position
 positions_of (keyword x ∷ es) = no_position_for x es _ (positions_of es)
-positions_of (lexeme c ∷ es) = one_position_for _ _ es _ (asks_class_lem c) (positions_of es)
-positions_of (nonterminal n ∷ es) = one_position_for _ _ es _ (asks_nonterminal_lem n) (positions_of es)
-positions_of (repetition n x ∷ es) = one_position_for _ _ es _ (asks_repetition_lem n x) (positions_of es)
+positions_of (lexeme c ∷ es) = one_position_for _ _ es _ (asks_a_class c) (positions_of es)
+positions_of (nonterminal n ∷ es) = one_position_for _ _ es _ (asks_a_nonterminal n) (positions_of es)
+positions_of (repetition n x ∷ es) = one_position_for _ _ es _ (asks_a_repetition n x) (positions_of es)
 positions_of (unknown ∷ es) = one_position_for _ _ es _ asks_nothing (positions_of es)
 
 pub position_of : {e : Element} {at : Position} (es : List Element) → Asks e at → positions (e ∷ es) ≡ at ∷ positions es
 unfolding positions
-position_of es (asks_class_lem c) = refl
-position_of es (asks_nonterminal_lem n) = refl
-position_of es (asks_repetition_lem n x) = refl
+position_of es (asks_a_class c) = refl
+position_of es (asks_a_nonterminal n) = refl
+position_of es (asks_a_repetition n x) = refl
 position_of es asks_nothing = refl
 
 -- The own rule, by the node's form

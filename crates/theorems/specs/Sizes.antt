@@ -7,7 +7,7 @@ use Rattle.rules.specs.Grammar.{is_class, text_length, element_size, production_
 use Rattle.rules.specs.Templates.{templates_size}
 use Rattle.rules.specs.Value.{value_size}
 use Rattle.laws.specs.Sorts.{plain_is_class, escaped_is_class, no_class}
-use Rattle.theorems.specs.LaidOut.{InRow, no_thing, one_thing, Numbered, no_more, one_more_lem, RangeAt, ClassAt, ElementAt, ProductionAt, NamingAt, TypeAt, PathAt, NodeAt, NodesAt, TemplateAt, ValueAt, ValuesAt}
+use Rattle.theorems.specs.LaidOut.{InRow, no_thing, one_thing, Numbered, no_more, one_more, RangeAt, ClassAt, ElementAt, ProductionAt, NamingAt, TypeAt, PathAt, NodeAt, NodesAt, TemplateAt, ValueAt, ValuesAt}
 use Rattle.theorems.specs.LaidOut.ClassAt.{a_plain, an_escaped}
 use Rattle.theorems.specs.LaidOut.ElementAt.{a_keyword, a_name, a_separated}
 
@@ -38,7 +38,7 @@ each_in_row f (one_thing n p q r x xs) = one_thing n p q r (f p q x) (each_in_ro
 pub each_numbered : {A : ℕ → ℕ → ℕ → Type 0} {B : ℕ → ℕ → Type 0} {n m p q : ℕ} → ((n p q : ℕ) → A n p q → B p q)
     → Numbered A n m p q → InRow B m p q
 each_numbered f (no_more n p) = no_thing p
-each_numbered f (one_more_lem n m p q r x xs) = one_thing m p q r (f n p q x) (each_numbered f xs)
+each_numbered f (one_more n m p q r x xs) = one_thing m p q r (f n p q x) (each_numbered f xs)
 
 -- a row of things ends where their sizes lead
 pub row_after : {A : ℕ → ℕ → Type 0} (size : ℕ → ℕ) {n p q : ℕ} → ((p q : ℕ) → A p q → q ≡ p + size p) → InRow A n p q → q ≡ after size n p

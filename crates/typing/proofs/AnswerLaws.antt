@@ -26,5 +26,5 @@ fine e h = sym e ∙ ap judged h
 pub wrong : {X : Option Offence} {r : Judged} {p : ℕ} {position : Position} → judged r ≡ X → r ≡ Offends p position → X ≡ some (p, position)
 wrong e h = sym e ∙ ap judged h
 
-pub one_more_lem : (xs : List ℕ) (n v : ℕ) → n < length xs → take (n + 1) (set xs n v) ≡ take n xs ++ v ∷ []
-one_more_lem xs n v h = rw add-one (take-suc-set xs n v h)
+pub one_more : (xs : List ℕ) (n v : ℕ) → n < length xs → take (n + 1) (set xs n v) ≡ take n xs ++ v ∷ []
+one_more xs n v h = rw add-one (take-suc-set xs n v h)

@@ -18,7 +18,7 @@ use Rattle.laws.specs.Reads.{whole_blocks}
 use Rattle.laws.specs.Rows.{heads_done, heads_more, length_heads}
 use Rattle.laws.specs.Sorts.{no_class}
 use Rattle.typing.specs.Asked.{asked_among, asked_of, AskedRow, AskedFilled, RowPut}
-use Rattle.typing.proofs.AnswerLaws.{one_more_lem}
+use Rattle.typing.proofs.AnswerLaws.{one_more}
 
 -- a record that is not all zeros stands in the stream, so its index is below 8,064
 
@@ -86,7 +86,7 @@ module _ {g : List ℕ} {q n : ℕ} {before table : List ℕ} {e i count : ℕ} 
     }
 
     put_more : e < 8064 → take (count + 1) (drop (q + 1) (set table (q + 1 + count) e)) ≡ take count (drop (q + 1) table) ++ e ∷ []
-    put_more h = rw (drop-set-add (q + 1) table count e) (one_more_lem (drop (q + 1) table) count e (simp length-drop (omega (arith, F.full, F.behind))))
+    put_more h = rw (drop-set-add (q + 1) table count e) (one_more (drop (q + 1) table) count e (simp length-drop (omega (arith, F.full, F.behind))))
 
     pub filling_asked : stream_length g ≡ none → (field_a g e ≡ 0 → ⊥) → Filling g q n before (set table (q + 1 + count) e) (e + c) (i + 1) (count + 1)
     unfolding asked_among
@@ -155,25 +155,25 @@ unfolding nth
 none_found k e = absurd (some-ne-none _ (sym e))
 
 -- the productions from a thing on: it is one itself if its kind is 3, and there is none after the last thing
-abbrev one_more : Bool → Bool → ℕ → List ℕ → List ℕ
-one_more last is p ps = elim last [ true ↦ [] | false ↦ elim is [ true ↦ p ∷ ps | false ↦ ps ] ]
+abbrev one_more_production : Bool → Bool → ℕ → List ℕ → List ℕ
+one_more_production last is p ps = elim last [ true ↦ [] | false ↦ elim is [ true ↦ p ∷ ps | false ↦ ps ] ]
 
 abbrev productions_from : List ℕ → ℕ → ℕ → List ℕ
 productions_from g n p = those (of_kind g 3) (things g (grammar_size g) n p)
 
 productions_more : (g : List ℕ) (n p : ℕ)
-    → productions_from g (suc n) p ≡ one_more (eqb (kind_of g p) 0) (eqb (kind_of g p) 3) p (productions_from g n (p + grammar_size g p))
+    → productions_from g (suc n) p ≡ one_more_production (eqb (kind_of g p) 0) (eqb (kind_of g p) 3) p (productions_from g n (p + grammar_size g p))
 unfolding things those
 productions_more g n p = go (eqb (kind_of g p) 0)
   where
     go : (b : Bool) → those (of_kind g 3) (elim b [ true ↦ [] | false ↦ p ∷ things g (grammar_size g) n (p + grammar_size g p) ])
-        ≡ one_more b (eqb (kind_of g p) 3) p (productions_from g n (p + grammar_size g p))
+        ≡ one_more_production b (eqb (kind_of g p) 3) p (productions_from g n (p + grammar_size g p))
     go true = refl
     go false = refl
 
 -- each has kind 3 and stands from there on
 more_here : (g : List ℕ) (p p' : ℕ) (ps : List ℕ) (last is : Bool) → eqb (kind_of g p) 3 ≡ is → p ≤ p' → ((k q : ℕ) → nth ps k ≡ some q → (p' ≤ q) × (kind_of g q ≡ 3))
-    → (k q : ℕ) → nth (one_more last is p ps) k ≡ some q → (p ≤ q) × (kind_of g q ≡ 3)
+    → (k q : ℕ) → nth (one_more_production last is p ps) k ≡ some q → (p ≤ q) × (kind_of g q ≡ 3)
 unfolding nth
 more_here g p p' ps true is e h f k q m = none_found k m
 more_here g p p' ps false true e h f zero q m = let w : p ≡ q = cc in rw (← w) (omega arith, eqb-true _ _ e)
@@ -199,7 +199,7 @@ abbrev Apart : List ℕ → List ℕ → Type 0
 Apart g ps = (i j p q : ℕ) → nth ps i ≡ some p → nth ps j ≡ some q → i < j → p + length (asked_of g p) < q
 
 more_apart : (g : List ℕ) (p : ℕ) (ps : List ℕ) (last is : Bool) → eqb (kind_of g p) 3 ≡ is → ((k q : ℕ) → nth ps k ≡ some q → p + grammar_size g p ≤ q)
-    → Apart g ps → Apart g (one_more last is p ps)
+    → Apart g ps → Apart g (one_more_production last is p ps)
 unfolding nth
 more_apart g p ps true is e f h i j a b m k l = none_found i m
 more_apart g p ps false true e f h zero zero a b m k l = absurd (omega arith)

@@ -25,7 +25,7 @@ use Rattle.typing.specs.declared.Positions.{Positions}
 use Rattle.typing.specs.declared.Positions.TheVariants.{Alike, Asked}
 use Rattle.typing.specs.declared.Judged.{Judged}
 use Rattle.typing.specs.declared.Judged.TheVariants.{Suits, Offends}
-use Rattle.typing.proofs.AnswerLaws.{fine, wrong, one_more_lem}
+use Rattle.typing.proofs.AnswerLaws.{fine, wrong, one_more}
 use Rattle.typing.proofs.LimitLaws.{limits_start, row_ready, row_next, row_room}
 use Rattle.typing.proofs.RowLaws.{turns_start, turns_done, turns_more}
 
@@ -69,7 +69,7 @@ as_many t (Contents h) i = refl
 bound_one : (scope : List ℕ) (count ty : ℕ) → Scope scope (count + 1) → Bound scope count (ty ∷ []) (set scope count ty) (count + 1)
 bound_one scope count ty s = record {
   count_is = refl;
-  vars_are = one_more_lem scope count ty (omega (arith, s.few, s.full));
+  vars_are = one_more scope count ty (omega (arith, s.few, s.full));
   full = rw length-set s.full;
 }
 

@@ -21,7 +21,7 @@ use Rattle.typing.specs.Asks.{FrameReady, BodyOf}
 use Rattle.typing.specs.declared.Frame.{Frame}
 use Rattle.typing.specs.declared.Judged.{Judged}
 use Rattle.typing.specs.declared.Judged.TheVariants.{Suits, Offends}
-use Rattle.typing.proofs.AnswerLaws.{one_more_lem, fine, wrong}
+use Rattle.typing.proofs.AnswerLaws.{one_more, fine, wrong}
 
 -- the types of the parameters: what is in the slots, and what is left after i of them
 
@@ -31,7 +31,7 @@ module _ (f : ℕ → ℕ) (p n : ℕ) where
 
   pub types_next : (i : ℕ) (slots : List ℕ) (v : ℕ) → i < n → i < length slots → v ≡ f (p + i)
       → take (i + 1) (set slots i v) ++ map f (row (n - (i + 1)) (p + (i + 1))) ≡ take i slots ++ map f (row (n - i) (p + i))
-  types_next i slots v l h k = rw (one_more_lem slots i v h, append_assoc, row_more n p i l, k)
+  types_next i slots v l h k = rw (one_more slots i v h, append_assoc, row_more n p i l, k)
 
   pub types_end_lem : (i : ℕ) (slots : List ℕ) {X : List ℕ} → n ≤ i → i ≤ n → take i slots ++ map f (row (n - i) (p + i)) ≡ X → take n slots ≡ X
   types_end_lem i slots h k q =
