@@ -10,6 +10,7 @@ pub mod Layout
 pub mod Limits
 pub mod Names
 pub mod Classes
+pub mod Finite
 pub mod Typing
 pub mod Walk
 pub mod Derivation

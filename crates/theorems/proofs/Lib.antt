@@ -3,6 +3,8 @@ pub mod Around
 pub mod LimitsExactly
 pub mod Entities
 pub mod Lexemes
+pub mod LexemeExists
+pub mod FiniteExactly
 pub mod Places
 pub mod OwnRuleExactly
 pub mod TypingExactly
@@ -22,6 +24,7 @@ pub mod Sound
 pub mod Kept
 pub mod EvaluateCall
 pub mod InOrder
+pub mod Finishing
 pub mod Demands
 pub mod PackCalls
 pub mod Escaping

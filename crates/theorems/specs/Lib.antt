@@ -17,6 +17,9 @@ pub mod Utf8
 pub mod Entities
 pub mod XmlChars
 pub mod Lexemes
+pub mod LexemeExists
+pub mod Rounds
+pub mod FiniteExactly
 pub mod Children
 pub mod Finds
 pub mod Places
@@ -26,6 +29,7 @@ pub mod Lookups
 pub mod OwnRuleExactly
 pub mod TypingExactly
 pub mod ValueExactly
+pub mod Turns
 pub mod Refusals
 pub mod Accepted
 pub mod Offences
@@ -47,6 +51,7 @@ pub mod Sound
 pub mod Kept
 pub mod EvaluateCall
 pub mod InOrder
+pub mod Finishing
 pub mod Demands
 pub mod Packing
 pub mod PackCalls
