@@ -13,7 +13,7 @@ use lib.Pow.{pow_pos, pow-lt, pow-add, shl-shr}
 use borrow.Author.Tests.{eqb-true, eqb-false, ltb-true, ltb-false}
 use Rattle.rules.specs.Records.{field_b}
 use Rattle.rules.specs.Grammar.{productions, has_production, nonterminal_exists}
-use Rattle.limits.specs.Bits.{is_marked, with_bit, Nonterminals}
+use Rattle.limits.specs.Bits.{is_marked, with_bit, marked, Nonterminals}
 use Rattle.laws.specs.Lists.{drop_done, drop_more}
 
 -- the code's shift
@@ -50,11 +50,9 @@ bit_kept : (word i j : ℕ) → (i ≡ j → ⊥) → with_bit word i / 2 ^ j % 
 bit_kept word i j h = let a = bit_or_lem word i j in let b = bit_other i j h in omega arith
 
 -- the bit of n set: it is 1, and the others are as they were
-abbrev pub marked : List ℕ → ℕ → List ℕ
-marked bits n = set bits (n / 64) (with_bit (get_or bits (n / 64) 0) (n % 64))
-
 module _ (bits : List ℕ) (n : ℕ) (l : n / 64 < length bits) where
   marked_same : (m : ℕ) → m / 64 ≡ n / 64 → get_or (marked bits n) (m / 64) 0 ≡ with_bit (get_or bits (n / 64) 0) (n % 64)
+  unfolding marked
   marked_same m k = rw k (get_or-set_same bits (n / 64) (with_bit (get_or bits (n / 64) 0) (n % 64)) 0 l)
 
   marked_here : is_marked (marked bits n) n ≡ true
@@ -62,7 +60,7 @@ module _ (bits : List ℕ) (n : ℕ) (l : n / 64 < length bits) where
   marked_here = rw (marked_same n refl, bit_set (get_or bits (n / 64) 0) (n % 64) (n % 64) refl)
 
   marked_other : (m : ℕ) → (n ≡ m → ⊥) → is_marked (marked bits n) m ≡ is_marked bits m
-  unfolding is_marked
+  unfolding is_marked marked
   marked_other m h = go (eqb (m / 64) (n / 64)) refl
     where
       go : (b : Bool) → eqb (m / 64) (n / 64) ≡ b → is_marked (marked bits n) m ≡ is_marked bits m
@@ -71,7 +69,7 @@ module _ (bits : List ℕ) (n : ℕ) (l : n / 64 < length bits) where
           rw (marked_same m k, k, bit_kept (get_or bits (n / 64) 0) (n % 64) (m % 64) (λ x. h (omega arith)))
       go false e = rw (get_or-set_other bits (n / 64) (m / 64) (with_bit (get_or bits (n / 64) 0) (n % 64)) 0 (eqb-false _ _ e))
 
-  marked_is : (m : ℕ) → is_marked (marked bits n) m ≡ (eqb n m || is_marked bits m)
+  pub marked_is : (m : ℕ) → is_marked (marked bits n) m ≡ (eqb n m || is_marked bits m)
   marked_is m = go (eqb n m) refl
     where
       go : (b : Bool) → eqb n m ≡ b → is_marked (marked bits n) m ≡ (b || is_marked bits m)
@@ -101,11 +99,20 @@ has_more : (g ps : List ℕ) (i b n : ℕ) → i < length ps → b ≡ field_b g
 unfolding has_production
 has_more g ps i b n more hb = rw (drop_more ps i more, hb)
 
+-- the code's word in its place
+pub mark_is : (bits : List ℕ) (n w : ℕ) → w ≡ with_bit (get_or bits (n / 64) 0) (n % 64) → set bits (n / 64) w ≡ marked bits n
+unfolding marked
+mark_is bits n w e = ap (set bits (n / 64)) e
+
+pub marked_words : (bits : List ℕ) (n : ℕ) → length (marked bits n) ≡ length bits
+unfolding marked
+marked_words bits n = length-set bits (n / 64) (with_bit (get_or bits (n / 64) 0) (n % 64))
+
 -- one production: its nonterminal b is marked
-pub marking_next : (g ps bits : List ℕ) (i b w : ℕ) → Marking g ps bits i → i < length ps → b ≡ field_b g (get_or ps i 0) → b < 65536
-    → w ≡ with_bit (get_or bits (b / 64) 0) (b % 64) → Marking g ps (set bits (b / 64) w) (i + 1)
-marking_next g ps bits i b w m more hb small hw = rw hw (record {
-  words = length-set bits (b / 64) (with_bit (get_or bits (b / 64) 0) (b % 64)) ∙ m.words;
+pub marking_next : (g ps bits bits' : List ℕ) (i b : ℕ) → Marking g ps bits i → i < length ps → b ≡ field_b g (get_or ps i 0) → b < 65536
+    → bits' ≡ marked bits b → Marking g ps bits' (i + 1)
+marking_next g ps bits bits' i b m more hb small h = rw h (record {
+  words = marked_words bits b ∙ m.words;
   rest = λ n l.
       ap (λ (x : Bool). x || has_production g n (drop (i + 1) ps)) (marked_is bits b (omega (arith, m.words)) n)
       ∙ or_turn (is_marked bits n) (eqb b n) (has_production g n (drop (i + 1) ps))
