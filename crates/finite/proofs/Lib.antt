@@ -1,0 +1,3 @@
+pub mod LexemeLaws
+pub mod DerivableLaws
+pub mod FoundLaws

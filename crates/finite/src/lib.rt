@@ -1,0 +1,122 @@
+// Refusal 13: nonterminals that derive no text. Those that derive one are found in rounds over the productions, each production by what is found so far,
+// until a round finds nothing more. In most grammars all are found in one round from the last production to the first, or in one more the other way
+// round. Where productions stand in another order, lists tell which of them to try next (`lists`): so the time grows with the records, whatever the order.
+#![tactic(auto)]
+
+ghost use Rattle.std.specs.Prelude.{◌≡◌, ◌||◌, ◌<◌};
+ghost use Rattle.rules.specs.Finite.{grammar_finite};
+ghost use Rattle.stream.specs.Fault.{fault_of};
+ghost use Rattle.limits.specs.Tables.{ProductionTable};
+ghost use Rattle.finite.specs.Found.{FiniteAsks, SearchAsks, Rounded, AllFound, turned, unfound};
+
+mod lexemes;
+mod lists;
+mod productions;
+
+use lexemes::class_lexemes;
+use limits::nonterminals::{WORDS, is_marked};
+use lists::by_lists;
+use productions::try_production;
+use stream::Fault;
+use stream::record::fetch;
+
+// The production to try in a turn.
+fn turned(count: usize, back: bool, turn: usize) -> usize
+    requires { turn < count }
+    ensures { result ≡ turned count back turn }
+{
+    if back { count - 1 - turn } else { turn }
+}
+
+fn either(a: bool, b: bool) -> bool
+    ensures { result ≡ (a || b) }
+{
+    if a {
+        return true;
+    }
+    b
+}
+
+// Tries every production, from the last to the first or the other way round. Whether one more nonterminal was found.
+fn round(
+    g: &[u8],
+    lexemes: &[u8],
+    productions: &[u16],
+    back: bool,
+    found: &mut [u64; WORDS],
+) -> bool
+    requires { SearchAsks g.now lexemes.now productions.now found.old }
+    ensures { Rounded g.now found.old found.new result }
+{
+    let mut more = false;
+    let mut turn = 0;
+    while turn < productions.len() {
+        let i = turned(productions.len(), back, turn);
+        more = either(try_production(g, lexemes, productions[i], found), more);
+        turn += 1;
+    }
+    more
+}
+
+// Rounds until one finds nothing more, which is the first where the lists were right; and after each of the others the lists again. There are no more
+// than productions, as each of them finds one.
+fn rounds(g: &[u8], lexemes: &[u8], productions: &[u16], found: &mut [u64; WORDS])
+    requires { SearchAsks g.now lexemes.now productions.now found.old }
+    ensures { AllFound g.now found.new }
+{
+    let mut left = productions.len();
+    while 0 < left {
+        if !round(g, lexemes, productions, false, found) {
+            return;
+        }
+        by_lists(g, lexemes, productions, found);
+        left -= 1;
+    }
+}
+
+// The place of the first production whose nonterminal isn't found.
+fn first_unfound(g: &[u8], productions: &[u16], found: &[u64; WORDS]) -> Fault
+    requires { ProductionTable g.now productions.now }
+    ensures { fault_of result ≡ unfound g.now found.now }
+{
+    let mut i = 0;
+    while i < productions.len() {
+        let p = productions[i] as usize;
+        let head = fetch(g, p);
+        if !is_marked(found, head.b) {
+            return Fault::At(p);
+        }
+        i += 1;
+    }
+    Fault::Nowhere
+}
+
+// What one round from the last production to the first has left over: another the other way round, and then the lists.
+fn settle(g: &[u8], lexemes: &[u8], productions: &[u16], found: &mut [u64; WORDS]) -> Fault
+    requires { SearchAsks g.now lexemes.now productions.now found.old }
+    ensures { fault_of result ≡ grammar_finite g.now }
+{
+    round(g, lexemes, productions, false, found);
+    let first = first_unfound(g, productions, found);
+    let Fault::At(p) = first else {
+        return Fault::Nowhere;
+    };
+    by_lists(g, lexemes, productions, found);
+    rounds(g, lexemes, productions, found);
+    first_unfound(g, productions, found)
+}
+
+// The place of the first production whose nonterminal derives no text, of a grammar that 5 let through.
+pub fn grammar_finite(g: &[u8], classes: &[u16], productions: &[u16]) -> Fault
+    requires { FiniteAsks g.now classes.now productions.now }
+    ensures { fault_of result ≡ grammar_finite g.now }
+{
+    let lexemes = class_lexemes(g, classes);
+    let mut found = [0u64; WORDS];
+    round(g, &lexemes, productions, true, &mut found);
+    let first = first_unfound(g, productions, &found);
+    let Fault::At(p) = first else {
+        return Fault::Nowhere;
+    };
+    settle(g, &lexemes, productions, &mut found)
+}
