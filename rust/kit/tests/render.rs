@@ -157,6 +157,14 @@ impl Repository {
     }
 }
 
+impl Drop for Repository {
+    /// A little repository stands in this one's target folder, and `rt ci` refuses a second `crates.txt`
+    /// anywhere.
+    fn drop(&mut self) {
+        let _ = fs::remove_dir_all(&self.0);
+    }
+}
+
 fn output(command: &mut Command) -> Output {
     command.output().expect("render runs")
 }
