@@ -43,7 +43,9 @@ pub fn nonterminals(g: &[u8], productions: &[u16]) -> [u64; WORDS]
     let mut i = 0;
     while i < productions.len() {
         let head = fetch(g, productions[i] as usize);
-        mark(&mut bits, head.b);
+        let n = head.b as usize;
+        let at = n / 64;
+        bits[at] = with_bit(bits[at], n % 64);
         i += 1;
     }
     bits
