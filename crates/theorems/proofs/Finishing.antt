@@ -6,11 +6,17 @@ use Prim.Native.Nat.{ℕ}
 use Rattle.rules.specs.Records.{field_b}
 use Rattle.rules.specs.Grammar.{Element, keyword, lexeme, nonterminal, repetition, unknown, elements, production, productions}
 use Rattle.rules.specs.Derivation.{Derives, produced, Pieces, no_element, one_piece, Piece, own_bytes, a_lexeme, an_escaped_lexeme, derived, repeated, no_text, some_texts, last_text, next_text}
-use Rattle.rules.specs.Finite.{derivable, all_derivable, is_one_of, finite}
+use Rattle.rules.specs.Finite.{derivable, all_derivable, is_one_of, finite, all_among, grammar_finite}
 use Rattle.laws.specs.Faults.{In, here, later, in_nth, nth_in}
 use Rattle.theorems.specs.HeadByHead.{in_cons}
 use Rattle.theorems.proofs.Lexemes.{lexeme_exactly, piece_exactly}
 use Rattle.theorems.proofs.LexemeExists.{lexeme_exists_exactly}
+use Rattle.theorems.specs.Streams.{WellSized}
+use Rattle.theorems.specs.LaidOut.{GrammarLaid}
+use Rattle.theorems.specs.Heads.{production_spans}
+use Rattle.theorems.specs.Least.{First, first_same}
+use Rattle.theorems.proofs.Least.{least_tests}
+use Rattle.theorems.specs.Ranges.{production_rows}
 use Rattle.theorems.specs.Rounds.{finite_closed}
 use Rattle.theorems.proofs.FiniteExactly.{found_exactly, not_found_exactly}
 use Rattle.theorems.specs.Finishing.{Underivable, Waits, for_a_lexeme, for_one_of_them, of_no_form, SomeWaits, DerivesNothing}
@@ -85,3 +91,14 @@ underivable_waits g p h = go (all_derivable g (is_one_of (finite g)) (elements g
     go : (b : Bool) → all_derivable g (is_one_of (finite g)) (elements g p) ≡ b → SomeWaits g (DerivesNothing g) (elements g p)
     go true e = let (x, d) = (found_exactly g (field_b g p)).0 (finite_closed g h.a_production e) in absurd (h.derives_nothing x d)
     go false e = let (f, i, d) = not_all g (is_one_of (finite g)) (elements g p) e in (f, i, waits g f d)
+
+-- "place the first production of the first such nonterminal by record": where the grammar is laid out as layout wants it, that is the first of them all
+pub first_underivable : (g : List ℕ) → WellSized g → GrammarLaid g → First (Underivable g) (grammar_finite g)
+unfolding grammar_finite all_among
+first_underivable g w h =
+    first_same
+    (λ p. (
+      λ (i, e). record { a_production = i; derives_nothing = (not_found_exactly g (field_b g p)).0 e },
+      λ o. (o.a_production, (not_found_exactly g (field_b g p)).1 o.derives_nothing),
+    ))
+    (least_tests (λ p q a. (production_spans a.1).grows) (λ p. is_one_of (finite g) (field_b g p)) (production_rows w h)).first
