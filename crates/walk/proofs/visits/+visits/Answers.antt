@@ -171,6 +171,8 @@ for_items-shape_of-scratch-then-written-ne0 t c = c.loop-done.invariant.going.le
 pub for_items-returns-then-written-ne0 : goal.for_items-returns-then-written-ne0
 for_items-returns-then-written-ne0 t c = for_apart_stop c.requires.0 c.requires.1 c.loop-done.invariant c.loop-done-test.true (c.separate-written.ensures _ (due_later _ _ (sym c.is_due.ensures ∙ c.if-is_due.true))) c.separate-written.auto.out c.if-written-ne0.true
 
+-- What is so of an item once the separator before it is written or not asked for. Goals further on share the record of that place: it is some steps
+-- above their own.
 for_items_past : (t : ℕ) (c : goal.for_items-Joined-is_due t)
     → Apart c.args.g.now c.args.sep (c.args.before + c.loop-done.done) c.loop-done.here c.loop-done.out (ended_at 0 c.if-is_due.here) c.if-is_due.out
     × (c.if-is_due.here ≡ after_at c.args.at (ended_at 0 c.if-is_due.here))
@@ -188,22 +190,22 @@ for_items-bind-requires t c = for_slot c.requires.0 c.requires.1 c.loop-done.inv
 
 pub for_items-below-requires : goal.for_items-below-requires
 for_items-below-requires t c =
-    let past = for_items_past t (record { before = c.before.before.before.before.before.before; type_inv = record { ts = c.type_inv.ts; places = c.type_inv.places; firsts = c.type_inv.firsts; v = c.type_inv.v; ps = c.type_inv.ps; t = c.type_inv.t; g = c.type_inv.g } }) in
+    let past = for_items_past t (record { before = c.before.before.before.before.before.before; type_inv = search rules }) in
     for_level c.requires.0 c.requires.1 c.loop-done.invariant c.loop-done-test.true past.0 past.1
 
 pub for_items-bound-below-requires : goal.for_items-bound-below-requires
 for_items-bound-below-requires t c =
-    let past = for_items_past t (record { before = c.before.before.before.before.before.before.before; type_inv = record { ts = c.type_inv.ts; places = c.type_inv.places; firsts = c.type_inv.firsts; v = c.type_inv.v; ps = c.type_inv.ps; t = c.type_inv.t; g = c.type_inv.g } }) in
+    let past = for_items_past t (record { before = c.before.before.before.before.before.before.before; type_inv = search rules }) in
     for_vars c.requires.0 c.requires.1 c.loop-done.invariant c.loop-done-test.true past.0 past.1 c.below.ensures
 
 pub for_items-visit-end-requires : goal.for_items-visit-end-requires
 for_items-visit-end-requires t c =
-    let past = for_items_past t (record { before = c.before.before.before.before.before.before.before.before.before.before; type_inv = record { ts = c.type_inv.ts; places = c.type_inv.places; firsts = c.type_inv.firsts; v = c.type_inv.v; ps = c.type_inv.ps; t = c.type_inv.t; g = c.type_inv.g } }) in
+    let past = for_items_past t (record { before = c.before.before.before.before.before.before.before.before.before.before; type_inv = search rules }) in
     (omega (arith, c.decreases, for_falls c.requires.0 c.requires.1 c.loop-done.invariant c.loop-done-test.true past.0 past.1 _ c.child_at-item.ensures _ c.bind.ensures c.bind.auto.scratch c.below.ensures c.bound-below.ensures), for_visitable c.requires.0 c.requires.1 c.loop-done.invariant c.loop-done-test.true past.0 past.1 _ c.child_at-item.ensures _ c.bind.ensures c.bind.auto.scratch c.below.ensures c.bound-below.ensures)
 
 pub for_items-shape_of-out-then-end-ne0 : goal.for_items-shape_of-out-then-end-ne0
 for_items-shape_of-out-then-end-ne0 t c =
-    let past = for_items_past t (record { before = c.before.before.before.before.before.before.before.before.before.before.before.before.before.before.before.before.before; type_inv = record { ts = c.type_inv.ts; places = c.type_inv.places; firsts = c.type_inv.firsts; v = c.type_inv.v; ps = c.type_inv.ps; t = c.type_inv.t; g = c.type_inv.g } }) in
+    let past = for_items_past t (record { before = c.before.before.before.before.before.before.before.before.before.before.before.before.before.before.before.before.before; type_inv = search rules }) in
     c.visit-end.auto.out ∙ past.0.len ∙ c.loop-done.invariant.going.len
 
 pub for_items-shape_of-scratch-then-end-ne0 : goal.for_items-shape_of-scratch-then-end-ne0
@@ -211,7 +213,7 @@ for_items-shape_of-scratch-then-end-ne0 t c = c.visit-end.auto.scratch ∙ c.bin
 
 pub for_items-returns-then-end-ne0 : goal.for_items-returns-then-end-ne0
 for_items-returns-then-end-ne0 t c =
-    let past = for_items_past t (record { before = c.before.before.before.before.before.before.before.before.before.before.before.before.before.before.before.before.before; type_inv = record { ts = c.type_inv.ts; places = c.type_inv.places; firsts = c.type_inv.firsts; v = c.type_inv.v; ps = c.type_inv.ps; t = c.type_inv.t; g = c.type_inv.g } }) in
+    let past = for_items_past t (record { before = c.before.before.before.before.before.before.before.before.before.before.before.before.before.before.before.before.before; type_inv = search rules }) in
     for_stop c.requires.0 c.requires.1 c.loop-done.invariant c.loop-done-test.true past.0 past.1 _ c.child_at-item.ensures _ c.bind.ensures c.bind.auto.scratch c.below.ensures c.bound-below.ensures c.visit-end.ensures c.visit-end.auto.out c.if-end-ne0.true
 
 pub for_items-overflow_add-turn : goal.for_items-overflow_add-turn
@@ -222,7 +224,7 @@ for_items-loop-done-smaller t c = omega (arith, c.loop-done-test.true)
 
 pub for_items-loop-done-preserved : goal.for_items-loop-done-preserved
 for_items-loop-done-preserved t c =
-    let past = for_items_past t (record { before = c.before.before.before.before.before.before.before.before.before.before.before.before.before.before.before.before.before.before; type_inv = record { ts = c.type_inv.ts; places = c.type_inv.places; firsts = c.type_inv.firsts; v = c.type_inv.v; ps = c.type_inv.ps; t = c.type_inv.t; g = c.type_inv.g } }) in
+    let past = for_items_past t (record { before = c.before.before.before.before.before.before.before.before.before.before.before.before.before.before.before.before.before.before; type_inv = search rules }) in
     for_next c.requires.0 c.requires.1 c.loop-done.invariant c.loop-done-test.true past.0 past.1 _ c.child_at-item.ensures _ c.bind.ensures c.bind.auto.scratch c.below.ensures c.bound-below.ensures c.visit-end.ensures c.visit-end.auto.out c.if-end-ne0.false c.visit-end.auto.scratch c.after-here-in-loop-done.ensures
 
 pub for_items-shape_of-out : goal.for_items-shape_of-out
@@ -429,6 +431,7 @@ sequence_items-returns-then-r-ne0-2 t c = apart_stop c.requires.0 c.loop-visited
 pub sequence_items-after-requires-else-is_for : goal.sequence_items-after-requires-else-is_for
 sequence_items-after-requires-else-is_for t c = search rules
 
+-- The same of an item of a sequence itself.
 sequence_items_apart : (t : ℕ) (c : goal.sequence_items-Joined-is_due t)
     → Apart c.args.g.now c.separator_of-sep.result c.loop-visited.n (after_at c.args.at c.loop-visited.r) c.loop-visited.out c.if-is_due.r c.if-is_due.out
 sequence_items_apart t c =
@@ -448,12 +451,12 @@ sequence_items-overflow_add-n t c = record { fits = omega (arith, items_few c.re
 
 pub sequence_items-visit-r-requires : goal.sequence_items-visit-r-requires
 sequence_items-visit-r-requires t c =
-    let past = sequence_items_apart t (record { before = c.before.before.before.before.before.before; type_inv = record { ts = c.type_inv.ts; places = c.type_inv.places; firsts = c.type_inv.firsts; v = c.type_inv.v; ps = c.type_inv.ps; t = c.type_inv.t; g = c.type_inv.g } }) in
+    let past = sequence_items_apart t (record { before = c.before.before.before.before.before.before; type_inv = search rules }) in
     (omega (arith, c.decreases, item_falls c.requires.0 c.loop-visited.invariant c.loop-visited-test.true c.fetch-next.ensures (eqb-false _ _ (sym c.is_for.ensures ∙ c.if-is_for.false)) past c.after-else-is_for.ensures c.below-below-else-is_for.ensures), item_visitable c.requires.0 c.loop-visited.invariant c.loop-visited-test.true c.fetch-next.ensures (eqb-false _ _ (sym c.is_for.ensures ∙ c.if-is_for.false)) past c.after-else-is_for.ensures c.below-below-else-is_for.ensures)
 
 pub sequence_items-shape_of-out-then-r-ne0-3 : goal.sequence_items-shape_of-out-then-r-ne0-3
 sequence_items-shape_of-out-then-r-ne0-3 t c =
-    let past = sequence_items_apart t (record { before = c.before.before.before.before.before.before.before.before.before.before.before.before.before; type_inv = record { ts = c.type_inv.ts; places = c.type_inv.places; firsts = c.type_inv.firsts; v = c.type_inv.v; ps = c.type_inv.ps; t = c.type_inv.t; g = c.type_inv.g } }) in
+    let past = sequence_items_apart t (record { before = c.before.before.before.before.before.before.before.before.before.before.before.before.before; type_inv = search rules }) in
     c.visit-r.auto.out ∙ past.len ∙ c.loop-visited.invariant.going.len
 
 pub sequence_items-shape_of-scratch-then-r-ne0-3 : goal.sequence_items-shape_of-scratch-then-r-ne0-3
@@ -461,7 +464,7 @@ sequence_items-shape_of-scratch-then-r-ne0-3 t c = c.visit-r.auto.scratch ∙ c.
 
 pub sequence_items-returns-then-r-ne0-3 : goal.sequence_items-returns-then-r-ne0-3
 sequence_items-returns-then-r-ne0-3 t c =
-    let past = sequence_items_apart t (record { before = c.before.before.before.before.before.before.before.before.before.before.before.before.before; type_inv = record { ts = c.type_inv.ts; places = c.type_inv.places; firsts = c.type_inv.firsts; v = c.type_inv.v; ps = c.type_inv.ps; t = c.type_inv.t; g = c.type_inv.g } }) in
+    let past = sequence_items_apart t (record { before = c.before.before.before.before.before.before.before.before.before.before.before.before.before; type_inv = search rules }) in
     item_stop c.requires.0 c.loop-visited.invariant c.loop-visited-test.true c.fetch-next.ensures (eqb-false _ _ (sym c.is_for.ensures ∙ c.if-is_for.false)) past c.after-else-is_for.ensures c.below-below-else-is_for.ensures c.visit-r.ensures c.visit-r.auto.out c.if-r-ne0-3.true
 
 pub sequence_items-loop-visited-smaller : goal.sequence_items-loop-visited-smaller
@@ -469,7 +472,7 @@ sequence_items-loop-visited-smaller t c = omega (arith, c.loop-visited-test.true
 
 pub sequence_items-loop-visited-preserved : goal.sequence_items-loop-visited-preserved
 sequence_items-loop-visited-preserved t c =
-    let past = sequence_items_apart t (record { before = c.before.before.before.before.before.before.before.before.before.before.before.before.before; type_inv = record { ts = c.type_inv.ts; places = c.type_inv.places; firsts = c.type_inv.firsts; v = c.type_inv.v; ps = c.type_inv.ps; t = c.type_inv.t; g = c.type_inv.g } }) in
+    let past = sequence_items_apart t (record { before = c.before.before.before.before.before.before.before.before.before.before.before.before.before; type_inv = search rules }) in
     rw c.size_in-item-else-is_for.ensures.0 (item_next c.requires.0 c.loop-visited.invariant c.loop-visited-test.true c.fetch-next.ensures (eqb-false _ _ (sym c.is_for.ensures ∙ c.if-is_for.false)) past c.after-else-is_for.ensures c.below-below-else-is_for.ensures c.visit-r.ensures c.visit-r.auto.out c.if-r-ne0-3.false c.visit-r.auto.scratch)
 
 pub sequence_items-shape_of-out : goal.sequence_items-shape_of-out
