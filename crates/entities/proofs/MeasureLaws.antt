@@ -12,8 +12,7 @@ use lib.Dec.{eqb, ltb}
 use borrow.Author.Tests.{eqb-true, eqb-false, ltb-true, ltb-false}
 use Rattle.rules.specs.Faults.{on_found, only_if}
 use Rattle.rules.specs.Escape.{unescaped_after, unescaped}
-use Rattle.rules.specs.Lexeme.{next_byte, broken, between}
-use Rattle.rules.specs.Answers.{written}
+use Rattle.rules.specs.Lexeme.{next_byte, broken}
 use Rattle.laws.specs.FirstBytes.{first_plain}
 use Rattle.entities.specs.declared.entity.Plain.{Plain}
 use Rattle.entities.specs.declared.utf8.Utf8.{Utf8}

@@ -1,5 +1,5 @@
 -- The plain text, written: byte by byte, or as it stands.
-use Prim.Native.Nat.{ℕ, zero, suc, ◌+◌, ◌-◌, ◌≤◌, ◌<◌}
+use Prim.Native.Nat.{ℕ, zero, suc, ◌+◌, ◌≤◌, ◌<◌}
 use mathlib.Core.Path.{◌≡◌, refl, ap, sym, ◌∙◌}
 use mathlib.Core.List.{List, [], ◌∷◌, ◌++◌}
 use mathlib.Core.Option.{some, none-ne-some, some-injective}
@@ -8,7 +8,6 @@ use native.Mathlib.Numerals.{add-one}
 use lib.ListN.{length, take, drop, set, get_or, length-append, length-drop, length-set, drop_of_length-le}
 use lib.Seq.{drop-drop, drop-cons}
 use Rattle.rules.specs.Escape.{entity, escape, unescaped_after, unescaped}
-use Rattle.rules.specs.Answers.{written}
 use Rattle.laws.specs.Faults.{on_found_some}
 use Rattle.laws.specs.Escapes.{ampersand, less, greater, quote, apostrophe, itself, turned, entity_itself, entity_some, escape_of_unescaped}
 use Rattle.laws.specs.Writes.{copy_more, copy_all}

@@ -1,5 +1,4 @@
 use Rattle.entities.proofs.PlainLaws.{found_amp, found_lt, found_gt, found_quot, found_apos, found_none}
-use borrow.Author.Rules.{rules}
 use Rattle.entities.proofs.entity.entity_at.Goals as goal
 
 pub returns-then-has : goal.returns-then-has

@@ -1,9 +1,7 @@
-use Prim.Native.Nat.{◌+◌, ◌-◌, ◌≤◌}
-use mathlib.Core.Path.{◌≡◌, sym, ◌∙◌}
+use mathlib.Core.Path.{sym, ◌∙◌}
 use native.Mathlib.Omega.{arith}
 use native.Mathlib.Nat.{add-zero}
-use lib.ListN.{length, drop, length-drop}
-use Rattle.rules.specs.Escape.{begins}
+use lib.ListN.{length-drop}
 use Rattle.entities.proofs.PlainLaws.{begins_short, begins_same, begins_other, begins_all}
 use borrow.Author.Rules.{rules}
 use Rattle.entities.proofs.entity.has.Goals as goal

@@ -1,6 +1,5 @@
 use native.Mathlib.Omega.{arith}
 use Rattle.entities.proofs.PlainLaws.{found_itself, found_markup, not_lt, not_gt, not_quot, not_apos}
-use borrow.Author.Rules.{rules}
 use Rattle.entities.proofs.entity.plain_at.Goals as goal
 
 pub returns-in-60 : goal.returns-in-60
@@ -16,4 +15,4 @@ pub returns-in-39 : goal.returns-in-39
 returns-in-39 c = found_markup _ _ c.requires 0x27 c.in-39.is (λ z. absurd (omega arith)) not_apos c.none-in-39.ensures
 
 pub returns-in_default : goal.returns-in_default
-returns-in_default c = found_itself _ _ c.requires c.in_default.in_default-own.rest.0.0.0.0.1 c.in_default.in_default-own.rest.0.0.0.1 c.in_default.in_default-own.rest.0.0.1 c.in_default.in_default-own.rest.0.1 c.in_default.in_default-own.rest.1
+returns-in_default c = found_itself _ _ c.requires (omega arith) (omega arith) (omega arith) (omega arith) (omega arith)

@@ -26,4 +26,4 @@ unfolding entity
 returns-in-39 c = rw c.in-39.is (refl, omega arith)
 
 pub returns-in_default : goal.returns-in_default
-returns-in_default c = (ap length (sym (entity_itself _ c.in_default.in_default-own.rest.0.0.0.0.1 c.in_default.in_default-own.rest.0.0.0.1 c.in_default.in_default-own.rest.0.0.1 c.in_default.in_default-own.rest.0.1 c.in_default.in_default-own.rest.1)), omega arith)
+returns-in_default c = (ap length (sym (entity_itself _ (omega arith) (omega arith) (omega arith) (omega arith) (omega arith))), omega arith)

@@ -1,7 +1,6 @@
 use native.Mathlib.Omega.{arith}
 use Rattle.stream.proofs.TextCopyLaws.{no_room}
 use Rattle.entities.proofs.EscapeLaws.{laid_copied, surely_fits}
-use borrow.Author.Rules.{rules}
 use Rattle.entities.proofs.escape.copy_escaped.Goals as goal
 use Rattle.entities.proofs.escape.copy_escaped.Goals.{then-out-t+else-out-n, else-out-t}
 

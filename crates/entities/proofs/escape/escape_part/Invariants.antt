@@ -1,10 +1,7 @@
 use Prim.Native.Nat.{◌-◌, ◌≤◌}
-use native.Mathlib.Omega.{arith}
 use lib.ListN.{length, take}
 use Rattle.rules.specs.Escape.{escape}
 use Rattle.entities.specs.Put.{Put}
-use Rattle.entities.proofs.EscapeLaws.{escape_all, laid_none, laid_length, laid_within, laid_fits, put_room, put_more}
-use borrow.Author.Rules.{rules}
 use Rattle.entities.proofs.escape.escape_part.Given as goal
 
 abbrev pub invariant-loop-i : goal.invariant-loop-i

@@ -1,6 +1,5 @@
 use native.Mathlib.Omega.{arith}
-use Rattle.entities.proofs.EscapeLaws.{Writing, writing_start, writing_room, writing_next, writing_end, laid_within, laid_fits, laid_length}
-use borrow.Author.Rules.{rules}
+use Rattle.entities.proofs.EscapeLaws.{writing_start, writing_room, writing_next, writing_end, laid_within, laid_fits, laid_length}
 use Rattle.entities.proofs.escape.escape_parts.Goals as goal
 
 pub loop-rest-init : goal.loop-rest-init

@@ -1,6 +1,4 @@
-use native.Mathlib.Omega.{arith}
-use Rattle.entities.proofs.EscapeLaws.{Writing, writing_start, writing_room, writing_next, writing_end, laid_within, laid_fits, laid_length}
-use borrow.Author.Rules.{rules}
+use Rattle.entities.proofs.EscapeLaws.{Writing}
 use Rattle.entities.proofs.escape.escape_parts.Given as goal
 
 abbrev pub invariant-loop-rest : goal.invariant-loop-rest

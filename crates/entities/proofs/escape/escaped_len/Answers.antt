@@ -1,12 +1,6 @@
-use Prim.Native.Nat.{◌+◌, ◌≤◌}
-use mathlib.Core.Path.{◌≡◌}
 use native.Mathlib.Omega.{arith}
 use native.Mathlib.Nat.{zero-add, le_refl}
-use lib.ListN.{length}
-use Rattle.rules.specs.Escape.{escape}
-use Rattle.stream.specs.Text.{text_in}
 use Rattle.entities.proofs.EscapeLaws.{part_small, lengths_add, lengths_end, escaped_small}
-use borrow.Author.Rules.{rules}
 use Rattle.entities.proofs.escape.escaped_len.Goals as goal
 
 pub loop-rest-init : goal.loop-rest-init

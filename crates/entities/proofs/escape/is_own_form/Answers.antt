@@ -1,10 +1,5 @@
-use mathlib.Core.Path.{◌≡◌}
 use mathlib.Core.Bool.{false≢true}
-use borrow.Author.Tests.{not-false}
-use Rattle.rules.specs.Escape.{escape}
-use Rattle.stream.specs.Text.{text_in}
 use Rattle.entities.proofs.EscapeLaws.{plain_part, plain_rest, plain_end_lem}
-use borrow.Author.Rules.{rules}
 use Rattle.entities.proofs.escape.is_own_form.Goals as goal
 
 pub loop-rest-init : goal.loop-rest-init

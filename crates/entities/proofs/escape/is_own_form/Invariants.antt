@@ -1,10 +1,6 @@
 use mathlib.Core.Path.{◌≡◌}
-use mathlib.Core.Bool.{false≢true}
-use borrow.Author.Tests.{not-false}
 use Rattle.rules.specs.Escape.{escape}
 use Rattle.stream.specs.Text.{text_in}
-use Rattle.entities.proofs.EscapeLaws.{plain_part, plain_rest, plain_end_lem}
-use borrow.Author.Rules.{rules}
 use Rattle.entities.proofs.escape.is_own_form.Given as goal
 
 abbrev pub invariant-loop-rest : goal.invariant-loop-rest

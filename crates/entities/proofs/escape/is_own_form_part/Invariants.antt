@@ -1,12 +1,7 @@
 use Prim.Native.Nat.{◌-◌, ◌≤◌}
-use mathlib.Core.Path.{◌≡◌, refl, sym, ◌∙◌}
-use native.Mathlib.Omega.{arith}
+use mathlib.Core.Path.{◌≡◌}
 use lib.ListN.{length, take}
 use Rattle.rules.specs.Escape.{escape}
-use lib.Seq.{take_all}
-use borrow.Author.Tests.{eqb-true}
-use Rattle.entities.proofs.EscapeLaws.{plain_more, escape_all}
-use borrow.Author.Rules.{rules}
 use Rattle.entities.proofs.escape.is_own_form_part.Given as goal
 
 abbrev pub invariant-loop-i : goal.invariant-loop-i

@@ -18,4 +18,4 @@ pub returns-in-39 : goal.returns-in-39
 returns-in-39 c = λ z. absurd (omega arith)
 
 pub returns-in_default : goal.returns-in_default
-returns-in_default c = λ z. entity_itself _ c.in_default.in_default-own.rest.0.0.0.0.1 c.in_default.in_default-own.rest.0.0.0.1 c.in_default.in_default-own.rest.0.0.1 c.in_default.in_default-own.rest.0.1 c.in_default.in_default-own.rest.1
+returns-in_default c = λ z. entity_itself _ (omega arith) (omega arith) (omega arith) (omega arith) (omega arith)

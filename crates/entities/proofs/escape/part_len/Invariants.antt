@@ -1,10 +1,7 @@
 use Prim.Native.Nat.{◌-◌, ◌≤◌}
-use mathlib.Core.Path.{◌≡◌, refl, ap, ◌∙◌}
-use native.Mathlib.Omega.{arith}
+use mathlib.Core.Path.{◌≡◌}
 use lib.ListN.{length, take}
 use Rattle.rules.specs.Escape.{escape}
-use Rattle.entities.proofs.EscapeLaws.{escape_all, len_more, len_small}
-use borrow.Author.Rules.{rules}
 use Rattle.entities.proofs.escape.part_len.Given as goal
 
 abbrev pub invariant-loop-i : goal.invariant-loop-i

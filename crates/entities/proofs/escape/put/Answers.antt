@@ -1,6 +1,6 @@
+use native.Mathlib.Omega.{arith}
 use Rattle.laws.specs.Escapes.{entity_itself}
 use Rattle.entities.proofs.EscapeLaws.{amp, lt, gt, quot, apos, room_for, laid_entity, laid_itself}
-use borrow.Author.Rules.{rules}
 use Rattle.entities.proofs.escape.put.Goals as goal
 
 pub lay-requires : goal.lay-requires
@@ -19,7 +19,7 @@ pub lay-requires-in-39 : goal.lay-requires-in-39
 lay-requires-in-39 c = room_for _ _ (apos _ c.in-39.is) c.requires
 
 pub bounds-out-0 : goal.bounds-out-0
-bounds-out-0 c = room_for _ _ (entity_itself _ c.in_default.in_default-own.rest.0.0.0.0.1 c.in_default.in_default-own.rest.0.0.0.1 c.in_default.in_default-own.rest.0.0.1 c.in_default.in_default-own.rest.0.1 c.in_default.in_default-own.rest.1) c.requires
+bounds-out-0 c = room_for _ _ (entity_itself _ (omega arith) (omega arith) (omega arith) (omega arith) (omega arith)) c.requires
 
 pub returns-in-38 : goal.returns-in-38
 returns-in-38 c = laid_entity _ _ (amp _ c.in-38.is) c.lay.ensures
@@ -37,4 +37,4 @@ pub returns-in-39 : goal.returns-in-39
 returns-in-39 c = laid_entity _ _ (apos _ c.in-39.is) c.lay-in-39.ensures
 
 pub returns-in_default : goal.returns-in_default
-returns-in_default c = laid_itself _ _ (entity_itself _ c.in_default.in_default-own.rest.0.0.0.0.1 c.in_default.in_default-own.rest.0.0.0.1 c.in_default.in_default-own.rest.0.0.1 c.in_default.in_default-own.rest.0.1 c.in_default.in_default-own.rest.1) c.requires
+returns-in_default c = laid_itself _ _ (entity_itself _ (omega arith) (omega arith) (omega arith) (omega arith) (omega arith)) c.requires

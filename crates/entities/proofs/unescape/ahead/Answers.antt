@@ -1,10 +1,4 @@
-use Prim.Native.Nat.{◌-◌}
-use mathlib.Core.Path.{◌≡◌}
-use lib.ListN.{length}
-use borrow.Author.Tests.{not-false}
-use Rattle.entities.specs.Measured.{Letters}
 use Rattle.entities.proofs.MeasureLaws.{run_start, run_more}
-use borrow.Author.Rules.{rules}
 use Rattle.entities.proofs.unescape.ahead.Goals as goal
 
 pub returns-then-due-ne0 : goal.returns-then-due-ne0

@@ -1,5 +1,4 @@
 use mathlib.Core.Bool.{false≢true}
-use borrow.Author.Rules.{rules}
 use Rattle.entities.proofs.unescape.is_letter.Goals as goal
 
 pub returns-then-b-gt127 : goal.returns-then-b-gt127

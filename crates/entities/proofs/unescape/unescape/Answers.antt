@@ -1,6 +1,5 @@
 use borrow.Author.Tests.{not-true, not-false}
 use Rattle.entities.proofs.CallLaws.{by_8, by_12, plainly, long_is, by_0}
-use borrow.Author.Rules.{rules}
 use Rattle.entities.proofs.unescape.unescape.Goals as goal
 
 pub returns-then-not-plain : goal.returns-then-not-plain

@@ -1,5 +1,4 @@
 use Rattle.entities.proofs.PutLaws.{copy_room, copied}
-use borrow.Author.Rules.{rules}
 use Rattle.entities.proofs.unescape.write_plain.Goals as goal
 
 pub copy_into-requires : goal.copy_into-requires

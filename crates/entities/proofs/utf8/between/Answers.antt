@@ -1,4 +1,3 @@
-use borrow.Author.Rules.{rules}
 use Rattle.entities.specs.Utf8.{calm, due_in}
 use Rattle.entities.proofs.utf8.between.Goals as goal
 

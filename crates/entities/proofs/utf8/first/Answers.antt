@@ -1,7 +1,6 @@
 use mathlib.Core.Path.{◌∙◌}
 use Rattle.laws.specs.FirstBytes.{first_low, first_two, first_three, first_four, first_high}
 use Rattle.entities.proofs.Utf8Laws.{first_calm, first_broken, first_due}
-use borrow.Author.Rules.{rules}
 use Rattle.entities.proofs.utf8.first.Goals as goal
 
 pub returns-then-b-lt128 : goal.returns-then-b-lt128

@@ -1,5 +1,4 @@
 use Rattle.entities.proofs.Utf8Laws.{later_low, later_high, later_last, later_more}
-use borrow.Author.Rules.{rules}
 use Rattle.entities.proofs.utf8.later.Goals as goal
 
 pub returns-then-b-u : goal.returns-then-b-u

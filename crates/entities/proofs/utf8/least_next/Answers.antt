@@ -1,3 +1,4 @@
+use native.Mathlib.Omega.{arith}
 use borrow.Author.Tests.{ne_eqb}
 use Rattle.laws.specs.FirstBytes.{least_next}
 use Rattle.entities.proofs.utf8.least_next.Goals as goal
@@ -12,4 +13,4 @@ returns-in-240 c = rw c.in-240.is
 
 pub returns-in_default : goal.returns-in_default
 unfolding least_next
-returns-in_default c = rw (ne_eqb _ _ c.in_default.in_default-own.rest.0.1, ne_eqb _ _ c.in_default.in_default-own.rest.1)
+returns-in_default c = rw (ne_eqb c.args.b 0xe0 (omega arith), ne_eqb c.args.b 0xf0 (omega arith))

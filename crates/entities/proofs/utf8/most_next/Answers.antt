@@ -1,3 +1,4 @@
+use native.Mathlib.Omega.{arith}
 use borrow.Author.Tests.{ne_eqb}
 use Rattle.laws.specs.FirstBytes.{most_next}
 use Rattle.entities.proofs.utf8.most_next.Goals as goal
@@ -12,4 +13,4 @@ returns-in-244 c = rw c.in-244.is
 
 pub returns-in_default : goal.returns-in_default
 unfolding most_next
-returns-in_default c = rw (ne_eqb _ _ c.in_default.in_default-own.rest.0.1, ne_eqb _ _ c.in_default.in_default-own.rest.1)
+returns-in_default c = rw (ne_eqb c.args.b 0xed (omega arith), ne_eqb c.args.b 0xf4 (omega arith))

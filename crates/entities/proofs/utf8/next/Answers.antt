@@ -1,5 +1,4 @@
 use Rattle.entities.proofs.Utf8Laws.{next_first, next_later}
-use borrow.Author.Rules.{rules}
 use Rattle.entities.proofs.utf8.next.Goals as goal
 
 pub returns-then-u-eq0 : goal.returns-then-u-eq0

@@ -21,4 +21,4 @@ returns-in-4 c = element_size_lem _ _ _ (separator_text _ c.in-4.is) (omega arit
 
 pub returns-in_default : goal.returns-in_default
 unfolding units
-returns-in_default c = element_size_lem _ _ 0 (no_text _ c.in_default.in_default-own.rest.0.1 c.in_default.in_default-own.rest.1) (omega arith) refl
+returns-in_default c = element_size_lem _ _ 0 (no_text _ (omega arith) (omega arith)) (omega arith) refl

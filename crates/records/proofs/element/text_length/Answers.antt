@@ -1,3 +1,4 @@
+use native.Mathlib.Omega.{arith}
 use Rattle.records.proofs.SizeLaws.{keyword_text, separator_text, no_text}
 use Rattle.records.proofs.element.text_length.Goals as goal
 
@@ -8,4 +9,4 @@ pub returns-in-4 : goal.returns-in-4
 returns-in-4 c = separator_text _ c.in-4.is
 
 pub returns-in_default : goal.returns-in_default
-returns-in_default c = no_text _ c.in_default.in_default-own.rest.0.1 c.in_default.in_default-own.rest.1
+returns-in_default c = no_text _ (omega arith) (omega arith)

@@ -1,4 +1,3 @@
-use native.Mathlib.Omega.{arith}
 use Rattle.rules.specs.Records.{units}
 use borrow.Author.Rules.{rules}
 use Rattle.records.proofs.element.units.Goals as goal

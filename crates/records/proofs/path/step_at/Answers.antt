@@ -1,3 +1,4 @@
+use native.Mathlib.Omega.{arith}
 use mathlib.Core.Path.{refl}
 use Rattle.records.proofs.PathLaws.{step_bytes, step_number, step_last}
 use Rattle.records.proofs.path.step_at.Goals as goal
@@ -19,4 +20,4 @@ unfolding step_bytes
 returns-in-3 c = step_number _ _ 3 _ c.requires c.in-3.is refl
 
 pub returns-in_default : goal.returns-in_default
-returns-in_default c = step_last _ _ _ c.requires c.in_default.in_default-own.rest.0.0.0.1 c.in_default.in_default-own.rest.0.0.1 c.in_default.in_default-own.rest.0.1 c.in_default.in_default-own.rest.1 refl
+returns-in_default c = step_last _ _ _ c.requires (omega arith) (omega arith) (omega arith) (omega arith) refl

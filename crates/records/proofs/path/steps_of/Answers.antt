@@ -1,7 +1,6 @@
 use native.Mathlib.Omega.{arith}
 use mathlib.Core.Path.{refl}
 use Rattle.records.proofs.PathLaws.{few_steps, five_steps}
-use borrow.Author.Rules.{rules}
 use Rattle.records.proofs.path.steps_of.Goals as goal
 
 pub returns-then-n-lt5 : goal.returns-then-n-lt5

@@ -1,6 +1,5 @@
 use native.Mathlib.Omega.{arith}
 use Rattle.records.proofs.SizeLaws.{range_low, range_high}
-use borrow.Author.Rules.{rules}
 use Rattle.records.proofs.range.range_at.Goals as goal
 
 pub returns : goal.returns

@@ -1,6 +1,5 @@
 use native.Mathlib.Omega.{arith}
 use Rattle.records.proofs.SizeLaws.{size_yes_no, size_field}
-use borrow.Author.Rules.{rules}
 use Rattle.records.proofs.value.size_of.Goals as goal
 
 pub returns-then-head-eq2 : goal.returns-then-head-eq2

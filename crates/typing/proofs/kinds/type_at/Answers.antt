@@ -1,3 +1,4 @@
+use native.Mathlib.Omega.{arith}
 use mathlib.Core.Path.{sym, ◌∙◌}
 use Rattle.rules.specs.Templates.{type_at, type_numbered, field_heads}
 use Rattle.typing.proofs.KindLaws.{no_form}
@@ -25,4 +26,4 @@ returns-in-4 c = sym (rw (sym c.fetch-r.ensures.a ∙ c.in-4.is, ← c.fetch-r.e
 
 pub returns-in_default : goal.returns-in_default
 unfolding type_at
-returns-in_default c = no_form _ _ _ (λ q. c.in_default.in_default-own.rest.0.0.0.0.1 (c.fetch-r.ensures.a ∙ q)) (λ q. c.in_default.in_default-own.rest.0.0.0.1 (c.fetch-r.ensures.a ∙ q)) (λ q. c.in_default.in_default-own.rest.0.0.1 (c.fetch-r.ensures.a ∙ q)) (λ q. c.in_default.in_default-own.rest.0.1 (c.fetch-r.ensures.a ∙ q)) (λ q. c.in_default.in_default-own.rest.1 (c.fetch-r.ensures.a ∙ q))
+returns-in_default c = no_form _ _ _ (omega (arith, c.fetch-r.ensures.a)) (omega (arith, c.fetch-r.ensures.a)) (omega (arith, c.fetch-r.ensures.a)) (omega (arith, c.fetch-r.ensures.a)) (omega (arith, c.fetch-r.ensures.a))

@@ -13,7 +13,7 @@ returns-in-YesNo c = (sym (rw c.in-YesNo.is), omega (arith))
 
 pub returns-in-Items : goal.returns-in-Items
 unfolding child_count
-returns-in-Items c = (sym (rw c.in-Items.is), omega (arith, c.struct_known-1.given))
+returns-in-Items c = (sym (rw c.in-Items.is), omega arith)
 
 pub returns-in-Fields : goal.returns-in-Fields
 unfolding child_count
