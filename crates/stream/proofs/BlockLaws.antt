@@ -14,15 +14,14 @@ use Rattle.rules.specs.Blocks.{fnv_start, fnv1a, is_kind, sound, block_payload, 
 use Rattle.laws.specs.Faults.{and_true}
 use Rattle.stream.specs.Block.{sound_by}
 use Rattle.stream.specs.Fault.{fault_of, fault_from}
-use Rattle.stream.specs.declared.Fault.{Fault}
-use Rattle.stream.specs.declared.Fault.TheVariants.{At, Nowhere}
+use Rattle.std.specs.Prelude.{Result, Ok, Err}
 
 -- what a fault in hand says of the check that it answers
-pub found : (f : Fault) (x : Option ℕ) (place : ℕ) → fault_of f ≡ x → f ≡ At place → x ≡ some place
+pub found : {T : Type 0} (f : Result T ℕ) (x : Option ℕ) (place : ℕ) → fault_of f ≡ x → f ≡ Err place → x ≡ some place
 found f x place e g = sym e ∙ ap fault_of g
 
-pub unfound : (f : Fault) (x : Option ℕ) → fault_of f ≡ x → f ≡ Nowhere → x ≡ none
-unfound f x e g = sym e ∙ ap fault_of g
+pub unfound : {T : Type 0} (f : Result T ℕ) (x : Option ℕ) (t : T) → fault_of f ≡ x → f ≡ Ok t → x ≡ none
+unfound f x t e g = sym e ∙ ap fault_of g
 
 all_four : (a b c d : Bool) → a && (b && (c && d)) ≡ true → (a ≡ true) × (b ≡ true) × (c ≡ true) × (d ≡ true)
 all_four a b c d e = let f = and_true a _ e in let g = and_true b _ f.1 in let h = and_true c d g.1 in (f.0, g.0, h.0, h.1)

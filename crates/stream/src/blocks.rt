@@ -3,25 +3,18 @@ ghost use Rattle.rules.specs.Blocks.{check_of, stream_length, block, start_of, b
 ghost use Rattle.stream.specs.Block.{check_due, Starts, Checks};
 ghost use Rattle.stream.specs.Fault.{fault_of, fault_from};
 
-use crate::Fault;
 use crate::block::{check_of, is_sound_by, word_at};
 use crate::fnv::{Four, START, fnv1a, fnv1a_four};
 
 // Refusal 1 of a stream: its length.
-pub fn length_fault(s: &[u8]) -> Fault
+pub fn length_fault(s: &[u8]) -> Result<(), usize>
     ensures { fault_of result ≡ stream_length s.now }
 {
     let n = s.len();
-    if n < 1 {
-        return Fault::At(0);
+    if n < 1 || 65536 < n || n % 512 != 0 {
+        return Err(0);
     }
-    if 65536 < n {
-        return Fault::At(0);
-    }
-    if n % 512 != 0 {
-        return Fault::At(0);
-    }
-    Fault::Nowhere
+    Ok(())
 }
 
 // Block n.
@@ -129,23 +122,20 @@ fn are_right(kind: u8, s: &[u8], n: usize) -> bool
 }
 
 // Refusal 2 of the blocks from one on, each by itself.
-fn fault_from(kind: u8, s: &[u8], first: usize) -> Fault
+fn fault_from(kind: u8, s: &[u8], first: usize) -> Result<(), usize>
     ensures { fault_of result ≡ fault_from kind s.now (length s.now / 512) first }
 {
-    let blocks = s.len() / 512;
-    let mut n = first;
-    while n < blocks {
+    for n in first..s.len() / 512 {
         if !is_right(kind, s, n) {
-            return Fault::At(n);
+            return Err(n);
         }
-        n += 1;
     }
-    Fault::Nowhere
+    Ok(())
 }
 
 // Refusal 2 of a stream: the number of its first block that is not right. Four at a time as long as they are right; the rest, or the four
 // among which one is wrong, one by one.
-pub fn block_fault(kind: u8, s: &[u8]) -> Fault
+pub fn block_fault(kind: u8, s: &[u8]) -> Result<(), usize>
     ensures { fault_of result ≡ stream_blocks kind s.now }
 {
     let blocks = s.len() / 512;

@@ -8,10 +8,3 @@ pub mod fnv;
 pub mod pack;
 pub mod record;
 pub mod text;
-
-// The place of the first offending thing, or none.
-#[derive(Clone, Copy)]
-pub enum Fault {
-    At(usize),
-    Nowhere,
-}

@@ -3,7 +3,6 @@ ghost use Rattle.rules.specs.Blocks.{check_of, packed_block, packed, payload_len
 ghost use Rattle.rules.specs.Answers.{answer, pack, unpack};
 ghost use Rattle.stream.specs.Fault.{fault_of};
 
-use crate::Fault;
 use crate::block::is_kind;
 use crate::blocks::{block_fault, length_fault};
 use crate::copy::copy_into;
@@ -91,20 +90,14 @@ fn put_payloads(s: &[u8], out: &mut [u8])
 }
 
 // Refusal 1 of packing: the payload's length.
-fn payload_fault(payload: &[u8]) -> Fault
+fn payload_fault(payload: &[u8]) -> Result<(), usize>
     ensures { fault_of result ≡ payload_length payload.now }
 {
     let n = payload.len();
-    if n < 8 {
-        return Fault::At(0);
+    if n < 8 || 64512 < n || n % 8 != 0 {
+        return Err(0);
     }
-    if 64512 < n {
-        return Fault::At(0);
-    }
-    if n % 8 != 0 {
-        return Fault::At(0);
-    }
-    Fault::Nowhere
+    Ok(())
 }
 
 fn refused(number: u64, place: usize) -> Answer
@@ -135,7 +128,7 @@ fn finished(bytes: usize) -> Answer
 pub fn pack(kind: u8, payload: &[u8], out: &mut [u8]) -> Answer
     ensures { (result ≡ (pack kind payload.now out.old).result) × (out.new ≡ (pack kind payload.now out.old).output) }
 {
-    if let Fault::At(place) = payload_fault(payload) {
+    if let Err(place) = payload_fault(payload) {
         return refused(1, place);
     }
     if !is_kind(kind) {
@@ -153,13 +146,13 @@ pub fn pack(kind: u8, payload: &[u8], out: &mut [u8]) -> Answer
 pub fn unpack(kind: u8, s: &[u8], out: &mut [u8]) -> Answer
     ensures { (result ≡ (unpack kind s.now out.old).result) × (out.new ≡ (unpack kind s.now out.old).output) }
 {
-    if let Fault::At(place) = length_fault(s) {
+    if let Err(place) = length_fault(s) {
         return refused(1, place);
     }
     if !is_kind(kind) {
         return refused(2, 0);
     }
-    if let Fault::At(place) = block_fault(kind, s) {
+    if let Err(place) = block_fault(kind, s) {
         return refused(2, place);
     }
     let bytes = 504 * (s.len() / 512);
