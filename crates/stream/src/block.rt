@@ -31,10 +31,7 @@ fn word32_at(b: &[u8], at: usize) -> usize
 pub(crate) fn is_kind(kind: u8) -> bool
     ensures { result ≡ is_kind kind }
 {
-    if kind < 1 {
-        return false;
-    }
-    kind <= 3
+    matches!(kind, 1..=3)
 }
 
 // The check that a block has.
@@ -50,13 +47,7 @@ pub(crate) fn is_sound_by(kind: u8, b: &[u8], check: u32) -> bool
     requires { 512 ≤ length b.now }
     ensures { result ≡ sound_by kind check b.now }
 {
-    if b[2] != kind {
-        return false;
-    }
-    if b[3] != 0 {
-        return false;
-    }
-    check_of(b) == check
+    b[2] == kind && b[3] == 0 && check_of(b) == check
 }
 
 // The same of a block by itself, whose check starts from a number in hand.

@@ -89,10 +89,7 @@ fn is_right_by(kind: u8, s: &[u8], n: usize, check: u32) -> bool
     ensures { result ≡ block_right kind s.now n }
 {
     let b = block_at(s, n);
-    if word_at(b, 0) != n {
-        return false;
-    }
-    is_sound_by(kind, b, check)
+    word_at(b, 0) == n && is_sound_by(kind, b, check)
 }
 
 // Refusal 2 of one block.
@@ -109,16 +106,10 @@ fn are_right(kind: u8, s: &[u8], n: usize) -> bool
     ensures { result ≡ (block_right kind s.now n && (block_right kind s.now (n + 1) && (block_right kind s.now (n + 2) && block_right kind s.now (n + 3)))) }
 {
     let checks = checks_from(s, n);
-    if !is_right_by(kind, s, n, checks.a) {
-        return false;
-    }
-    if !is_right_by(kind, s, n + 1, checks.b) {
-        return false;
-    }
-    if !is_right_by(kind, s, n + 2, checks.c) {
-        return false;
-    }
-    is_right_by(kind, s, n + 3, checks.d)
+    is_right_by(kind, s, n, checks.a)
+        && is_right_by(kind, s, n + 1, checks.b)
+        && is_right_by(kind, s, n + 2, checks.c)
+        && is_right_by(kind, s, n + 3, checks.d)
 }
 
 // Refusal 2 of the blocks from one on, each by itself.

@@ -25,10 +25,8 @@ pub fn fnv1a(start: u32, s: &[u8]) -> u32
     ensures { result ≡ fnv1a start s.now }
 {
     let mut h = start;
-    let mut i = 0;
-    while i < s.len() {
-        h = step(h, s[i]);
-        i += 1;
+    for byte in s {
+        h = step(h, *byte);
     }
     h
 }
@@ -52,13 +50,11 @@ pub(crate) fn fnv1a_four(starts: Four, a: &[u8], b: &[u8], c: &[u8], d: &[u8]) -
     let mut x = starts.b;
     let mut y = starts.c;
     let mut z = starts.d;
-    let mut i = 0;
-    while i < a.len() {
+    for i in 0..a.len() {
         w = step(w, a[i]);
         x = step(x, b[i]);
         y = step(y, c[i]);
         z = step(z, d[i]);
-        i += 1;
     }
     Four {
         a: w,

@@ -7,7 +7,6 @@ use crate::block::is_kind;
 use crate::blocks::{block_fault, length_fault};
 use crate::copy::copy_into;
 use crate::fnv::{START, fnv1a};
-use crate::text::least;
 use rules::Answer;
 
 // Every writer here fills the beginning of what it is lent and leaves the rest as it was.
@@ -17,11 +16,7 @@ fn put_zeros(n: usize, out: &mut [u8])
     requires { n ≤ length out.old }
     ensures { out.new ≡ replicate n 0 ++ drop n out.old }
 {
-    let mut i = 0;
-    while i < n {
-        out[i] = 0;
-        i += 1;
-    }
+    out[..n].fill(0);
 }
 
 // Four bytes.
@@ -63,13 +58,11 @@ fn put_blocks(kind: u8, payload: &[u8], out: &mut [u8])
 {
     let blocks = (payload.len() + 503) / 504;
     let mut start = START;
-    let mut n = 0;
-    while n < blocks {
+    for n in 0..blocks {
         let from = 504 * n;
-        let to = least(from + 504, payload.len());
+        let to = (from + 504).min(payload.len());
         let at = 512 * n;
         start = put_block(kind, start, n, &payload[from..to], &mut out[at..]);
-        n += 1;
     }
 }
 
@@ -78,14 +71,11 @@ fn put_payloads(s: &[u8], out: &mut [u8])
     requires { 504 * (length s.now / 512) ≤ length out.old }
     ensures { out.new ≡ unpacked s.now ++ drop (length (unpacked s.now)) out.old }
 {
-    let blocks = s.len() / 512;
-    let mut n = 0;
-    while n < blocks {
+    for n in 0..s.len() / 512 {
         let from = 512 * n + 4;
         let to = from + 504;
         let at = 504 * n;
         copy_into(&s[from..to], &mut out[at..]);
-        n += 1;
     }
 }
 

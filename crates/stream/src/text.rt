@@ -99,10 +99,8 @@ pub fn text_skip(t: Text, n: usize) -> Text
     ensures { Skips n t result }
 {
     let mut rest = t;
-    let mut i = 0;
-    while i < n {
+    for _ in 0..n {
         rest = text_next(rest);
-        i += 1;
     }
     rest
 }

@@ -1,11 +1,15 @@
-use borrow.Author.Tests.{le-leb, lt-leb}
+use borrow.Author.Rules.{rules}
 use Rattle.rules.specs.Blocks.{is_kind}
 use Rattle.stream.proofs.block.is_kind.Goals as goal
 
-pub returns-then-kind-lt1 : goal.returns-then-kind-lt1
+pub returns-in-1-to-3 : goal.returns-in-1-to-3
 unfolding is_kind
-returns-then-kind-lt1 c = simp (lt-leb _ _ c.if-kind-lt1.true)
+returns-in-1-to-3 c = search rules
 
-pub returns : goal.returns
+pub returns-in_default : goal.returns-in_default
 unfolding is_kind
-returns c = simp (le-leb _ _ c.if-kind-lt1.false)
+returns-in_default c = search rules
+
+pub returns-in_default-2 : goal.returns-in_default-2
+unfolding is_kind
+returns-in_default-2 c = search rules
