@@ -1,5 +1,6 @@
 pub mod Block
 pub mod Fault
 pub mod Fnv
+pub mod Parts
 pub mod Record
 pub mod Text

@@ -3,7 +3,9 @@ ghost use Rattle.std.specs.Prelude.{◌≡◌, ◌+◌, ◌*◌, min, ◌≤◌,
 ghost use Rattle.std.proofs.Math.Option.{none};
 ghost use Rattle.rules.specs.Blocks.{stream_length};
 ghost use Rattle.rules.specs.Records.{text_of};
+ghost use Rattle.std.specs.Iterator.{at_most};
 ghost use Rattle.stream.specs.Text.{text_in, Begins, room, part_of, Rest, Skips, Copied};
+ghost use Rattle.stream.specs.Parts.{GivesPart};
 
 use crate::copy::copy_into;
 use crate::record::{NEAR, address, block_of};
@@ -76,6 +78,36 @@ pub fn text_rest(s: &[u8], t: Text) -> Text
     }
 }
 
+// The parts of a text in their order, block by block: what a loop over a text goes by. The bytes of all of them are the text's.
+#[derive(Drop)]
+pub struct Parts<'a> {
+    pub stream: &'a [u8],
+    pub rest: Text,
+}
+
+pub fn parts_of(s: &[u8], t: Text) -> Parts<'_>
+    ensures { (result.stream.now ≡ s.now) × (result.rest ≡ t) }
+{
+    Parts { stream: s, rest: t }
+}
+
+impl<'a> Iterator for Parts<'a> {
+    type Item = &'a [u8];
+
+    ghost next_gives = { GivesPart };
+
+    ghost remaining = { λ p. at_most p.rest.left };
+
+    fn next(&mut self) -> Option<&'a [u8]> {
+        if self.rest.left == 0 {
+            return None;
+        }
+        let part = text_part(self.stream, self.rest);
+        self.rest = text_rest(self.stream, self.rest);
+        Some(part)
+    }
+}
+
 // The text after its first byte.
 fn text_next(t: Text) -> Text
     requires { (0 < t.left) × (t.at + 9 < 2 ^ 64) }
@@ -110,12 +142,9 @@ pub fn text_skip(t: Text, n: usize) -> Text
 pub fn text_len(s: &[u8], t: Text) -> usize
     ensures { result ≡ length (text_in s.now t) }
 {
-    let mut rest = t;
     let mut n = 0;
-    while 0 < rest.left {
-        let part = text_part(s, rest);
+    for part in parts_of(s, t) {
         n += part.len();
-        rest = text_rest(s, rest);
     }
     n
 }
@@ -125,13 +154,10 @@ fn copy_parts(s: &[u8], t: Text, out: &mut [u8]) -> usize
     requires { length (text_in s.now t) ≤ length out.old }
     ensures { Copied (text_in s.now t) out.old out.new result }
 {
-    let mut rest = t;
     let mut done = 0;
-    while 0 < rest.left {
-        let part = text_part(s, rest);
+    for part in parts_of(s, t) {
         copy_into(part, &mut out[done..]);
         done += part.len();
-        rest = text_rest(s, rest);
     }
     done
 }
