@@ -90,16 +90,16 @@ fetched s i r l e =
 
 -- past the end all fields are 0
 pub fetched_none : (s : List ℕ) (i : ℕ) (r : Record) → Bytes s → length s ≤ base i
-    → (r.kind ≡ 0) × (r.a ≡ 0) × (r.b ≡ 0) × (r.c ≡ 0) × (r.d ≡ 0) → Fetched s i r
+    → (r.kind ≡ 0) × ((r.a ≡ 0) × ((r.b ≡ 0) × ((r.c ≡ 0) × (r.d ≡ 0)))) → Fetched s i r
 unfolding kind_of field_a field_b field_c field_d byte_of word
 fetched_none s i r l p z =
     let e : (j : ℕ) → get_or s (base i + j) 0 ≡ 0 = λ j. get_or-eq_default s 0 (omega arith) in
     record {
       kind = z.0 ∙ sym (e 0);
-      a = z.1 ∙ sym (e 1);
-      b = z.2 ∙ sym (rw (e 2, add_assoc (base i) 2 1, e 3));
-      c = z.3 ∙ sym (rw (e 4, add_assoc (base i) 4 1, e 5));
-      d = z.4 ∙ sym (rw (e 6, add_assoc (base i) 6 1, e 7));
+      a = z.1.0 ∙ sym (e 1);
+      b = z.1.1.0 ∙ sym (rw (e 2, add_assoc (base i) 2 1, e 3));
+      c = z.1.1.1.0 ∙ sym (rw (e 4, add_assoc (base i) 4 1, e 5));
+      d = z.1.1.1.1 ∙ sym (rw (e 6, add_assoc (base i) 6 1, e 7));
       small = λ j. l (base i + j);
       reads = λ k. absurd (omega (arith, lies_in s i k));
     }

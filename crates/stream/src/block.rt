@@ -5,33 +5,19 @@ ghost use Rattle.stream.specs.Block.{sound_by};
 
 use crate::fnv::fnv1a;
 
-fn wide(b: u8) -> usize
-    ensures { (result ≡ b) × (result < 256) }
-{
-    b as usize
-}
-
 // The 16 bits at a place, little-endian.
 pub(crate) fn word_at(b: &[u8], at: usize) -> usize
     requires { at + 1 < length b.now }
     ensures { (result ≡ word b.now at) × (result < 65536) }
 {
-    wide(b[at]) + 256 * wide(b[at + 1])
-}
-
-// The 32 bits at a place, little-endian.
-fn word32_at(b: &[u8], at: usize) -> usize
-    requires { at + 3 < length b.now }
-    ensures { (result ≡ word32 b.now at) × (result < 4294967296) }
-{
-    word_at(b, at) + 65536 * word_at(b, at + 2)
+    usize::from(u16::from_le_bytes([b[at], b[at + 1]]))
 }
 
 // 1 grammar, 2 templates, 3 value.
 pub(crate) fn is_kind(kind: u8) -> bool
     ensures { result ≡ is_kind kind }
 {
-    matches!(kind, 1..=3)
+    1 <= kind && kind <= 3
 }
 
 // The check that a block has.
@@ -39,7 +25,7 @@ pub(crate) fn check_of(b: &[u8]) -> u32
     requires { 512 ≤ length b.now }
     ensures { result ≡ check_of b.now }
 {
-    word32_at(b, 508) as u32
+    u32::from_le_bytes([b[508], b[509], b[510], b[511]])
 }
 
 // The kind, byte 3 and the check of a block, where the check that it should have is in hand; its number is left to the caller.
@@ -66,10 +52,7 @@ fn is_single(b: &[u8], start: u32) -> bool
         return false;
     }
     let kind = b[2];
-    if !is_kind(kind) {
-        return false;
-    }
-    is_sound(kind, b, start)
+    is_kind(kind) && is_sound(kind, b, start)
 }
 
 // The payload of a single block, as a part of the caller's slice: the 504 bytes that begin at byte 4 of the lent memory, or none of it,

@@ -1,8 +1,9 @@
 ghost use Rattle.std.specs.Prelude.{◌≡◌, ◌++◌, [], ◌∷◌, ◌+◌, ◌*◌, ◌/◌, ◌≤◌, length, drop, replicate};
 ghost use Rattle.rules.specs.Blocks.{check_of, packed_block, packed, payload_length, unpacked};
-ghost use Rattle.rules.specs.Answers.{answer, pack, unpack};
+ghost use Rattle.rules.specs.Answers.{pack, unpack};
 ghost use Rattle.stream.specs.Fault.{fault_of};
 
+use crate::answer::{finished, refused};
 use crate::block::is_kind;
 use crate::blocks::{block_fault, length_fault};
 use crate::copy::copy_into;
@@ -24,10 +25,7 @@ fn put_four(a: u8, b: u8, c: u8, d: u8, out: &mut [u8])
     requires { 4 ≤ length out.old }
     ensures { out.new ≡ (a ∷ b ∷ c ∷ d ∷ []) ++ drop 4 out.old }
 {
-    out[0] = a;
-    out[1] = b;
-    out[2] = c;
-    out[3] = d;
+    out[..4].copy_from_slice(&[a, b, c, d]);
 }
 
 // A block: its head, the payload, zeros as far as the check, and the check of all these from a start. It answers the check, from which the next
@@ -41,13 +39,7 @@ fn put_block(kind: u8, start: u32, n: usize, payload: &[u8], out: &mut [u8]) -> 
     let end = 4 + payload.len();
     put_zeros(508 - end, &mut out[end..]);
     let check = fnv1a(start, &out[0..508]);
-    put_four(
-        (check % 256) as u8,
-        (check / 256 % 256) as u8,
-        (check / 65536 % 256) as u8,
-        (check / 16777216 % 256) as u8,
-        &mut out[508..],
-    );
+    copy_into(&check.to_le_bytes(), &mut out[508..]);
     check
 }
 
@@ -90,46 +82,22 @@ fn payload_fault(payload: &[u8]) -> Result<(), usize>
     Ok(())
 }
 
-fn refused(number: u64, place: usize) -> Answer
-    ensures { result ≡ answer number 0 place 0 0 }
-{
-    Answer {
-        number: number,
-        kind: 0,
-        place: place as u64,
-        steps: 0,
-        bytes: 0,
-    }
-}
-
-fn finished(bytes: usize) -> Answer
-    ensures { result ≡ answer 0 0 0 0 bytes }
-{
-    Answer {
-        number: 0,
-        kind: 0,
-        place: 0,
-        steps: 0,
-        bytes: bytes as u64,
-    }
-}
-
 // A payload as a stream of a kind.
 pub fn pack(kind: u8, payload: &[u8], out: &mut [u8]) -> Answer
     ensures { (result ≡ (pack kind payload.now out.old).result) × (out.new ≡ (pack kind payload.now out.old).output) }
 {
     if let Err(place) = payload_fault(payload) {
-        return refused(1, place);
+        return refused(1, 0, place);
     }
     if !is_kind(kind) {
-        return refused(2, 0);
+        return refused(2, 0, 0);
     }
     let bytes = 512 * ((payload.len() + 503) / 504);
     if out.len() < bytes {
-        return refused(12, 0);
+        return refused(12, 0, 0);
     }
     put_blocks(kind, payload, out);
-    finished(bytes)
+    finished(0, bytes)
 }
 
 // The payloads of a stream that must be of a kind.
@@ -137,18 +105,18 @@ pub fn unpack(kind: u8, s: &[u8], out: &mut [u8]) -> Answer
     ensures { (result ≡ (unpack kind s.now out.old).result) × (out.new ≡ (unpack kind s.now out.old).output) }
 {
     if let Err(place) = length_fault(s) {
-        return refused(1, place);
+        return refused(1, 0, place);
     }
     if !is_kind(kind) {
-        return refused(2, 0);
+        return refused(2, 0, 0);
     }
     if let Err(place) = block_fault(kind, s) {
-        return refused(2, place);
+        return refused(2, 0, place);
     }
     let bytes = 504 * (s.len() / 512);
     if out.len() < bytes {
-        return refused(12, 0);
+        return refused(12, 0, 0);
     }
     put_payloads(s, out);
-    finished(bytes)
+    finished(0, bytes)
 }

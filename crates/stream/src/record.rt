@@ -6,7 +6,7 @@ ghost use Rattle.rules.specs.Records.{base};
 ghost use Rattle.stream.specs.Record.{Fetched, record_at, place_of, Reach};
 
 // A record: byte 0, byte 1, and three words of 16 bits. Bytes 2 to 7 are the words' low and high bytes.
-#[derive(Clone, Copy)]
+#[derive(Clone, Copy, Default)]
 pub struct Record {
     pub kind: u8,
     pub a: u8,
@@ -56,12 +56,6 @@ pub(crate) fn address(i: usize, block: usize) -> usize
     8 * (i + block) + 4
 }
 
-fn word_of(low: u8, high: u8) -> u16
-    ensures { result ≡ low + 256 * high }
-{
-    low as u16 + 256 * (high as u16)
-}
-
 // The record at an address, where its 8 bytes lie inside the slice.
 fn inside(s: &[u8], at: usize) -> Record
     requires { at + 8 ≤ length s.now }
@@ -70,21 +64,9 @@ fn inside(s: &[u8], at: usize) -> Record
     Record {
         kind: s[at],
         a: s[at + 1],
-        b: word_of(s[at + 2], s[at + 3]),
-        c: word_of(s[at + 4], s[at + 5]),
-        d: word_of(s[at + 6], s[at + 7]),
-    }
-}
-
-fn zeros() -> Record
-    ensures { (result.kind ≡ 0) × (result.a ≡ 0) × (result.b ≡ 0) × (result.c ≡ 0) × (result.d ≡ 0) }
-{
-    Record {
-        kind: 0,
-        a: 0,
-        b: 0,
-        c: 0,
-        d: 0,
+        b: u16::from_le_bytes([s[at + 2], s[at + 3]]),
+        c: u16::from_le_bytes([s[at + 4], s[at + 5]]),
+        d: u16::from_le_bytes([s[at + 6], s[at + 7]]),
     }
 }
 
@@ -94,13 +76,13 @@ pub fn fetch(s: &[u8], i: usize) -> Record
     ensures { Fetched s.now i result }
 {
     if NEAR <= i {
-        return zeros();
+        return Record::default();
     }
     let block = block_of(i);
     if block < s.len() / 512 {
         return inside(s, address(i, block));
     }
-    zeros()
+    Record::default()
 }
 
 // The record at a place.
@@ -110,10 +92,10 @@ pub fn fetch_at(s: &[u8], p: Place) -> Record
 {
     let at = p.at;
     if s.len() <= at {
-        return zeros();
+        return Record::default();
     }
     if s.len() - at < 8 {
-        return zeros();
+        return Record::default();
     }
     inside(s, at)
 }
@@ -148,7 +130,7 @@ pub fn forward(p: Place, n: usize) -> Place
     if slot < 63 {
         return Place {
             at: p.at + 8 * n,
-            slot: slot,
+            slot,
         };
     }
     let blocks = block_anywhere(slot);

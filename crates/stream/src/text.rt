@@ -66,11 +66,11 @@ pub fn text_rest(s: &[u8], t: Text) -> Text
 {
     let at = t.at;
     if s.len() <= at {
-        return Text { at: at, left: 0 };
+        return Text { at, left: 0 };
     }
     let here = room_at(at);
     if t.left <= here {
-        return Text { at: at, left: 0 };
+        return Text { at, left: 0 };
     }
     Text {
         at: at + here + 8,

@@ -1,6 +1,8 @@
-use Rattle.rules.specs.Blocks.{check_of}
+use borrow.Author.Rules.{rules}
+use Rattle.rules.specs.Blocks.{word32, check_of}
+use Rattle.rules.specs.Records.{word}
 use Rattle.stream.proofs.block.check_of.Goals as goal
 
 pub returns : goal.returns
-unfolding check_of
-returns c = c.word32_at.ensures.0
+unfolding check_of word32 word
+returns c = search rules

@@ -1,15 +1,11 @@
-use borrow.Author.Rules.{rules}
+use borrow.Author.Tests.{le-leb, lt-leb}
 use Rattle.rules.specs.Blocks.{is_kind}
 use Rattle.stream.proofs.block.is_kind.Goals as goal
 
-pub returns-in-1-to-3 : goal.returns-in-1-to-3
+pub returns-then-kind-ge1 : goal.returns-then-kind-ge1
 unfolding is_kind
-returns-in-1-to-3 c = search rules
+returns-then-kind-ge1 c = simp (le-leb _ _ c.if-kind-ge1.true)
 
-pub returns-in_default : goal.returns-in_default
+pub returns-else-kind-ge1 : goal.returns-else-kind-ge1
 unfolding is_kind
-returns-in_default c = search rules
-
-pub returns-in_default-2 : goal.returns-in_default-2
-unfolding is_kind
-returns-in_default-2 c = search rules
+returns-else-kind-ge1 c = simp (lt-leb _ _ c.if-kind-ge1.false)

@@ -1,0 +1,7 @@
+use borrow.Author.Rules.{rules}
+use Rattle.rules.specs.Answers.{answer}
+use Rattle.stream.proofs.answer.refused.Goals as goal
+
+pub returns : goal.returns
+unfolding answer
+returns c = search rules

@@ -1,7 +1,0 @@
-use Rattle.rules.specs.Answers.{answer}
-use mathlib.Core.Path.{refl}
-use Rattle.stream.proofs.pack.refused.Goals as goal
-
-pub returns : goal.returns
-unfolding answer
-returns c = refl
