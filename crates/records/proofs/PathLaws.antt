@@ -27,12 +27,6 @@ pub steps_count : (r : Record) → length (steps_in r) ≡ min (r.b % 256) 5
 unfolding steps_in
 steps_count r = simp length-take
 
-pub few_steps : (r : Record) (n : ℕ) → n ≡ r.b % 256 → n < 5 → (n ≡ length (steps_in r)) × (n ≤ 5)
-few_steps r n e l = (omega (arith, steps_count r), omega arith)
-
-pub five_steps : (r : Record) → 5 ≤ r.b % 256 → (5 ≡ length (steps_in r)) × (5 ≤ 5)
-five_steps r l = (omega (arith, steps_count r), omega arith)
-
 step_byte : (r : Record) (i : ℕ) → i < length (steps_in r) → get_or (step_bytes r) i 0 ≡ get_or (steps_in r) i 0
 unfolding steps_in step_bytes
 step_byte r i l = let h = steps_count r in sym (get_or-take (r.b % 256) (step_bytes r) i 0 (omega (arith, h, l)))

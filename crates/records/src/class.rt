@@ -7,10 +7,7 @@ use stream::record::Record;
 pub fn is_class(r: Record) -> bool
     ensures { result ≡ (eqb r.kind 1 || eqb r.kind 5) }
 {
-    if r.kind == 1 {
-        return true;
-    }
-    r.kind == 5
+    r.kind == 1 || r.kind == 5
 }
 
 // The class is an escaped one.

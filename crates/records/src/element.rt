@@ -10,15 +10,14 @@ pub fn units(n: usize) -> usize
     requires { n ≤ 65535 }
     ensures { result ≡ units n }
 {
-    (n + 7) / 8
+    n.div_ceil(8)
 }
 
 // How many bytes of text follow the element: the b of a keyword, the c of a separator.
 pub fn text_length(e: Record) -> u16
     ensures { TextLength e result }
 {
-    let form = e.a;
-    match form {
+    match e.a {
         0 => e.b,
         4 => e.c,
         _ => 0,
@@ -29,10 +28,7 @@ pub fn text_length(e: Record) -> u16
 pub fn is_repetition(e: Record) -> bool
     ensures { result ≡ repeats e.a }
 {
-    if e.a == 3 {
-        return true;
-    }
-    e.a == 4
+    e.a == 3 || e.a == 4
 }
 
 // How many records the element has: its own, and those of its text. (By the forms once more, and not by `text_length`: a build does this for
@@ -40,8 +36,7 @@ pub fn is_repetition(e: Record) -> bool
 pub fn size_of(e: Record) -> usize
     ensures { ElementSize e result }
 {
-    let form = e.a;
-    match form {
+    match e.a {
         0 => 1 + units(e.b as usize),
         4 => 1 + units(e.c as usize),
         _ => 1,

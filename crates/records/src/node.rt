@@ -12,8 +12,7 @@ use stream::record::{Record, fetch};
 pub fn form_of(head: Record) -> Form
     ensures { result ≡ form_numbered head.a }
 {
-    let a = head.a;
-    match a {
+    match head.a {
         0 => Form::Build,
         1 => Form::Literal,
         2 => Form::Place,

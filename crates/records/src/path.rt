@@ -15,8 +15,7 @@ pub fn variable_of(path: Record) -> usize
 pub fn steps_of(path: Record) -> usize
     ensures { (result ≡ length (steps_in path)) × (result ≤ 5) }
 {
-    let n = (path.b % 256) as usize;
-    if n < 5 { n } else { 5 }
+    (path.b as usize % 256).min(5)
 }
 
 // Step i: bytes 3 to 7 are the high byte of b, and both bytes of c and d.

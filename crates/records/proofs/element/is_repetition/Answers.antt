@@ -1,12 +1,11 @@
-use mathlib.Core.Path.{sym}
-use borrow.Author.Tests.{eq-eqb, ne_eqb}
+use borrow.Author.Rules.{rules}
 use Rattle.records.specs.Sizes.{repeats}
 use Rattle.records.proofs.element.is_repetition.Goals as goal
 
 pub returns-then-e-eq3 : goal.returns-then-e-eq3
 unfolding repeats
-returns-then-e-eq3 c = sym (rw (eq-eqb _ 3 c.if-e-eq3.true))
+returns-then-e-eq3 c = search rules
 
-pub returns : goal.returns
+pub returns-else-e-eq3 : goal.returns-else-e-eq3
 unfolding repeats
-returns c = sym (rw (ne_eqb _ 3 c.if-e-eq3.false))
+returns-else-e-eq3 c = search rules
