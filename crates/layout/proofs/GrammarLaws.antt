@@ -2,12 +2,12 @@
 use Prim.Native.Nat.{ℕ, zero, suc, ◌+◌, ◌-◌, ◌/◌, ◌<◌, ◌≤◌}
 use mathlib.Core.Path.{◌≡◌, refl, sym, ◌∙◌, ap}
 use mathlib.Core.Bool.{Bool, true, false, cond, ◌&&◌, ◌||◌, false≢true}
-use mathlib.Core.Logic.{⊎_elim}
+use mathlib.Core.Logic.{◌⊎◌, inl, inr, ⊎_elim}
 use mathlib.Core.List.{List}
 use mathlib.Core.Option.{Option, none, some}
 use native.Mathlib.Omega.{arith}
 use native.Mathlib.Numerals.{add-one}
-use native.Mathlib.Nat.{sub-zero, add_assoc}
+use native.Mathlib.Nat.{sub-zero}
 use borrow.Author.Tests.{eq-eqb, ne_eqb, eqb-true}
 use lib.Dec.{eqb, leb}
 use Rattle.rules.specs.Faults.{need, on_found, only_if}
@@ -19,9 +19,7 @@ use Rattle.stream.specs.Record.{Fetched}
 use Rattle.stream.specs.declared.record.Record.{Record}
 use Rattle.records.specs.Productions.{ProductionNumber}
 use Rattle.layout.specs.Common.{most_records}
-use Rattle.layout.specs.Grammar.{end_of, class_head, element_head}
-use Rattle.layout.specs.declared.grammar.End.{End}
-use Rattle.layout.specs.declared.grammar.End.TheVariants.{At, Broken}
+use Rattle.layout.specs.Grammar.{class_head, element_head}
 use Rattle.laws.specs.Faults.{and_iff}
 use Rattle.laws.specs.Rows.{one_less}
 use Rattle.laws.specs.Sorts.{class_kinds}
@@ -124,13 +122,10 @@ module _ {g : List ℕ} {p : ℕ} {r : Record} (f : Fetched g p r) where
   unfolding range_end only_if
   range_right_lem q z k l = let e : byte_of g p 7 ≡ 0 = omega (arith, high_d) in rw (eq-eqb _ _ (kind_here 2 k), eq-eqb _ _ e, z)
 
-  pub range_other : (r.kind ≡ 2 → ⊥) → range_end g p ≡ none
+  pub range_wrong : (r.kind ≡ 2 → ⊥) ⊎ ((r.kind ≡ 2) × (255 < r.d)) → range_end g p ≡ none
   unfolding range_end only_if
-  range_other k = rw (ne_eqb _ _ (kind_other 2 k))
-
-  pub range_over : r.kind ≡ 2 → 255 < r.d → range_end g p ≡ none
-  unfolding range_end only_if
-  range_over k l = rw (eq-eqb _ _ (kind_here 2 k), ne_eqb (byte_of g p 7) 0 (λ e. omega (arith, high_d)))
+  range_wrong (inl k) = rw (ne_eqb _ _ (kind_other 2 k))
+  range_wrong (inr w) = rw (eq-eqb _ _ (kind_here 2 w.0), ne_eqb (byte_of g p 7) 0 (λ e. let l = w.1 in omega (arith, high_d)))
 
   -- a class's number, the unused c and d of an escaped one, and then the ranges: an escaped one has none
   pub class_number : (n : ℕ) → (r.a ≡ n → ⊥) → class_end g n p ≡ none
@@ -154,7 +149,7 @@ module _ {g : List ℕ} {p : ℕ} {r : Record} (f : Fetched g p r) where
         go true e i = rw (e, eq-eqb _ _ (sym f.a ∙ a), i)
         go false e i = absurd (false≢true (sym i))
 
-    class_ranges : class_head r ≡ true → class_end g n p ≡ in_row (range_end g) r.d (p + 1)
+    pub class_ranges : class_head r ≡ true → class_end g n p ≡ in_row (range_end g) r.d (p + 1)
     unfolding class_end escaped_end plain_end in_row then_read on_found only_if
     class_ranges h = go (of_kind g 5 p) refl (sym class_head_is ∙ h)
       where
@@ -162,15 +157,6 @@ module _ {g : List ℕ} {p : ℕ} {r : Record} (f : Fetched g p r) where
             → class_end g n p ≡ in_row (range_end g) r.d (p + 1)
         go true e i = let d : r.d ≡ 0 = f.d ∙ eqb-true (field_d g p) 0 ((and_iff (eqb (field_c g p) 0) (eqb (field_d g p) 0)).0 i).1 in rw (e, eq-eqb _ _ (sym f.a ∙ a), i, d)
         go false e i = rw (e, eq-eqb _ _ (sym f.a ∙ a), ← f.d)
-
-    module _ {b : Bool} (h : class_head r ≡ true) (i : in_row (range_end g) r.d (p + 1) ≡ only_if b (p + 1 + r.d)) where
-      pub class_broken : b ≡ false → class_end g n p ≡ none
-      unfolding only_if
-      class_broken z = class_ranges h ∙ i ∙ rw z
-
-      pub class_right : b ≡ true → class_end g n p ≡ some (p + (1 + r.d))
-      unfolding only_if
-      class_right z = class_ranges h ∙ i ∙ rw (z, add_assoc)
 
   -- a production's number, and then its elements
   module _ {m : ℕ} (e : ProductionNumber r m) where
@@ -217,6 +203,14 @@ element_grows g p q e =
 pub elements_grow : (g : List ℕ) (n p q : ℕ) → in_row (element_end g) n (p + 1) ≡ some q → p < q
 elements_grow g n p q e = let l = in_row_grows (element_end g) (element_grows g) n (p + 1) q e in omega arith
 
+-- a range is one record
+range_grows : (g : List ℕ) (p q : ℕ) → range_end g p ≡ some q → p < q
+unfolding range_end
+range_grows g p q e = let z : p + 1 ≡ q = (only_some _ (p + 1) q e).1 in omega arith
+
+pub ranges_grow : (g : List ℕ) (n p q : ℕ) → in_row (range_end g) n (p + 1) ≡ some q → p < q
+ranges_grow g n p q e = let l = in_row_grows (range_end g) (range_grows g) n (p + 1) q e in omega arith
+
 -- The whole: classes, productions and the tail
 module _ (g : List ℕ) where
   pub no_middle : while_is (is_class g) (class_end g) (record_count g) 0 0 ≡ none → need false 0 ≡ grammar_layout g
@@ -231,10 +225,3 @@ module _ (g : List ℕ) where
       → r ≡ tail_right g e → need r 0 ≡ grammar_layout g
   unfolding grammar_layout layout_fault grammar_end then_read on_found
   all_ends a b t = rw (a, b, t)
-
--- What the code answers
-pub got : {o : Option ℕ} {r : End} {p : ℕ} → end_of r ≡ o → r ≡ At p → o ≡ some p
-got e h = sym e ∙ ap end_of h
-
-pub lost : {o : Option ℕ} {r : End} → end_of r ≡ o → r ≡ Broken → o ≡ none
-lost e h = sym e ∙ ap end_of h

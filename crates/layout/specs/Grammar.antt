@@ -1,13 +1,12 @@
 -- The place after a thing, as the code answers it.
-use Rattle.std.specs.Prelude.{ℕ, Bool, true, cond, ◌&&◌, ◌||◌, eqb, leb}
+use Rattle.std.specs.Prelude.{ℕ, Bool, true, cond, ◌&&◌, ◌||◌, eqb, leb, Some, None}
 use Rattle.std.proofs.Math.Option.{Option, none, some}
+use Rattle.std.specs.Prelude as code
 use Rattle.stream.specs.declared.record.Record.{Record}
-use Rattle.layout.specs.declared.grammar.End.{End}
-use Rattle.layout.specs.declared.grammar.End.TheVariants.{At, Broken}
 
-abbrev pub end_of : End → Option ℕ
-end_of (At p) = some p
-end_of Broken = none
+abbrev pub end_of : code.Option ℕ → Option ℕ
+end_of (Some p) = some p
+end_of None = none
 
 -- the test of `escaped_end` beside the number: what an escaped class says of itself; a plain one uses c and d
 unfoldable pub class_head : Record → Bool

@@ -1,7 +1,7 @@
 // Refusal 3 of a grammar: classes with their ranges, productions with their elements, then zero records.
 ghost use Rattle.std.specs.Prelude.{◌≡◌, ◌+◌, ◌<◌, ◌^◌};
 ghost use Rattle.std.proofs.Math.Option.{none};
-ghost use Rattle.rules.specs.Faults.{need, only_if};
+ghost use Rattle.rules.specs.Faults.{need};
 ghost use Rattle.rules.specs.Blocks.{stream_length};
 ghost use Rattle.rules.specs.Records.{record_count, of_kind};
 ghost use Rattle.rules.specs.Grammar.{is_class};
@@ -14,31 +14,19 @@ use records::element::{text_length, units};
 use records::production::number_of;
 use stream::record::{Record, fetch};
 
-// The place after a thing, or that the records lay none out.
-#[derive(Clone, Copy)]
-pub(crate) enum End {
-    At(usize),
-    Broken,
-}
-
-// n ranges from record p on. Byte 7 of a range, the high byte of d, is unused.
-fn are_ranges(g: &[u8], p: usize, n: usize) -> bool
+// n ranges from record p on, and the place after them. Byte 7 of a range, the high byte of d, is unused.
+fn ranges_end(g: &[u8], p: usize, n: usize) -> Option<usize>
     requires g_value { stream_length g.now ≡ none }
     requires n_bound { p + n < 2 ^ 64 }
-    ensures { in_row (range_end g.now) n p ≡ only_if result (p + n) }
+    ensures { end_of result ≡ in_row (range_end g.now) n p }
 {
-    let mut k = 0;
-    while k < n {
+    for k in 0..n {
         let range = fetch(g, p + k);
-        if range.kind != 2 {
-            return false;
+        if range.kind != 2 || 255 < range.d {
+            return None;
         }
-        if 255 < range.d {
-            return false;
-        }
-        k += 1;
     }
-    true
+    Some(p + n)
 }
 
 // What an escaped class says of itself: c and d are unused. A plain one uses both.
@@ -54,30 +42,26 @@ fn is_laid(class: Record) -> bool
     true
 }
 
-// The classes, plain and escaped, numbered from 0.
-fn class_row(g: &[u8]) -> End
+// The classes, plain and escaped, numbered from 0: where they end.
+fn class_row(g: &[u8]) -> Option<usize>
     requires { stream_length g.now ≡ none }
     ensures { end_of result ≡ while_is (is_class g.now) (class_end g.now) (record_count g.now) 0 0 }
 {
-    let mut p: usize = 0;
-    let mut n: usize = 0;
+    let mut p = 0;
+    let mut n = 0;
     loop {
         let class = fetch(g, p);
         if !is_class(class) {
-            return End::At(p);
+            return Some(p);
         }
         if class.a as usize != n {
-            return End::Broken;
+            return None;
         }
         if !is_laid(class) {
-            return End::Broken;
+            return None;
         }
-        let d = class.d as usize;
-        if !are_ranges(g, p + 1, d) {
-            return End::Broken;
-        }
+        p = ranges_end(g, p + 1, class.d as usize)?;
         n += 1;
-        p += 1 + d;
     }
 }
 
@@ -99,60 +83,52 @@ fn is_element(e: Record) -> bool
     e.d == 0
 }
 
-// The element at record p: one record, and after it its text, of which only the padding is looked at.
-fn element_end(g: &[u8], p: usize) -> End
+// The place after the element at record p: one record, and after it its text, of which only the padding is looked at.
+fn element_end(g: &[u8], p: usize) -> Option<usize>
     requires { stream_length g.now ≡ none }
     ensures { end_of result ≡ element_end g.now p }
 {
     let e = fetch(g, p);
     if !is_element(e) {
-        return End::Broken;
+        return None;
     }
     let text = text_length(e);
     if padded(g, p, text) {
-        End::At(p + 1 + units(text as usize))
+        Some(p + 1 + units(text as usize))
     } else {
-        End::Broken
+        None
     }
 }
 
-// n elements from record p on.
-fn elements_end(g: &[u8], p: usize, n: usize) -> End
+// The place after n elements from record p on.
+fn elements_end(g: &[u8], p: usize, n: usize) -> Option<usize>
     requires { stream_length g.now ≡ none }
     ensures { end_of result ≡ in_row (element_end g.now) n p }
 {
     let mut q = p;
-    let mut k = 0;
-    while k < n {
-        let End::At(next) = element_end(g, q) else {
-            return End::Broken;
-        };
-        q = next;
-        k += 1;
+    for _ in 0..n {
+        q = element_end(g, q)?;
     }
-    End::At(q)
+    Some(q)
 }
 
-// The productions from record start on, numbered from 0.
-fn production_row(g: &[u8], start: usize) -> End
+// The productions from record start on, numbered from 0: where they end.
+fn production_row(g: &[u8], start: usize) -> Option<usize>
     requires { stream_length g.now ≡ none }
     ensures { end_of result ≡ while_is (of_kind g.now 3) (production_end g.now) (record_count g.now) 0 start }
 {
     let mut p = start;
-    let mut n: usize = 0;
+    let mut n = 0;
     loop {
         let production = fetch(g, p);
         if production.kind != 3 {
-            return End::At(p);
+            return Some(p);
         }
         if number_of(production) != n {
-            return End::Broken;
+            return None;
         }
-        let End::At(next) = elements_end(g, p + 1, production.d as usize) else {
-            return End::Broken;
-        };
+        p = elements_end(g, p + 1, production.d as usize)?;
         n += 1;
-        p = next;
     }
 }
 
@@ -161,10 +137,10 @@ pub fn grammar_layout(g: &[u8]) -> bool
     requires { stream_length g.now ≡ none }
     ensures { need result 0 ≡ grammar_layout g.now }
 {
-    let End::At(middle) = class_row(g) else {
+    let Some(middle) = class_row(g) else {
         return false;
     };
-    let End::At(end) = production_row(g, middle) else {
+    let Some(end) = production_row(g, middle) else {
         return false;
     };
     tail_right(g, end)

@@ -11,7 +11,6 @@ ghost use Rattle.layout.specs.Tree.{Node, path_head, bare_path_head, head_end, b
 ghost use Rattle.layout.specs.Template.{naming, path_record, record_end, types_end, rest_right, within, TemplateHead};
 
 use crate::common::{record_count, tail_right, zero_from};
-use crate::grammar::End;
 use crate::tree::{Head, chained, text_head};
 use records::node::form_of;
 use records::value::size_of;
@@ -224,7 +223,7 @@ fn type_right(t: &[u8], at: Place, r: Record) -> bool
 }
 
 // The types, from the first record on: where they end.
-fn types_end(t: &[u8]) -> End
+fn types_end(t: &[u8]) -> Option<usize>
     requires { stream_length t.now ≡ none }
     ensures { end_of result ≡ types_end t.now }
 {
@@ -233,10 +232,10 @@ fn types_end(t: &[u8]) -> End
     loop {
         let r = fetch_at(t, at);
         if r.kind != 1 {
-            return End::At(p);
+            return Some(p);
         }
         if !type_right(t, at, r) {
-            return End::Broken;
+            return None;
         }
         let size = 1 + r.d as usize;
         p += size;
@@ -285,7 +284,7 @@ pub fn templates_layout(t: &[u8]) -> bool
     requires { stream_length t.now ≡ none }
     ensures { need result 0 ≡ templates_layout t.now }
 {
-    let End::At(p) = types_end(t) else {
+    let Some(p) = types_end(t) else {
         return false;
     };
     templates_from(t, p)

@@ -1,6 +1,6 @@
 use mathlib.Core.Path.{sym, ◌∙◌}
 use native.Mathlib.Omega.{arith}
-use Rattle.layout.proofs.GrammarLaws.{left_start, left_stop, left_go, left_broken, not_a_class, class_stands, stands_near, class_number, class_over, class_broken, class_right}
+use Rattle.layout.proofs.GrammarLaws.{left_start, left_stop, left_go, left_broken, not_a_class, class_stands, stands_near, class_number, class_over, class_ranges, ranges_grow}
 use Rattle.layout.proofs.grammar.class_row.Goals as goal
 
 pub loop-class-init : goal.loop-class-init
@@ -18,17 +18,14 @@ returns-then-not-is_laid c = left_broken (class_stands c.fetch-class.ensures _ c
 pub overflow_add-p : goal.overflow_add-p
 overflow_add-p c = omega (arith, stands_near c.requires (class_stands c.fetch-class.ensures _ c.is_class.ensures c.requires (c.if-not-is_class.false)))
 
-pub are_ranges-requires-clause-n_bound : goal.are_ranges-requires-clause-n_bound
-are_ranges-requires-clause-n_bound c = omega (arith, stands_near c.requires (class_stands c.fetch-class.ensures _ c.is_class.ensures c.requires (c.if-not-is_class.false)))
+pub ranges_end-requires-clause-n_bound : goal.ranges_end-requires-clause-n_bound
+ranges_end-requires-clause-n_bound c = omega (arith, stands_near c.requires (class_stands c.fetch-class.ensures _ c.is_class.ensures c.requires (c.if-not-is_class.false)))
 
-pub returns-then-not-are_ranges : goal.returns-then-not-are_ranges
-returns-then-not-are_ranges c = left_broken (class_stands c.fetch-class.ensures _ c.is_class.ensures c.requires (c.if-not-is_class.false)) c.loop-class.invariant (class_broken c.fetch-class.ensures _ c.if-class-n.false (sym c.is_laid.ensures ∙ c.if-not-is_laid.false) c.are_ranges.ensures (c.if-not-are_ranges.true))
-
-pub overflow_add-p-in-loop-class-2 : goal.overflow_add-p-in-loop-class-2
-overflow_add-p-in-loop-class-2 c = omega (arith, stands_near c.requires (class_stands c.fetch-class.ensures _ c.is_class.ensures c.requires (c.if-not-is_class.false)))
+pub returns-in_err-p : goal.returns-in_err-p
+returns-in_err-p c = rw c.from_residual.ensures (left_broken (class_stands c.fetch-class.ensures _ c.is_class.ensures c.requires (c.if-not-is_class.false)) c.loop-class.invariant (class_ranges c.fetch-class.ensures _ c.if-class-n.false (sym c.is_laid.ensures ∙ c.if-not-is_laid.false) ∙ sym c.in_err-p.ensures))
 
 pub loop-class-smaller : goal.loop-class-smaller
-loop-class-smaller c = omega (arith, (class_stands c.fetch-class.ensures _ c.is_class.ensures c.requires (c.if-not-is_class.false)).inside)
+loop-class-smaller c = omega (arith, (class_stands c.fetch-class.ensures _ c.is_class.ensures c.requires (c.if-not-is_class.false)).inside, ranges_grow _ _ _ _ (sym c.in_ok-p.ensures))
 
 pub loop-class-preserved : goal.loop-class-preserved
-loop-class-preserved c = left_go (class_stands c.fetch-class.ensures _ c.is_class.ensures c.requires (c.if-not-is_class.false)) c.loop-class.invariant _ (class_right c.fetch-class.ensures _ c.if-class-n.false (sym c.is_laid.ensures ∙ c.if-not-is_laid.false) c.are_ranges.ensures (c.if-not-are_ranges.false)) (omega arith)
+loop-class-preserved c = left_go (class_stands c.fetch-class.ensures _ c.is_class.ensures c.requires (c.if-not-is_class.false)) c.loop-class.invariant _ (class_ranges c.fetch-class.ensures _ c.if-class-n.false (sym c.is_laid.ensures ∙ c.if-not-is_laid.false) ∙ sym c.in_ok-p.ensures) (ranges_grow _ _ _ _ (sym c.in_ok-p.ensures))

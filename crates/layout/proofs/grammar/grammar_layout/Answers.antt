@@ -1,17 +1,12 @@
-use Rattle.layout.proofs.GrammarLaws.{no_middle, no_end, all_ends, got, lost}
+use Rattle.std.proofs.Common.{sym}
+use Rattle.layout.proofs.GrammarLaws.{no_middle, no_end, all_ends}
 use Rattle.layout.proofs.grammar.grammar_layout.Goals as goal
 
-pub class_row-requires : goal.class_row-requires
-class_row-requires c = c.requires
-
 pub returns-in_default : goal.returns-in_default
-returns-in_default c = no_middle _ (lost c.class_row.ensures c.in_default.is)
-
-pub production_row-requires : goal.production_row-requires
-production_row-requires c = c.requires
+returns-in_default c = no_middle _ (sym c.in_default.ensures)
 
 pub returns-in_default-production_row : goal.returns-in_default-production_row
-returns-in_default-production_row c = no_end _ (got c.class_row.ensures c.in-At.is) (lost c.production_row.ensures c.in_default-production_row.is)
+returns-in_default-production_row c = no_end _ (sym c.in-Some.ensures) (sym c.in_default-production_row.ensures)
 
 pub returns : goal.returns
-returns c = all_ends _ (got c.class_row.ensures c.in-At.is) (got c.production_row.ensures c.in-At-production_row.is) c.tail_right.ensures
+returns c = all_ends _ (sym c.in-Some.ensures) (sym c.in-Some-production_row.ensures) c.tail_right.ensures

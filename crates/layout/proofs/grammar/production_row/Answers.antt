@@ -1,5 +1,5 @@
-use native.Mathlib.Omega.{arith}
-use Rattle.layout.proofs.GrammarLaws.{left_start, left_stop, left_go, left_broken, kind_here, of_another, kind_stands, near, inside, production_out, production_elements, elements_grow, got, lost}
+use Rattle.std.proofs.Common.{sym, arith}
+use Rattle.layout.proofs.GrammarLaws.{left_start, left_stop, left_go, left_broken, kind_here, of_another, kind_stands, near, inside, production_out, production_elements, elements_grow}
 use Rattle.layout.proofs.grammar.production_row.Goals as goal
 
 pub loop-production-init : goal.loop-production-init
@@ -17,14 +17,14 @@ overflow_add-p c = omega (arith, near c.fetch-production.ensures c.requires 2 c.
 pub elements_end-requires : goal.elements_end-requires
 elements_end-requires c = c.requires
 
-pub returns-in_default : goal.returns-in_default
-returns-in_default c = left_broken (kind_stands c.fetch-production.ensures c.requires 2 c.if-production-ne3.false) c.loop-production.invariant (production_elements c.fetch-production.ensures c.number_of.ensures _ _ c.if-number_of-n.false (lost c.elements_end.ensures c.in_default.is))
+pub returns-in_err-p : goal.returns-in_err-p
+returns-in_err-p c = rw c.from_residual.ensures (left_broken (kind_stands c.fetch-production.ensures c.requires 2 c.if-production-ne3.false) c.loop-production.invariant (production_elements c.fetch-production.ensures c.number_of.ensures _ _ c.if-number_of-n.false (sym c.in_err-p.ensures)))
 
 pub overflow_add-n : goal.overflow_add-n
 overflow_add-n c = omega (arith, c.number_of.ensures.small, c.if-number_of-n.false)
 
 pub loop-production-smaller : goal.loop-production-smaller
-loop-production-smaller c = omega (arith, inside _ c.requires _ 2 (kind_here c.fetch-production.ensures 3 c.if-production-ne3.false), elements_grow _ _ _ _ (got c.elements_end.ensures c.in-At.is))
+loop-production-smaller c = omega (arith, inside _ c.requires _ 2 (kind_here c.fetch-production.ensures 3 c.if-production-ne3.false), elements_grow _ _ _ _ (sym c.in_ok-p.ensures))
 
 pub loop-production-preserved : goal.loop-production-preserved
-loop-production-preserved c = left_go (kind_stands c.fetch-production.ensures c.requires 2 c.if-production-ne3.false) c.loop-production.invariant _ (production_elements c.fetch-production.ensures c.number_of.ensures _ _ c.if-number_of-n.false (got c.elements_end.ensures c.in-At.is)) (elements_grow _ _ _ _ (got c.elements_end.ensures c.in-At.is))
+loop-production-preserved c = left_go (kind_stands c.fetch-production.ensures c.requires 2 c.if-production-ne3.false) c.loop-production.invariant _ (production_elements c.fetch-production.ensures c.number_of.ensures _ _ c.if-number_of-n.false (sym c.in_ok-p.ensures)) (elements_grow _ _ _ _ (sym c.in_ok-p.ensures))
