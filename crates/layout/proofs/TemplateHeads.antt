@@ -19,7 +19,8 @@ use Rattle.stream.specs.declared.record.Record.{Record}
 use Rattle.stream.specs.declared.record.Place as place
 use Rattle.stream.specs.Record.{bytes_of, Fetched, place_of}
 use Rattle.layout.specs.declared.tree.Head.{Head}
-use Rattle.layout.specs.declared.tree.Head.TheVariants.{Right, Wrong}
+use Rattle.std.specs.Prelude.{Some, None}
+use Rattle.std.specs.Prelude as code
 use Rattle.layout.specs.Tree.{Node, text_head, path_head, bare_path_head, form_head, form_below, head_end, below, Headed, CountsOn, HeadIn}
 use Rattle.layout.specs.Template.{naming, path_record, record_end}
 use Rattle.layout.proofs.CommonLaws.{record_bytes, fetched_zeros}
@@ -88,7 +89,7 @@ room_near a = record { sized = a.sized; index = a.within.index; place_is = a.wit
 
 -- a head that a path follows
 module _ (t : List ℕ) (p : ℕ) (r : Record) (f : Fetched t p r) (n : ℕ) where
-  pub path_b : (r.b ≡ 0 → ⊥) → Headed p Wrong (path_head t p) n
+  pub path_b : (r.b ≡ 0 → ⊥) → Headed p None (path_head t p) n
   unfolding path_head then_read on_found only_if
   path_b b = wrong p _ n (rw (ne_eqb (field_b t p) 0 (λ e. b (f.b ∙ e))))
 
@@ -97,16 +98,16 @@ module _ (t : List ℕ) (p : ℕ) (r : Record) (f : Fetched t p r) (n : ℕ) whe
     unfolding path_head then_read on_found only_if
     head_is = rw (eq-eqb (field_b t p) 0 (sym f.b ∙ b)) (sym e)
 
-    pub path_right : z ≡ true → Headed p (Right 2 n) (path_head t p) n
+    pub path_right : z ≡ true → Headed p (Some (record { own = 2; below = n })) (path_head t p) n
     unfolding only_if
     path_right w = right p _ 2 n n (head_is ∙ rw (w, add_assoc p 1 1)) refl
 
-    pub path_wrong : z ≡ false → Headed p Wrong (path_head t p) n
+    pub path_wrong : z ≡ false → Headed p None (path_head t p) n
     unfolding only_if
     path_wrong w = wrong p _ n (head_is ∙ rw w)
 
   -- one that counts nothing
-  pub bare_path : r.d ≡ 0 → (h : Head) → Headed p h (path_head t p) n → Headed p h (bare_path_head t p) n
+  pub bare_path : r.d ≡ 0 → (h : code.Option Head) → Headed p h (path_head t p) n → Headed p h (bare_path_head t p) n
   unfolding path_head bare_path_head
   bare_path d h is = as_head (ap (λ (b : Bool). then_read (only_if b (p + 1)) (path_end t)) (rw (eq-eqb (field_d t p) 0 (sym f.d ∙ d)) (and_yes (eqb (field_b t p) 0)))) refl is
     where
@@ -114,7 +115,7 @@ module _ (t : List ℕ) (p : ℕ) (r : Record) (f : Fetched t p r) (n : ℕ) whe
       and_yes true = refl
       and_yes false = refl
 
-  pub bare_d : (r.d ≡ 0 → ⊥) → Headed p Wrong (bare_path_head t p) n
+  pub bare_d : (r.d ≡ 0 → ⊥) → Headed p None (bare_path_head t p) n
   unfolding bare_path_head then_read on_found only_if
   bare_d d = wrong p _ n (rw (ne_eqb (field_d t p) 0 (λ e. d (f.d ∙ e))) (and_none (eqb (field_b t p) 0)))
     where
@@ -128,17 +129,17 @@ module _ (t : List ℕ) (p d : ℕ) (e : d ≡ field_d t p) (z : Bool) (h : only
   unfolding record_end
   row_is = rw (← e) (sym h)
 
-  pub expand_right : z ≡ true → Headed p (Right (1 + d) 0) (in_row (path_end t) (field_d t p) (p + 1)) 0
+  pub expand_right : z ≡ true → Headed p (Some (record { own = (1 + d); below = 0 })) (in_row (path_end t) (field_d t p) (p + 1)) 0
   unfolding only_if
   expand_right w = right p _ (1 + d) 0 0 (row_is ∙ rw (w, add_assoc p 1 d)) refl
 
-  pub expand_wrong : z ≡ false → Headed p Wrong (in_row (path_end t) (field_d t p) (p + 1)) 0
+  pub expand_wrong : z ≡ false → Headed p None (in_row (path_end t) (field_d t p) (p + 1)) 0
   unfolding only_if
   expand_wrong w = wrong p _ 0 (row_is ∙ rw w)
 
 -- a node by its form, as form_of answers it
 module _ (t : List ℕ) (p : ℕ) (r : Record) (f : Fetched t p r) where
-  pub no_node : (r.kind ≡ 5 → ⊥) → Headed p Wrong (head_end Node t p) (below Node t p)
+  pub no_node : (r.kind ≡ 5 → ⊥) → Headed p None (head_end Node t p) (below Node t p)
   unfolding head_end then_read on_found only_if
   no_node k = wrong p _ _ (rw (ne_eqb (kind_of t p) 5 (λ e. k (f.kind ∙ e))))
 
@@ -152,49 +153,49 @@ module _ (t : List ℕ) (p : ℕ) (r : Record) (f : Fetched t p r) where
     below_at_lem = rw (← form_is t p r f form is-form)
 
     -- the head as its form has it
-    as_form : (other : Form) → form ≡ other → {h : Head} → Headed p h (form_head t other p) (form_below t other p) → Headed p h (head_end Node t p) (below Node t p)
+    as_form : (other : Form) → form ≡ other → {h : code.Option Head} → Headed p h (form_head t other p) (form_below t other p) → Headed p h (head_end Node t p) (below Node t p)
     as_form other e is = as_head (end_at_lem ∙ ap (λ (x : Form). form_head t x p) e) (below_at_lem ∙ ap (λ (x : Form). form_below t x p) e) is
 
-    pub a_build : form ≡ Build → Headed p (Right 1 r.d) (head_end Node t p) (below Node t p)
+    pub a_build : form ≡ Build → Headed p (Some (record { own = 1; below = r.d })) (head_end Node t p) (below Node t p)
     unfolding form_head form_below
     a_build e = as_form Build e (right p _ 1 r.d _ refl f.d)
 
-    pub a_literal : form ≡ Literal → r.d ≡ 0 → (h : Head) → Headed p h (text_head t p) 0 → Headed p h (head_end Node t p) (below Node t p)
+    pub a_literal : form ≡ Literal → r.d ≡ 0 → (h : code.Option Head) → Headed p h (text_head t p) 0 → Headed p h (head_end Node t p) (below Node t p)
     unfolding form_head form_below then_read on_found only_if
     a_literal e d h is = as_form Literal e (as_head (rw (eq-eqb (field_d t p) 0 (sym f.d ∙ d))) refl is)
 
-    pub not_literal : form ≡ Literal → (r.d ≡ 0 → ⊥) → Headed p Wrong (head_end Node t p) (below Node t p)
+    pub not_literal : form ≡ Literal → (r.d ≡ 0 → ⊥) → Headed p None (head_end Node t p) (below Node t p)
     unfolding form_head then_read on_found only_if
     not_literal e d = as_form Literal e (wrong p _ _ (rw (ne_eqb (field_d t p) 0 (λ e. d (f.d ∙ e)))))
 
-    pub a_place : form ≡ Place → (h : Head) → Headed p h (bare_path_head t p) 0 → Headed p h (head_end Node t p) (below Node t p)
+    pub a_place : form ≡ Place → (h : code.Option Head) → Headed p h (bare_path_head t p) 0 → Headed p h (head_end Node t p) (below Node t p)
     unfolding form_head form_below
     a_place e h is = as_form Place e is
 
-    pub an_expand : form ≡ Expand → (h : Head) → Headed p h (in_row (path_end t) (field_d t p) (p + 1)) 0 → Headed p h (head_end Node t p) (below Node t p)
+    pub an_expand : form ≡ Expand → (h : code.Option Head) → Headed p h (in_row (path_end t) (field_d t p) (p + 1)) 0 → Headed p h (head_end Node t p) (below Node t p)
     unfolding form_head form_below
     an_expand e h is = as_form Expand e is
 
-    pub an_if : form ≡ If → (h : Head) → Headed p h (bare_path_head t p) 2 → Headed p h (head_end Node t p) (below Node t p)
+    pub an_if : form ≡ If → (h : code.Option Head) → Headed p h (bare_path_head t p) 2 → Headed p h (head_end Node t p) (below Node t p)
     unfolding form_head form_below
     an_if e h is = as_form If e is
 
-    pub a_for : form ≡ For → (h : Head) → Headed p h (bare_path_head t p) 1 → Headed p h (head_end Node t p) (below Node t p)
+    pub a_for : form ≡ For → (h : code.Option Head) → Headed p h (bare_path_head t p) 1 → Headed p h (head_end Node t p) (below Node t p)
     unfolding form_head form_below
     a_for e h is = as_form For e is
 
-    pub a_sequence : form ≡ Sequence → r.b ≡ 0 → Headed p (Right 1 r.d) (head_end Node t p) (below Node t p)
+    pub a_sequence : form ≡ Sequence → r.b ≡ 0 → Headed p (Some (record { own = 1; below = r.d })) (head_end Node t p) (below Node t p)
     unfolding form_head form_below only_if
     a_sequence e b = as_form Sequence e (right p _ 1 r.d _ (rw (eq-eqb (field_b t p) 0 (sym f.b ∙ b))) f.d)
 
-    pub not_sequence : form ≡ Sequence → (r.b ≡ 0 → ⊥) → Headed p Wrong (head_end Node t p) (below Node t p)
+    pub not_sequence : form ≡ Sequence → (r.b ≡ 0 → ⊥) → Headed p None (head_end Node t p) (below Node t p)
     unfolding form_head only_if
     not_sequence e b = as_form Sequence e (wrong p _ _ (rw (ne_eqb (field_b t p) 0 (λ e. b (f.b ∙ e)))))
 
-    pub a_match : form ≡ Match → (h : Head) → Headed p h (path_head t p) r.d → Headed p h (head_end Node t p) (below Node t p)
+    pub a_match : form ≡ Match → (h : code.Option Head) → Headed p h (path_head t p) r.d → Headed p h (head_end Node t p) (below Node t p)
     unfolding form_head form_below
     a_match e h is = as_form Match e (as_head refl (sym f.d) is)
 
-    pub unknown : form ≡ Unknown → Headed p Wrong (head_end Node t p) (below Node t p)
+    pub unknown : form ≡ Unknown → Headed p None (head_end Node t p) (below Node t p)
     unfolding form_head
     unknown e = as_form Unknown e (wrong p _ _ refl)

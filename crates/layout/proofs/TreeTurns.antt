@@ -12,7 +12,8 @@ use Rattle.rules.specs.Records.{record_count, field_b, units, padding_of, zeros}
 use Rattle.rules.specs.Value.{value_size}
 use Rattle.rules.specs.Layout.{then_read, text_end}
 use Rattle.layout.specs.declared.tree.Head.{Head}
-use Rattle.layout.specs.declared.tree.Head.TheVariants.{Right, Wrong}
+use Rattle.std.specs.Prelude.{Some, None}
+use Rattle.std.specs.Prelude as code
 use Rattle.layout.specs.Tree.{Thing, chain, scan, text_head, head_end, below, fills, Headed}
 use Rattle.layout.proofs.TreeLaws.{fills_scan, scan_step, scan_long, scan_no_head, scan_no_chain, scan_end}
 use Rattle.laws.specs.Rows.{one_less}
@@ -41,21 +42,21 @@ module _ (size : ℕ → ℕ) (n k q e : ℕ) where
 
 -- What the code says of a head
 
-pub wrong : (p : ℕ) (end : Option ℕ) (n : ℕ) → end ≡ none → Headed p Wrong end n
+pub wrong : (p : ℕ) (end : Option ℕ) (n : ℕ) → end ≡ none → Headed p None end n
 wrong p end n e = record { end_is = sym e; below_is = refl }
 
-pub right : (p : ℕ) (end : Option ℕ) (own n m : ℕ) → end ≡ some (p + own) → n ≡ m → Headed p (Right own n) end m
+pub right : (p : ℕ) (end : Option ℕ) (own n m : ℕ) → end ≡ some (p + own) → n ≡ m → Headed p (Some (record { own = own; below = n })) end m
 right p end own n m e z = record { end_is = sym e; below_is = z }
 
-pub as_head : {p : ℕ} {h : Head} {end other : Option ℕ} {n m : ℕ} → other ≡ end → m ≡ n → Headed p h end n → Headed p h other m
+pub as_head : {p : ℕ} {h : code.Option Head} {end other : Option ℕ} {n m : ℕ} → other ≡ end → m ≡ n → Headed p h end n → Headed p h other m
 as_head e z is = record { end_is = is.end_is ∙ sym e; below_is = rw z is.below_is }
 
-module _ (p : ℕ) (h : Head) (end : Option ℕ) (n : ℕ) (is : Headed p h end n) where
-  pub head_wrong : h ≡ Wrong → end ≡ none
+module _ (p : ℕ) (h : code.Option Head) (end : Option ℕ) (n : ℕ) (is : Headed p h end n) where
+  pub head_wrong : h ≡ None → end ≡ none
   head_wrong e = sym (rw e at is.end_is)
 
-  pub head_right : (own m : ℕ) → h ≡ Right own m → (end ≡ some (p + own)) × (m ≡ n)
-  head_right own m e = (sym (rw e at is.end_is), rw e at is.below_is)
+  pub head_right : (x : Head) → h ≡ Some x → (end ≡ some (p + x.own)) × (x.below ≡ n)
+  head_right x e = (sym (rw e at is.end_is), rw e at is.below_is)
 
 -- a head with a text
 not_closed : (c : Bool) (x z : ℕ) → eqb z x ≡ false → then_read (only_if c x) (λ q. only_if (eqb z q) q) ≡ none
@@ -123,28 +124,28 @@ module _ (thing : Thing) (s : List ℕ) where
     unfolding rest
     turn_long i = scan_long (head_end thing s) (value_size s) (below thing s) (head_grows thing s) q e l (omega arith)
 
-    module _ (i : q + size ≤ e) (h : Head) (is : Headed q h (head_end thing s q) (below thing s q)) where
-      pub turn_wrong : h ≡ Wrong → rest q e ≡ false
+    module _ (i : q + size ≤ e) (h : code.Option Head) (is : Headed q h (head_end thing s q) (below thing s q)) where
+      pub turn_wrong : h ≡ None → rest q e ≡ false
       unfolding rest
       turn_wrong w =
           scan_no_head (head_end thing s) (value_size s) (below thing s) (head_grows thing s) q e l (omega arith)
           (head_wrong q h (head_end thing s q) (below thing s q) is w)
 
-      module _ (own n : ℕ) (w : h ≡ Right own n) (b : Bool) (c : b ≡ chain (value_size s) n (q + own) (q + size)) where
-        chain_is : b ≡ chain (value_size s) (below thing s q) (q + own) (q + value_size s q)
-        chain_is = c ∙ rw (z, (head_right q h (head_end thing s q) (below thing s q) is own n w).1)
+      module _ (x : Head) (w : h ≡ Some x) (b : Bool) (c : b ≡ chain (value_size s) x.below (q + x.own) (q + size)) where
+        chain_is : b ≡ chain (value_size s) (below thing s q) (q + x.own) (q + value_size s q)
+        chain_is = c ∙ rw (z, (head_right q h (head_end thing s q) (below thing s q) is x w).1)
 
         pub turn_stop : b ≡ false → rest q e ≡ false
         unfolding rest
         turn_stop f =
-            scan_no_chain (head_end thing s) (value_size s) (below thing s) (head_grows thing s) q (q + own) e l (omega arith)
-            (head_right q h (head_end thing s q) (below thing s q) is own n w).0 (sym chain_is ∙ f)
+            scan_no_chain (head_end thing s) (value_size s) (below thing s) (head_grows thing s) q (q + x.own) e l (omega arith)
+            (head_right q h (head_end thing s q) (below thing s q) is x w).0 (sym chain_is ∙ f)
 
-        pub turn_go : b ≡ true → rest q e ≡ rest (q + own) e
+        pub turn_go : b ≡ true → rest q e ≡ rest (q + x.own) e
         unfolding rest
         turn_go f =
-            scan_step (head_end thing s) (value_size s) (below thing s) (head_grows thing s) q (q + own) e l (omega arith)
-            (head_right q h (head_end thing s q) (below thing s q) is own n w).0 (sym chain_is ∙ f)
+            scan_step (head_end thing s) (value_size s) (below thing s) (head_grows thing s) q (q + x.own) e l (omega arith)
+            (head_right q h (head_end thing s q) (below thing s q) is x w).0 (sym chain_is ∙ f)
 
-      pub own_some : (own n : ℕ) → h ≡ Right own n → q < q + own
-      own_some own n w = head_grows thing s q (q + own) (head_right q h (head_end thing s q) (below thing s q) is own n w).0
+      pub own_some : (x : Head) → h ≡ Some x → q < q + x.own
+      own_some x w = head_grows thing s q (q + x.own) (head_right q h (head_end thing s q) (below thing s q) is x w).0

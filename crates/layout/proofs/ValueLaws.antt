@@ -4,6 +4,7 @@ use mathlib.Core.Path.{◌≡◌, refl, ap, sym, ◌∙◌}
 use mathlib.Core.List.{List}
 use mathlib.Core.Bool.{Bool, true, false, ◌&&◌}
 use mathlib.Core.Option.{Option, none, some}
+use mathlib.Core.Logic.{◌⊎◌, inl, inr}
 use native.Mathlib.Omega.{arith}
 use borrow.Author.Tests.{eq-eqb, ne_eqb}
 use lib.Dec.{eqb, leb}
@@ -14,7 +15,8 @@ use Rattle.rules.specs.Layout.{then_read, value_end, tail_right, layout_fault, v
 use Rattle.stream.specs.declared.record.Record.{Record}
 use Rattle.stream.specs.Record.{Fetched}
 use Rattle.layout.specs.declared.tree.Head.{Head}
-use Rattle.layout.specs.declared.tree.Head.TheVariants.{Right, Wrong}
+use Rattle.std.specs.Prelude.{Some, None}
+use Rattle.std.specs.Prelude as code
 use Rattle.layout.specs.Tree.{Value, text_head, kind_head, kind_below, head_end, below, thing_end, fills, Headed, yes_no, case_head}
 use Rattle.laws.specs.Faults.{only_no}
 use Rattle.layout.proofs.CommonLaws.{tail_past}
@@ -26,20 +28,15 @@ no_head : (b : Bool) (p : ℕ) (next : ℕ → Option ℕ) → b ≡ false → t
 unfolding then_read on_found only_if
 no_head b p next e = rw e
 
-and_not : (a b : Bool) → a ≡ false → a && b ≡ false
-and_not a b e = rw e
+-- one of two fields is used, the second looked at where the first is not
+abbrev pub used : ℕ → ℕ → Type 0
+used a b = (a ≡ 0 → ⊥) ⊎ ((a ≡ 0) × (b ≡ 0 → ⊥))
 
--- what kinds share: a is unused but for a yes/no and a case; a list and a record; no other kind is a value
-unused_a : (v : List ℕ) (p kind : ℕ) → (kind ≡ 2 → ⊥) → (kind ≡ 5 → ⊥) → eqb (field_a v p) 0 ≡ false → kind_head v kind p ≡ none
-unfolding kind_head
-unused_a v p zero k n e = refl
-unused_a v p (suc zero) k n e = no_head _ p (text_head v) (and_not _ _ e)
-unused_a v p (suc (suc zero)) k n e = absurd (k refl)
-unused_a v p (suc (suc (suc zero))) k n e = only_no _ (p + 1) (and_not _ _ e)
-unused_a v p (suc (suc (suc (suc zero)))) k n e = only_no _ (p + 1) (and_not _ _ e)
-unused_a v p (suc (suc (suc (suc (suc zero))))) k n e = absurd (n refl)
-unused_a v p (suc (suc (suc (suc (suc (suc kind)))))) k n e = refl
+not_both : (a b : ℕ) → used a b → eqb a 0 && eqb b 0 ≡ false
+not_both a b (inl l) = rw (ne_eqb a 0 l)
+not_both a b (inr w) = rw (eq-eqb a 0 w.0, ne_eqb b 0 w.1)
 
+-- a list and a record share their head; no other kind is a value
 with_children : (v : List ℕ) (p kind : ℕ) → 3 ≤ kind → kind < 5
     → (kind_head v kind p ≡ only_if (eqb (field_a v p) 0 && eqb (field_b v p) 0) (p + 1)) × (kind_below v kind p ≡ field_d v p)
 unfolding kind_head kind_below
@@ -49,13 +46,6 @@ with_children v p (suc (suc zero)) l m = absurd (omega arith)
 with_children v p (suc (suc (suc zero))) l m = (refl, refl)
 with_children v p (suc (suc (suc (suc zero)))) l m = (refl, refl)
 with_children v p (suc (suc (suc (suc (suc kind))))) l m = absurd (omega arith)
-
-other_low : (v : List ℕ) (p kind : ℕ) → (kind ≡ 1 → ⊥) → (kind ≡ 2 → ⊥) → kind < 3 → kind_head v kind p ≡ none
-unfolding kind_head
-other_low v p zero a b l = refl
-other_low v p (suc zero) a b l = absurd (a refl)
-other_low v p (suc (suc zero)) a b l = absurd (b refl)
-other_low v p (suc (suc (suc kind))) a b l = absurd (omega arith)
 
 other_high : (v : List ℕ) (p kind : ℕ) → (kind ≡ 5 → ⊥) → 5 ≤ kind → kind_head v kind p ≡ none
 unfolding kind_head
@@ -73,18 +63,18 @@ module _ (v : List ℕ) (p : ℕ) (r : Record) (f : Fetched v p r) where
   unfolding head_end below
   at_kind kind e = let z : kind_of v p ≡ kind = sym f.kind ∙ e in (rw z, rw z)
 
-  not_head : (kind : ℕ) → r.kind ≡ kind → kind_head v kind p ≡ none → Headed p Wrong (head_end Value v p) (below Value v p)
+  not_head : (kind : ℕ) → r.kind ≡ kind → kind_head v kind p ≡ none → Headed p None (head_end Value v p) (below Value v p)
   not_head kind e z = wrong p _ _ ((at_kind kind e).0 ∙ z)
 
   yes_is : yes_no r ≡ leb (field_a v p) 1 && (eqb (field_b v p) 0 && (eqb (field_c v p) 0 && eqb (field_d v p) 0))
   unfolding yes_no
   yes_is = rw (f.a, f.b, f.c, f.d)
 
-  pub yes_right : r.kind ≡ 2 → true ≡ yes_no r → Headed p (Right 1 0) (head_end Value v p) (below Value v p)
+  pub yes_right : r.kind ≡ 2 → true ≡ yes_no r → Headed p (Some (record { own = 1; below = 0 })) (head_end Value v p) (below Value v p)
   unfolding kind_head kind_below only_if
   yes_right e z = right p _ 1 0 _ ((at_kind 2 e).0 ∙ ap (λ (b : Bool). only_if b (p + 1)) (sym (z ∙ yes_is))) (sym (at_kind 2 e).1)
 
-  pub yes_wrong : r.kind ≡ 2 → false ≡ yes_no r → Headed p Wrong (head_end Value v p) (below Value v p)
+  pub yes_wrong : r.kind ≡ 2 → false ≡ yes_no r → Headed p None (head_end Value v p) (below Value v p)
   unfolding kind_head
   yes_wrong e z = not_head 2 e (only_no _ (p + 1) (sym (z ∙ yes_is)))
 
@@ -92,45 +82,40 @@ module _ (v : List ℕ) (p : ℕ) (r : Record) (f : Fetched v p r) where
   unfolding case_head
   case_is = rw (f.b, f.d)
 
-  pub case_right : r.kind ≡ 5 → true ≡ case_head r → Headed p (Right 1 1) (head_end Value v p) (below Value v p)
+  pub case_right : r.kind ≡ 5 → true ≡ case_head r → Headed p (Some (record { own = 1; below = 1 })) (head_end Value v p) (below Value v p)
   unfolding kind_head kind_below only_if
   case_right e z = right p _ 1 1 _ ((at_kind 5 e).0 ∙ ap (λ (b : Bool). only_if b (p + 1)) (sym (z ∙ case_is))) (sym (at_kind 5 e).1)
 
-  pub case_wrong : r.kind ≡ 5 → false ≡ case_head r → Headed p Wrong (head_end Value v p) (below Value v p)
+  pub case_wrong : r.kind ≡ 5 → false ≡ case_head r → Headed p None (head_end Value v p) (below Value v p)
   unfolding kind_head
   case_wrong e z = not_head 5 e (only_no _ (p + 1) (sym (z ∙ case_is)))
 
-  pub used_a : (r.kind ≡ 2 → ⊥) → (r.kind ≡ 5 → ⊥) → (r.a ≡ 0 → ⊥) → Headed p Wrong (head_end Value v p) (below Value v p)
-  used_a k n z = not_head r.kind refl (unused_a v p r.kind k n (ne_eqb (field_a v p) 0 (λ e. z (f.a ∙ e))))
+  text_is : kind_head v 1 p ≡ then_read (only_if (eqb r.a 0 && eqb r.d 0) p) (text_head v)
+  unfolding kind_head
+  text_is = rw (f.a, f.d)
 
-  module _ (a : r.a ≡ 0) where
-    zero_a : eqb (field_a v p) 0 ≡ true
-    zero_a = eq-eqb (field_a v p) 0 (sym f.a ∙ a)
+  pub a_text : r.kind ≡ 1 → r.a ≡ 0 → r.d ≡ 0 → (h : code.Option Head) → Headed p h (text_head v p) 0 → Headed p h (head_end Value v p) (below Value v p)
+  unfolding kind_below then_read on_found only_if
+  a_text k a d h is = as_head ((at_kind 1 k).0 ∙ text_is ∙ rw (a, d)) (at_kind 1 k).1 is
 
-    pub a_text : r.kind ≡ 1 → r.d ≡ 0 → (h : Head) → Headed p h (text_head v p) 0 → Headed p h (head_end Value v p) (below Value v p)
-    unfolding kind_head kind_below then_read on_found only_if
-    a_text k d h is = as_head ((at_kind 1 k).0 ∙ rw (zero_a, eq-eqb (field_d v p) 0 (sym f.d ∙ d))) (at_kind 1 k).1 is
+  pub not_text : r.kind ≡ 1 → used r.a r.d → Headed p None (head_end Value v p) (below Value v p)
+  not_text k z = not_head 1 k (text_is ∙ no_head _ p (text_head v) (not_both r.a r.d z))
 
-    pub not_text : r.kind ≡ 1 → (r.d ≡ 0 → ⊥) → Headed p Wrong (head_end Value v p) (below Value v p)
-    unfolding kind_head
-    not_text k d = not_head 1 k (no_head _ p (text_head v) (rw (zero_a, ne_eqb (field_d v p) 0 (λ e. d (f.d ∙ e)))))
+  list_is : 3 ≤ r.kind → r.kind < 5 → head_end Value v p ≡ only_if (eqb r.a 0 && eqb r.b 0) (p + 1)
+  list_is l m = (at_kind r.kind refl).0 ∙ (with_children v p r.kind l m).0 ∙ rw (f.a, f.b)
 
-    pub a_list : 3 ≤ r.kind → r.kind < 5 → r.b ≡ 0 → Headed p (Right 1 r.d) (head_end Value v p) (below Value v p)
-    unfolding only_if
-    a_list l m b =
-        let k = at_kind r.kind refl in
-        let c = with_children v p r.kind l m in
-        right p _ 1 r.d _ (k.0 ∙ c.0 ∙ rw (zero_a, eq-eqb (field_b v p) 0 (sym f.b ∙ b))) (f.d ∙ sym (k.1 ∙ c.1))
+  pub a_list : 3 ≤ r.kind → r.kind < 5 → r.a ≡ 0 → r.b ≡ 0 → Headed p (Some (record { own = 1; below = r.d })) (head_end Value v p) (below Value v p)
+  unfolding only_if
+  a_list l m a b = right p _ 1 r.d _ (list_is l m ∙ rw (a, b)) (f.d ∙ sym ((at_kind r.kind refl).1 ∙ (with_children v p r.kind l m).1))
 
-    pub not_list : 3 ≤ r.kind → r.kind < 5 → (r.b ≡ 0 → ⊥) → Headed p Wrong (head_end Value v p) (below Value v p)
-    not_list l m b =
-        not_head r.kind refl
-        ((with_children v p r.kind l m).0 ∙ only_no _ (p + 1) (rw (zero_a, ne_eqb (field_b v p) 0 (λ e. b (f.b ∙ e)))))
+  pub not_list : 3 ≤ r.kind → r.kind < 5 → used r.a r.b → Headed p None (head_end Value v p) (below Value v p)
+  not_list l m z = wrong p _ _ (list_is l m ∙ only_no _ (p + 1) (not_both r.a r.b z))
 
-  pub low_kind : (r.kind ≡ 1 → ⊥) → (r.kind ≡ 2 → ⊥) → r.kind < 3 → Headed p Wrong (head_end Value v p) (below Value v p)
-  low_kind a b l = not_head r.kind refl (other_low v p r.kind a b l)
+  pub low_kind : r.kind < 1 → Headed p None (head_end Value v p) (below Value v p)
+  unfolding kind_head
+  low_kind l = let z : r.kind ≡ 0 = omega arith in not_head 0 z refl
 
-  pub high_kind : (r.kind ≡ 5 → ⊥) → 5 ≤ r.kind → Headed p Wrong (head_end Value v p) (below Value v p)
+  pub high_kind : (r.kind ≡ 5 → ⊥) → 5 ≤ r.kind → Headed p None (head_end Value v p) (below Value v p)
   high_kind n l = not_head r.kind refl (other_high v p r.kind n l)
 
 -- The whole value: it ends where its size says

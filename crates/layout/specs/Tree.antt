@@ -1,6 +1,7 @@
 -- Trees laid out in records: a head with the records that belong to it alone, then the things below it in order. The layout is judged before the
 -- depth, so the code keeps no levels. It goes over the heads in a row, and the things below each must end, by their sizes, where it ends itself.
-use Rattle.std.specs.Prelude.{ℕ, zero, suc, ◌+◌, ◌≤◌, ◌<◌, ◌^◌, ◌≡◌, List, Bool, true, false, ◌&&◌, eqb, leb, ltb}
+use Rattle.std.specs.Prelude.{ℕ, zero, suc, ◌+◌, ◌≤◌, ◌<◌, ◌^◌, ◌≡◌, List, Bool, true, false, ◌&&◌, eqb, leb, ltb, Some, None}
+use Rattle.std.specs.Prelude as code
 use Rattle.std.proofs.Math.Option.{Option, none, some}
 use Rattle.rules.specs.Faults.{on_found, only_if}
 use Rattle.rules.specs.Blocks.{stream_length}
@@ -15,7 +16,6 @@ use Rattle.stream.specs.declared.record.Place.{Place}
 use Rattle.stream.specs.Record.{place_of}
 use Rattle.records.specs.Sizes.{ValueSize}
 use Rattle.layout.specs.declared.tree.Head.{Head}
-use Rattle.layout.specs.declared.tree.Head.TheVariants.{Right, Wrong}
 
 -- what is laid out as a tree
 pub data Thing : Type 0 where
@@ -110,15 +110,15 @@ unfoldable pub fills : Thing → List ℕ → ℕ → ℕ → Bool
 fills thing s p e = on_found (thing_end thing s (record_count s) p) false (λ q. eqb q e)
 
 -- what the code says of a head at p: the place after its own records, and the things below it
-abbrev pub end_at : ℕ → Head → Option ℕ
-end_at p (Right own n) = some (p + own)
-end_at p Wrong = none
+abbrev pub end_at : ℕ → code.Option Head → Option ℕ
+end_at p (Some h) = some (p + h.own)
+end_at p None = none
 
-abbrev pub below_in : Head → ℕ → ℕ
-below_in (Right own n) m = n
-below_in Wrong m = m
+abbrev pub below_in : code.Option Head → ℕ → ℕ
+below_in (Some h) m = h.below
+below_in None m = m
 
-pub record Headed (p : ℕ) (h : Head) (end : Option ℕ) (n : ℕ) : Type 0 where
+pub record Headed (p : ℕ) (h : code.Option Head) (end : Option ℕ) (n : ℕ) : Type 0 where
   pub end_is : end_at p h ≡ end
   pub below_is : below_in h n ≡ n
 

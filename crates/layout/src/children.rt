@@ -59,7 +59,7 @@ pub fn one_value(v: &[u8], e: usize, firsts: &mut [u16], places: &mut [u16]) -> 
         if e < end {
             return false;
         }
-        let Head::Right(own, below) = value_head(v, at, r, size) else {
+        let Some(Head { own, below }) = value_head(v, at, r, size) else {
             return false;
         };
         let next = q + own as usize;

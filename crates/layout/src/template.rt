@@ -21,16 +21,7 @@ use stream::record::{Place, Record, fetch, fetch_at, fetch_in, forward, place_of
 fn names_type(r: Record, kind: u8) -> bool
     ensures { result ≡ naming r kind }
 {
-    if r.kind != kind {
-        return false;
-    }
-    if r.a != 0 {
-        return false;
-    }
-    if r.c != 0 {
-        return false;
-    }
-    r.d == 0
+    r.kind == kind && r.a == 0 && r.c == 0 && r.d == 0
 }
 
 // A path: at most 5 steps, and no field numbers past them.
@@ -75,74 +66,63 @@ fn in_row(t: &[u8], kind: u8, at: Place, n: u16) -> bool
 }
 
 // A head that a path follows, and then n nodes; b is unused.
-fn path_head(t: &[u8], at: Place, r: Record, n: u32) -> Head
+fn path_head(t: &[u8], at: Place, r: Record, n: u32) -> Option<Head>
     requires { CountsOn t.now at 65536 }
     ensures { (p : ℕ) → at ≡ place_of p → Fetched t.now p r → Headed p result (path_head t.now p) n }
 {
-    if r.b != 0 {
-        return Head::Wrong;
-    }
-    if is_path(fetch_at(t, forward(at, 1))) {
-        Head::Right(2, n)
+    if r.b == 0 && is_path(fetch_at(t, forward(at, 1))) {
+        Some(Head { own: 2, below: n })
     } else {
-        Head::Wrong
+        None
     }
 }
 
 // The head of a place, an if or a for, whose form says how many nodes come: d is unused, too.
-fn bare_path_head(t: &[u8], at: Place, r: Record, n: u32) -> Head
+fn bare_path_head(t: &[u8], at: Place, r: Record, n: u32) -> Option<Head>
     requires { CountsOn t.now at 65536 }
     ensures { (p : ℕ) → at ≡ place_of p → Fetched t.now p r → Headed p result (bare_path_head t.now p) n }
 {
     if r.d == 0 {
         path_head(t, at, r, n)
     } else {
-        Head::Wrong
+        None
     }
 }
 
 // The head of an expand, with its d paths.
-fn expand_head(t: &[u8], at: Place, r: Record) -> Head
+fn expand_head(t: &[u8], at: Place, r: Record) -> Option<Head>
     requires { CountsOn t.now at 65536 }
     ensures { (p : ℕ) → at ≡ place_of p → Fetched t.now p r → Headed p result (in_row (path_end t.now) (field_d t.now p) (p + 1)) 0 }
 {
     if in_row(t, 6, forward(at, 1), r.d) {
-        Head::Right(1 + r.d as u32, 0)
+        Some(Head {
+            own: 1 + u32::from(r.d),
+            below: 0,
+        })
     } else {
-        Head::Wrong
+        None
     }
 }
 
 // A node's head, by its form.
-fn node_head(t: &[u8], at: Place, r: Record, size: usize) -> Head
+fn node_head(t: &[u8], at: Place, r: Record, size: usize) -> Option<Head>
     requires { HeadIn t.now at r size }
     ensures { (p : ℕ) → at ≡ place_of p → Fetched t.now p r → Headed p result (head_end Node t.now p) (below Node t.now p) }
 {
     if r.kind != 5 {
-        return Head::Wrong;
+        return None;
     }
+    let below = u32::from(r.d);
     match form_of(r) {
-        Form::Build => Head::Right(1, r.d as u32),
-        Form::Literal => {
-            if r.d == 0 {
-                text_head(t, at, r, size)
-            } else {
-                Head::Wrong
-            }
-        }
+        Form::Build => Some(Head { own: 1, below }),
+        Form::Literal if r.d == 0 => text_head(t, at, r, size),
         Form::Place => bare_path_head(t, at, r, 0),
         Form::Expand => expand_head(t, at, r),
         Form::If => bare_path_head(t, at, r, 2),
         Form::For => bare_path_head(t, at, r, 1),
-        Form::Sequence => {
-            if r.b == 0 {
-                Head::Right(1, r.d as u32)
-            } else {
-                Head::Wrong
-            }
-        }
-        Form::Match => path_head(t, at, r, r.d as u32),
-        Form::Unknown => Head::Wrong,
+        Form::Sequence if r.b == 0 => Some(Head { own: 1, below }),
+        Form::Match => path_head(t, at, r, below),
+        Form::Literal | Form::Sequence | Form::Unknown => None,
     }
 }
 
@@ -163,7 +143,7 @@ fn one_node(t: &[u8], p: usize, e: usize) -> bool
         if e < end {
             return false;
         }
-        let Head::Right(own, below) = node_head(t, at, r, size) else {
+        let Some(Head { own, below }) = node_head(t, at, r, size) else {
             return false;
         };
         let next = q + own as usize;

@@ -13,10 +13,10 @@ use records::value::size_of;
 use stream::record::{Place, Record, fetch_in, forward};
 
 // What the records say of a head: how many of them belong to it alone, and how many things stand directly below it.
-#[derive(Clone, Copy)]
-pub enum Head {
-    Right(u32, u32),
-    Wrong,
+#[derive(Clone, Copy, Debug, PartialEq, Eq)]
+pub struct Head {
+    pub own: u32,
+    pub below: u32,
 }
 
 // The n things from record p on, at a place, end at record e by their sizes. Each must start before e and have a size, so that no count makes
@@ -57,16 +57,19 @@ fn padded_in(s: &[u8], at: Place, b: u16) -> bool
 }
 
 // A head that is followed by a text, and by nothing below it. Its size is held against the text's units first, so that the text lies in the stream.
-pub fn text_head(s: &[u8], at: Place, r: Record, size: usize) -> Head
+pub fn text_head(s: &[u8], at: Place, r: Record, size: usize) -> Option<Head>
     requires { HeadIn s.now at r size }
     ensures { (p : ℕ) → at ≡ place_of p → Fetched s.now p r → Headed p result (text_head s.now p) 0 }
 {
     if size != 1 + units(r.b as usize) {
-        return Head::Wrong;
+        return None;
     }
     if padded_in(s, at, r.b) {
-        Head::Right(size as u32, 0)
+        Some(Head {
+            own: size as u32,
+            below: 0,
+        })
     } else {
-        Head::Wrong
+        None
     }
 }

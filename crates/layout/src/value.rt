@@ -19,65 +19,30 @@ use stream::record::{Place, Record, fetch};
 fn yes_no(r: Record) -> bool
     ensures { result ≡ yes_no r }
 {
-    if 1 < r.a {
-        return false;
-    }
-    if r.b != 0 {
-        return false;
-    }
-    if r.c != 0 {
-        return false;
-    }
-    r.d == 0
+    r.a <= 1 && r.b == 0 && r.c == 0 && r.d == 0
 }
 
 // A case: any number, its size, and one value below it.
 fn is_case(r: Record) -> bool
     ensures { result ≡ case_head r }
 {
-    if r.b != 0 {
-        return false;
-    }
-    r.d == 0
+    r.b == 0 && r.d == 0
 }
 
 // A value's head, by its kind.
-pub(crate) fn value_head(v: &[u8], at: Place, r: Record, size: usize) -> Head
+pub(crate) fn value_head(v: &[u8], at: Place, r: Record, size: usize) -> Option<Head>
     requires { HeadIn v.now at r size }
     ensures { (p : ℕ) → at ≡ place_of p → Fetched v.now p r → Headed p result (head_end Value v.now p) (below Value v.now p) }
 {
-    let kind = r.kind;
-    if kind == 2 {
-        if yes_no(r) {
-            return Head::Right(1, 0);
-        }
-        return Head::Wrong;
-    }
-    if kind == 5 {
-        if is_case(r) {
-            return Head::Right(1, 1);
-        }
-        return Head::Wrong;
-    }
-    if r.a != 0 {
-        return Head::Wrong;
-    }
-    match kind {
-        1 => {
-            if r.d == 0 {
-                text_head(v, at, r, size)
-            } else {
-                Head::Wrong
-            }
-        }
-        3 | 4 => {
-            if r.b == 0 {
-                Head::Right(1, r.d as u32)
-            } else {
-                Head::Wrong
-            }
-        }
-        _ => Head::Wrong,
+    match r.kind {
+        1 if r.a == 0 && r.d == 0 => text_head(v, at, r, size),
+        2 if yes_no(r) => Some(Head { own: 1, below: 0 }),
+        3 | 4 if r.a == 0 && r.b == 0 => Some(Head {
+            own: 1,
+            below: u32::from(r.d),
+        }),
+        5 if is_case(r) => Some(Head { own: 1, below: 1 }),
+        _ => None,
     }
 }
 

@@ -55,7 +55,7 @@ pub bounds-firsts-q : goal.bounds-firsts-q
 bounds-firsts-q c = head_room c.loop-q.invariant.2 c.loop-q-test.true c.requires
 
 pub put_row-requires : goal.put_row-requires
-put_row-requires c = row_lent c.loop-q.invariant.2 c.loop-q-test.true c.requires (c.size_of-size.ensures.is _ _ (c.fetch_in-r.ensures _ c.loop-q.invariant.0)) c.if-e-end.false (own_some _ _ _ _ _ c.loop-q-test.true (c.size_of-size.ensures.is _ _ (c.fetch_in-r.ensures _ c.loop-q.invariant.0)) c.if-e-end.false _ (c.value_head.ensures _ c.loop-q.invariant.0 (c.fetch_in-r.ensures _ c.loop-q.invariant.0)) _ _ c.in-Right.is) (omega (arith, near_end c.requires, c.loop-q-test.true)) (c.forward-at.ensures _ c.loop-q.invariant.0)
+put_row-requires c = row_lent c.loop-q.invariant.2 c.loop-q-test.true c.requires (c.size_of-size.ensures.is _ _ (c.fetch_in-r.ensures _ c.loop-q.invariant.0)) c.if-e-end.false (own_some _ _ _ _ _ c.loop-q-test.true (c.size_of-size.ensures.is _ _ (c.fetch_in-r.ensures _ c.loop-q.invariant.0)) c.if-e-end.false _ (c.value_head.ensures _ c.loop-q.invariant.0 (c.fetch_in-r.ensures _ c.loop-q.invariant.0)) _ c.in-Some.is) (omega (arith, near_end c.requires, c.loop-q-test.true)) (c.forward-at.ensures _ c.loop-q.invariant.0)
 
 pub shape_of-firsts-then-not-put_row : goal.shape_of-firsts-then-not-put_row
 shape_of-firsts-then-not-put_row c = simp length-set c.loop-q.invariant.2.long_firsts
@@ -64,16 +64,16 @@ pub shape_of-places-then-not-put_row : goal.shape_of-places-then-not-put_row
 shape_of-places-then-not-put_row c = c.put_row.auto.places ∙ c.loop-q.invariant.2.long_places
 
 pub returns-then-not-put_row : goal.returns-then-not-put_row
-returns-then-not-put_row c = table_not (sym (turn_stop _ _ _ _ _ c.loop-q-test.true (c.size_of-size.ensures.is _ _ (c.fetch_in-r.ensures _ c.loop-q.invariant.0)) c.if-e-end.false _ (c.value_head.ensures _ c.loop-q.invariant.0 (c.fetch_in-r.ensures _ c.loop-q.invariant.0)) _ _ c.in-Right.is _ c.put_row.ensures.is (c.if-not-put_row.true)) ∙ c.loop-q.invariant.1)
+returns-then-not-put_row c = table_not (sym (turn_stop _ _ _ _ _ c.loop-q-test.true (c.size_of-size.ensures.is _ _ (c.fetch_in-r.ensures _ c.loop-q.invariant.0)) c.if-e-end.false _ (c.value_head.ensures _ c.loop-q.invariant.0 (c.fetch_in-r.ensures _ c.loop-q.invariant.0)) _ c.in-Some.is _ c.put_row.ensures.is (c.if-not-put_row.true)) ∙ c.loop-q.invariant.1)
 
 pub overflow_add-used : goal.overflow_add-used
 overflow_add-used c = omega (arith, table_few c.loop-q.invariant.2, near_end c.requires)
 
 pub loop-q-smaller : goal.loop-q-smaller
-loop-q-smaller c = omega (arith, c.loop-q-test.true, (own_some _ _ _ _ _ c.loop-q-test.true (c.size_of-size.ensures.is _ _ (c.fetch_in-r.ensures _ c.loop-q.invariant.0)) c.if-e-end.false _ (c.value_head.ensures _ c.loop-q.invariant.0 (c.fetch_in-r.ensures _ c.loop-q.invariant.0)) _ _ c.in-Right.is))
+loop-q-smaller c = omega (arith, c.loop-q-test.true, (own_some _ _ _ _ _ c.loop-q-test.true (c.size_of-size.ensures.is _ _ (c.fetch_in-r.ensures _ c.loop-q.invariant.0)) c.if-e-end.false _ (c.value_head.ensures _ c.loop-q.invariant.0 (c.fetch_in-r.ensures _ c.loop-q.invariant.0)) _ c.in-Some.is))
 
 pub loop-q-preserved : goal.loop-q-preserved
-loop-q-preserved c = (c.forward-at.ensures _ c.loop-q.invariant.0, sym (turn_go _ _ _ _ _ c.loop-q-test.true (c.size_of-size.ensures.is _ _ (c.fetch_in-r.ensures _ c.loop-q.invariant.0)) c.if-e-end.false _ (c.value_head.ensures _ c.loop-q.invariant.0 (c.fetch_in-r.ensures _ c.loop-q.invariant.0)) _ _ c.in-Right.is _ c.put_row.ensures.is (c.if-not-put_row.false)) ∙ c.loop-q.invariant.1, table_go c.loop-q.invariant.2 c.loop-q-test.true (head_room c.loop-q.invariant.2 c.loop-q-test.true c.requires) (c.size_of-size.ensures.is _ _ (c.fetch_in-r.ensures _ c.loop-q.invariant.0)) (head_right _ _ _ _ (c.value_head.ensures _ c.loop-q.invariant.0 (c.fetch_in-r.ensures _ c.loop-q.invariant.0)) _ _ c.in-Right.is).0 (head_right _ _ _ _ (c.value_head.ensures _ c.loop-q.invariant.0 (c.fetch_in-r.ensures _ c.loop-q.invariant.0)) _ _ c.in-Right.is).1 c.put_row.ensures (c.if-not-put_row.false) c.put_row.auto.places)
+loop-q-preserved c = (c.forward-at.ensures _ c.loop-q.invariant.0, sym (turn_go _ _ _ _ _ c.loop-q-test.true (c.size_of-size.ensures.is _ _ (c.fetch_in-r.ensures _ c.loop-q.invariant.0)) c.if-e-end.false _ (c.value_head.ensures _ c.loop-q.invariant.0 (c.fetch_in-r.ensures _ c.loop-q.invariant.0)) _ c.in-Some.is _ c.put_row.ensures.is (c.if-not-put_row.false)) ∙ c.loop-q.invariant.1, table_go c.loop-q.invariant.2 c.loop-q-test.true (head_room c.loop-q.invariant.2 c.loop-q-test.true c.requires) (c.size_of-size.ensures.is _ _ (c.fetch_in-r.ensures _ c.loop-q.invariant.0)) (head_right _ _ _ _ (c.value_head.ensures _ c.loop-q.invariant.0 (c.fetch_in-r.ensures _ c.loop-q.invariant.0)) _ c.in-Some.is).0 (head_right _ _ _ _ (c.value_head.ensures _ c.loop-q.invariant.0 (c.fetch_in-r.ensures _ c.loop-q.invariant.0)) _ c.in-Some.is).1 c.put_row.ensures (c.if-not-put_row.false) c.put_row.auto.places)
 
 pub shape_of-firsts : goal.shape_of-firsts
 shape_of-firsts c = c.loop-q.invariant.2.long_firsts

@@ -11,7 +11,7 @@ pub in_row-requires : goal.in_row-requires
 in_row-requires c = near_next c.requires (c.forward.ensures _ c.requires.place_is) _ (search rules)
 
 pub returns-then-in_row : goal.returns-then-in_row
-returns-then-in_row c = λ p e f. expand_right _ p _ f.d _ (c.in_row.ensures _ (c.forward.ensures p e)) c.if-in_row.true
+returns-then-in_row c = λ p e f. rw c.from.ensures (expand_right _ p _ f.d _ (c.in_row.ensures _ (c.forward.ensures p e)) c.if-in_row.true)
 
 pub returns-else-in_row : goal.returns-else-in_row
 returns-else-in_row c = λ p e f. expand_wrong _ p _ f.d _ (c.in_row.ensures _ (c.forward.ensures p e)) c.if-in_row.false

@@ -42,13 +42,13 @@ pub chained-requires-in-loop-q : goal.chained-requires-in-loop-q
 chained-requires-in-loop-q c = record { place_is = c.forward-at.ensures _ c.loop-q.invariant.0; within = record { sized = c.requires.sized; near = omega (arith, c.loop-q-test.true, few_records _ c.requires.sized, c.requires.inside); inside = omega (arith, c.if-e-end.false, c.requires.inside) } }
 
 pub returns-then-not-chained-2 : goal.returns-then-not-chained-2
-returns-then-not-chained-2 c = sym (turn_stop _ _ _ _ _ c.loop-q-test.true (c.size_of-size.ensures.is _ _ (c.fetch_in-r.ensures _ c.loop-q.invariant.0)) c.if-e-end.false _ (c.node_head.ensures _ c.loop-q.invariant.0 (c.fetch_in-r.ensures _ c.loop-q.invariant.0)) _ _ c.in-Right.is _ c.chained-in-loop-q.ensures (c.if-not-chained-2.true)) ∙ c.loop-q.invariant.2
+returns-then-not-chained-2 c = sym (turn_stop _ _ _ _ _ c.loop-q-test.true (c.size_of-size.ensures.is _ _ (c.fetch_in-r.ensures _ c.loop-q.invariant.0)) c.if-e-end.false _ (c.node_head.ensures _ c.loop-q.invariant.0 (c.fetch_in-r.ensures _ c.loop-q.invariant.0)) _ c.in-Some.is _ c.chained-in-loop-q.ensures (c.if-not-chained-2.true)) ∙ c.loop-q.invariant.2
 
 pub loop-q-smaller : goal.loop-q-smaller
-loop-q-smaller c = omega (arith, c.loop-q-test.true, own_some _ _ _ _ _ c.loop-q-test.true (c.size_of-size.ensures.is _ _ (c.fetch_in-r.ensures _ c.loop-q.invariant.0)) c.if-e-end.false _ (c.node_head.ensures _ c.loop-q.invariant.0 (c.fetch_in-r.ensures _ c.loop-q.invariant.0)) _ _ c.in-Right.is)
+loop-q-smaller c = omega (arith, c.loop-q-test.true, own_some _ _ _ _ _ c.loop-q-test.true (c.size_of-size.ensures.is _ _ (c.fetch_in-r.ensures _ c.loop-q.invariant.0)) c.if-e-end.false _ (c.node_head.ensures _ c.loop-q.invariant.0 (c.fetch_in-r.ensures _ c.loop-q.invariant.0)) _ c.in-Some.is)
 
 pub loop-q-preserved : goal.loop-q-preserved
-loop-q-preserved c = (c.forward-at.ensures _ c.loop-q.invariant.0, omega (arith, c.loop-q-test.true, few_records _ c.requires.sized, c.requires.inside), sym (turn_go _ _ _ _ _ c.loop-q-test.true (c.size_of-size.ensures.is _ _ (c.fetch_in-r.ensures _ c.loop-q.invariant.0)) c.if-e-end.false _ (c.node_head.ensures _ c.loop-q.invariant.0 (c.fetch_in-r.ensures _ c.loop-q.invariant.0)) _ _ c.in-Right.is _ c.chained-in-loop-q.ensures (c.if-not-chained-2.false)) ∙ c.loop-q.invariant.2)
+loop-q-preserved c = (c.forward-at.ensures _ c.loop-q.invariant.0, omega (arith, c.loop-q-test.true, few_records _ c.requires.sized, c.requires.inside), sym (turn_go _ _ _ _ _ c.loop-q-test.true (c.size_of-size.ensures.is _ _ (c.fetch_in-r.ensures _ c.loop-q.invariant.0)) c.if-e-end.false _ (c.node_head.ensures _ c.loop-q.invariant.0 (c.fetch_in-r.ensures _ c.loop-q.invariant.0)) _ c.in-Some.is _ c.chained-in-loop-q.ensures (c.if-not-chained-2.false)) ∙ c.loop-q.invariant.2)
 
 pub returns : goal.returns
 returns c = sym (one_end _ _ _ _ c.loop-q-test.false) ∙ c.loop-q.invariant.2

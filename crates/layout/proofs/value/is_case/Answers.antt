@@ -1,13 +1,11 @@
-use mathlib.Core.Path.{refl}
-use borrow.Author.Tests.{eq-eqb, ne_eqb}
+use Rattle.std.proofs.Common.{rules}
 use Rattle.layout.specs.Tree.{case_head}
-use Rattle.layout.proofs.CommonLaws.{and_go, and_stop}
 use Rattle.layout.proofs.value.is_case.Goals as goal
 
-pub returns-then-r-ne0 : goal.returns-then-r-ne0
+pub returns-then-r-eq0 : goal.returns-then-r-eq0
 unfolding case_head
-returns-then-r-ne0 c = and_stop _ _ (ne_eqb _ _ c.if-r-ne0.true)
+returns-then-r-eq0 c = search rules
 
-pub returns : goal.returns
+pub returns-else-r-eq0 : goal.returns-else-r-eq0
 unfolding case_head
-returns c = and_go _ _ _ (eq-eqb _ _ c.if-r-ne0.false) refl
+returns-else-r-eq0 c = search rules
