@@ -35,10 +35,7 @@ pub fn zero_from(r: Record, j: usize) -> bool
     requires { j ≤ 8 }
     ensures { result ≡ zeros (drop j (bytes_of r)) }
 {
-    if 7 < j {
-        return true;
-    }
-    number_of(r) >> (8 * j) == 0
+    j == 8 || number_of(r) >> (8 * j) == 0
 }
 
 // The padding of the text of b bytes after the head at record p: what is left of its last unit, which alone is looked at.
@@ -48,10 +45,7 @@ pub fn padded(s: &[u8], p: usize, b: u16) -> bool
     ensures { result ≡ zeros (padding_of s.now b p) }
 {
     let over = b as usize % 8;
-    if over == 0 {
-        return true;
-    }
-    zero_from(fetch(s, p + units(b as usize)), over)
+    over == 0 || zero_from(fetch(s, p + units(b as usize)), over)
 }
 
 // The records from p up to record n are zero.
@@ -60,13 +54,11 @@ fn zero_records(s: &[u8], p: usize, n: usize) -> bool
     requires p_le_n { (p ≤ n) × (n < 2 ^ 60) }
     ensures { result ≡ zeros (records_from s.now (n - p) p) }
 {
-    let mut q = p;
     let mut at = place_of(p);
-    while q < n {
+    for _ in p..n {
         if !zero_from(fetch_at(s, at), 0) {
             return false;
         }
-        q += 1;
         at = forward(at, 1);
     }
     true
@@ -78,14 +70,5 @@ pub fn tail_right(s: &[u8], p: usize) -> bool
     ensures { result ≡ tail_right s.now p }
 {
     let n = record_count(s);
-    if p < 1 {
-        return false;
-    }
-    if n < p {
-        return false;
-    }
-    if BLOCK_RECORDS <= n - p {
-        return false;
-    }
-    zero_records(s, p, n)
+    0 < p && p <= n && n - p < BLOCK_RECORDS && zero_records(s, p, n)
 }

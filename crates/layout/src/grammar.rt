@@ -33,13 +33,7 @@ fn ranges_end(g: &[u8], p: usize, n: usize) -> Option<usize>
 fn is_laid(class: Record) -> bool
     ensures { result ≡ class_head class }
 {
-    if is_escaped(class) {
-        if class.c != 0 {
-            return false;
-        }
-        return class.d == 0;
-    }
-    true
+    !is_escaped(class) || class.c == 0 && class.d == 0
 }
 
 // The classes, plain and escaped, numbered from 0: where they end.
@@ -54,10 +48,7 @@ fn class_row(g: &[u8]) -> Option<usize>
         if !is_class(class) {
             return Some(p);
         }
-        if class.a as usize != n {
-            return None;
-        }
-        if !is_laid(class) {
+        if class.a as usize != n || !is_laid(class) {
             return None;
         }
         p = ranges_end(g, p + 1, class.d as usize)?;
@@ -69,18 +60,7 @@ fn class_row(g: &[u8]) -> Option<usize>
 fn is_element(e: Record) -> bool
     ensures { result ≡ element_head e }
 {
-    if e.kind != 4 {
-        return false;
-    }
-    if 4 < e.a {
-        return false;
-    }
-    if e.a != 4 {
-        if e.c != 0 {
-            return false;
-        }
-    }
-    e.d == 0
+    e.kind == 4 && e.a <= 4 && (e.a == 4 || e.c == 0) && e.d == 0
 }
 
 // The place after the element at record p: one record, and after it its text, of which only the padding is looked at.

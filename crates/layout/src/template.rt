@@ -28,14 +28,8 @@ fn names_type(r: Record, kind: u8) -> bool
 fn is_path(r: Record) -> bool
     ensures { result ≡ path_record r }
 {
-    if r.kind != 6 {
-        return false;
-    }
-    let steps = (r.b % 256) as usize;
-    if 5 < steps {
-        return false;
-    }
-    zero_from(r, 3 + steps)
+    let steps = usize::from(r.b % 256);
+    r.kind == 6 && steps <= 5 && zero_from(r, 3 + steps)
 }
 
 // A record of a kind that stands in rows: a path, or else a field or a parameter.
@@ -43,9 +37,10 @@ fn is_one(r: Record, kind: u8) -> bool
     ensures { (t : List ℕ) → (p : ℕ) → Fetched t p r → only_if result (p + 1) ≡ record_end t kind p }
 {
     if kind == 6 {
-        return is_path(r);
+        is_path(r)
+    } else {
+        names_type(r, kind)
     }
-    names_type(r, kind)
 }
 
 // n records of a kind from a place on.
@@ -54,13 +49,11 @@ fn in_row(t: &[u8], kind: u8, at: Place, n: u16) -> bool
     ensures { (p : ℕ) → at ≡ place_of p → only_if result (p + n) ≡ in_row (record_end t.now kind) n p }
 {
     let mut here = at;
-    let mut k = 0;
-    while k < n {
+    for _ in 0..n {
         if !is_one(fetch_at(t, here), kind) {
             return false;
         }
         here = forward(here, 1);
-        k += 1;
     }
     true
 }
@@ -165,10 +158,7 @@ fn fields_right(t: &[u8], at: Place, r: Record) -> bool
     requires c_value { r.c ≡ 0 }
     ensures { (p : ℕ) → at ≡ place_of p → Fetched t.now p r → only_if result (p + 1 + field_d t.now p) ≡ fields_end t.now p }
 {
-    if r.b != 0 {
-        return false;
-    }
-    in_row(t, 2, forward(at, 1), r.d)
+    r.b == 0 && in_row(t, 2, forward(at, 1), r.d)
 }
 
 // The type at a place: its fields by its form. It has one record and one for each field, of which only a record and a variant have any.
@@ -179,25 +169,11 @@ fn type_right(t: &[u8], at: Place, r: Record) -> bool
     if r.c != 0 {
         return false;
     }
-    let form = r.a;
-    match form {
+    match r.a {
         0 | 2 => r.d == 0,
-        1 => {
-            if r.b != 0 {
-                return false;
-            }
-            r.d == 0
-        }
+        1 => r.b == 0 && r.d == 0,
         3 => fields_right(t, at, r),
-        4 => {
-            if r.d < 1 {
-                return false;
-            }
-            if CASES < r.d {
-                return false;
-            }
-            fields_right(t, at, r)
-        }
+        4 if 1 <= r.d && r.d <= CASES => fields_right(t, at, r),
         _ => false,
     }
 }
@@ -228,17 +204,11 @@ fn template_right(t: &[u8], p: usize, r: Record) -> bool
     requires { TemplateHead t.now p r }
     ensures { result ≡ within t.now (template_end t.now p) }
 {
-    if r.d != 0 {
-        return false;
-    }
     let e = p + r.c as usize;
-    if record_count(t) < e {
-        return false;
-    }
-    if !in_row(t, 4, place_of(p + 1), r.a as u16) {
-        return false;
-    }
-    one_node(t, p + 1 + r.a as usize, e)
+    r.d == 0
+        && e <= record_count(t)
+        && in_row(t, 4, place_of(p + 1), u16::from(r.a))
+        && one_node(t, p + 1 + r.a as usize, e)
 }
 
 // The templates from record p on, and the zero records after the last.

@@ -49,11 +49,7 @@ fn padded_in(s: &[u8], at: Place, b: u16) -> bool
     ensures { (p : ℕ) → at ≡ place_of p → result ≡ zeros (padding_of s.now b p) }
 {
     let over = b as usize % 8;
-    if over == 0 {
-        return true;
-    }
-    let last = forward(at, units(b as usize));
-    zero_from(fetch_in(s, last), over)
+    over == 0 || zero_from(fetch_in(s, forward(at, units(b as usize))), over)
 }
 
 // A head that is followed by a text, and by nothing below it. Its size is held against the text's units first, so that the text lies in the stream.

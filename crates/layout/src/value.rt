@@ -55,11 +55,5 @@ pub fn value_layout(v: &[u8], firsts: &mut [u16], places: &mut [u16]) -> bool
     ensures { (need result 0 ≡ value_layout v.now) × (result ≡ true → Children v.now firsts.new places.new) }
 {
     let e = size_of(fetch(v, 0));
-    if record_count(v) < e {
-        return false;
-    }
-    if !one_value(v, e, firsts, places) {
-        return false;
-    }
-    tail_right(v, e)
+    e <= record_count(v) && one_value(v, e, firsts, places) && tail_right(v, e)
 }

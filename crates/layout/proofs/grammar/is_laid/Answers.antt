@@ -1,16 +1,15 @@
-use mathlib.Core.Path.{sym, ◌∙◌}
-use borrow.Author.Tests.{eq-eqb, ne_eqb}
+use Rattle.std.proofs.Common.{rules}
 use Rattle.layout.specs.Grammar.{class_head}
 use Rattle.layout.proofs.grammar.is_laid.Goals as goal
 
-pub returns-then-class-ne0 : goal.returns-then-class-ne0
+pub returns-then-not-is_escaped : goal.returns-then-not-is_escaped
 unfolding class_head
-returns-then-class-ne0 c = rw (class_head, sym c.is_escaped.ensures ∙ c.if-is_escaped.true, ne_eqb _ _ c.if-class-ne0.true)
+returns-then-not-is_escaped c = search rules
 
-pub returns-then-is_escaped : goal.returns-then-is_escaped
+pub returns-then-class-eq0 : goal.returns-then-class-eq0
 unfolding class_head
-returns-then-is_escaped c = rw (class_head, sym c.is_escaped.ensures ∙ c.if-is_escaped.true, eq-eqb _ _ c.if-class-ne0.false)
+returns-then-class-eq0 c = search rules
 
-pub returns : goal.returns
+pub returns-else-class-eq0 : goal.returns-else-class-eq0
 unfolding class_head
-returns c = rw (class_head, sym c.is_escaped.ensures ∙ c.if-is_escaped.false)
+returns-else-class-eq0 c = search rules

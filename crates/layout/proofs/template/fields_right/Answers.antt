@@ -1,12 +1,9 @@
-use native.Mathlib.Omega.{arith}
+use Rattle.std.proofs.Common.{arith, rules}
+use borrow.Author.Tests.{ne_eqb}
 use Rattle.layout.proofs.CommonLaws.{reach}
 use Rattle.layout.proofs.TemplateHeads.{near_next}
 use Rattle.layout.proofs.TypeLaws.{fields_used_b, fields_row}
-use borrow.Author.Rules.{rules}
 use Rattle.layout.proofs.template.fields_right.Goals as goal
-
-pub returns-then-r-ne0 : goal.returns-then-r-ne0
-returns-then-r-ne0 c = λ p e f. fields_used_b _ p _ f c.requires.c_value c.if-r-ne0.true
 
 pub forward-requires : goal.forward-requires
 forward-requires c = reach 1 c.requires.counts_on.place_is (omega (arith, c.requires.counts_on.near)) (omega arith)
@@ -14,5 +11,8 @@ forward-requires c = reach 1 c.requires.counts_on.place_is (omega (arith, c.requ
 pub in_row-requires : goal.in_row-requires
 in_row-requires c = near_next c.requires.counts_on (c.forward.ensures _ c.requires.counts_on.place_is) _ (search rules)
 
-pub returns : goal.returns
-returns c = λ p e f. fields_row _ p _ f c.requires.c_value c.if-r-ne0.false _ (c.in_row.ensures _ (c.forward.ensures p e))
+pub returns-then-r-eq0 : goal.returns-then-r-eq0
+returns-then-r-eq0 c = λ p e f. fields_row _ p _ f c.requires.c_value c.if-r-eq0.true _ (c.in_row.ensures _ (c.forward.ensures p e))
+
+pub returns-else-r-eq0 : goal.returns-else-r-eq0
+returns-else-r-eq0 c = λ p e f. rw (ne_eqb _ _ c.if-r-eq0.false) (fields_used_b _ p _ f c.requires.c_value c.if-r-eq0.false)
