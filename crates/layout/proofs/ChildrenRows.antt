@@ -18,19 +18,17 @@ use Rattle.stream.specs.Record.{place_of}
 use Rattle.records.specs.Children as table
 use Rattle.records.specs.Children.{Stands, whole, Children}
 use Rattle.layout.specs.Common.{most_records}
-use Rattle.layout.specs.Tree.{Value, chain, kind_head, kind_below, head_end, below, fills}
+use Rattle.layout.specs.Tree.{Value, Chains, Stopped, SizedBefore, chain, kind_head, kind_below, head_end, below, fills}
 use Rattle.layout.specs.Children.{PlacesLent, PlacesPut, TableLent, TablePut}
 use Rattle.layout.proofs.TreeLaws.{Chain, last, link, chain_few, chain_then, chain_sound}
 use Rattle.layout.proofs.TreeThings.{head_grows}
-use Rattle.layout.proofs.TreeTurns.{rest, one_end, chain_done, chain_late, chain_empty, chain_go}
+use Rattle.layout.proofs.TreeTurns.{rest, one_end, chain_done, chain_stop, chain_go, chains_on}
 use Rattle.layout.proofs.ChildrenLaws.{after_one, Looked, nothing, another, HeadAt, has, ends, below_at_lem, whole_at, looked_keep}
 
 -- One row: k of n children are put down, and the next begins at q
 
 pub record Putting (v : List ℕ) (n p e used : ℕ) (before places : List ℕ) (q : ℕ) (here : Place) (k : ℕ) : Type 0 where
-  pub place_is : here ≡ place_of q
-  pub near : q < 2 ^ 50
-  pub counted : k ≤ n
+  pub chains : Chains v q here e
   pub apart : p + k ≤ q
   pub same : chain (value_size v) (n - k) q e ≡ chain (value_size v) n p e
   pub after_is : q ≡ after (value_size v) k p
@@ -41,9 +39,7 @@ pub record Putting (v : List ℕ) (n p e used : ℕ) (before places : List ℕ) 
 pub put_start : {v : List ℕ} {n p e used : ℕ} {before : List ℕ} {at : Place} → PlacesLent v p at e used before → Putting v n p e used before before p at 0
 unfolding after
 put_start a = record {
-  place_is = a.chains.place_is;
-  near = a.chains.within.near;
-  counted = omega arith;
+  chains = a.chains;
   apart = omega arith;
   same = rw sub-zero;
   after_is = refl;
@@ -53,39 +49,30 @@ put_start a = record {
 }
 
 module _ {v : List ℕ} {n p e used : ℕ} {before places : List ℕ} {q : ℕ} {here : Place} {k : ℕ} (s : Putting v n p e used before places q here k) where
-  put_broken : chain (value_size v) (n - k) q e ≡ false → PlacesPut v n p e used before places false
-  put_broken z = record { is = sym z ∙ s.same; put = λ f. absurd (false≢true f); kept = s.kept }
-
-  pub put_end : n ≤ k → PlacesPut v n p e used before places (eqb q e)
-  put_end l = record { is = sym (chain_done (value_size v) n k q e l) ∙ s.same; put = λ z j i. s.put j (omega (arith, s.counted)); kept = s.kept }
+  pub put_end : n ≤ k → k ≤ n → PlacesPut v n p e used before places (eqb q e)
+  put_end l m = record { is = sym (chain_done (value_size v) n k q e l) ∙ s.same; put = λ z j i. s.put j (omega arith); kept = s.kept }
 
   module _ (l : k < n) where
-    pub put_late : e ≤ q → PlacesPut v n p e used before places false
-    put_late g = put_broken (chain_late (value_size v) n k q e l g)
+    pub put_stop : Stopped v q e → PlacesPut v n p e used before places false
+    put_stop z = record { is = sym (chain_stop (value_size v) n k q e l z) ∙ s.same; put = λ f. absurd (false≢true f); kept = s.kept }
 
-    module _ (g : q < e) {m : ℕ} (z : m ≡ value_size v q) where
-      pub put_empty : m < 1 → PlacesPut v n p e used before places false
-      put_empty i = put_broken (chain_empty (value_size v) n k q e l g m z i)
-
-      pub put_go : 1 ≤ m → m < 65536 → q < 2 ^ 40 → used + k < length places → {next : Place} → next ≡ place_of (q + m)
-          → Putting v n p e used before (set places (used + k) q) (q + m) next (k + 1)
-      put_go i small near room is = record {
-        place_is = is;
-        near = omega arith;
-        counted = omega arith;
-        apart = omega (arith, s.apart);
-        same = sym (chain_go (value_size v) n k q e l g m z i) ∙ s.same;
-        after_is = ap (λ (x : ℕ). q + x) z ∙ ap (λ (x : ℕ). x + value_size v x) s.after_is ∙ sym (after_one (value_size v) k p);
-        put = λ j h. go j h (ltb j k) refl;
-        kept = λ j h. get_or-set_other places (used + k) j q 0 (λ x. omega arith) ∙ s.kept j h;
-        long = length-set places (used + k) q ∙ s.long;
-      }
-        where
-          go : (j : ℕ) → j < k + 1 → (b : Bool) → ltb j k ≡ b → get_or (set places (used + k) q) (used + j) 0 ≡ after (value_size v) j p
-          go j h true b = let x = ltb-true j k b in get_or-set_other places (used + k) (used + j) q 0 (λ y. omega arith) ∙ s.put j x
-          go j h false b =
-              let x : j ≡ k = omega (arith, ltb-false j k b) in
-              rw x (get_or-set_same places (used + k) q 0 room ∙ s.after_is)
+    pub put_go : {m : ℕ} → SizedBefore v q e m → used + k < length places → {next : Place} → next ≡ place_of (q + m)
+        → Putting v n p e used before (set places (used + k) q) (q + m) next (k + 1)
+    put_go {m} h room is = record {
+      chains = chains_on s.chains h is;
+      apart = omega (arith, s.apart, h.some);
+      same = sym (chain_go (value_size v) n k q e l h.before m h.size_is h.some) ∙ s.same;
+      after_is = ap (λ (x : ℕ). q + x) h.size_is ∙ ap (λ (x : ℕ). x + value_size v x) s.after_is ∙ sym (after_one (value_size v) k p);
+      put = λ j i. go j i (ltb j k) refl;
+      kept = λ j i. get_or-set_other places (used + k) j q 0 (λ x. omega arith) ∙ s.kept j i;
+      long = length-set places (used + k) q ∙ s.long;
+    }
+      where
+        go : (j : ℕ) → j < k + 1 → (b : Bool) → ltb j k ≡ b → get_or (set places (used + k) q) (used + j) 0 ≡ after (value_size v) j p
+        go j i true b = let x = ltb-true j k b in get_or-set_other places (used + k) (used + j) q 0 (λ y. omega arith) ∙ s.put j x
+        go j i false b =
+            let x : j ≡ k = omega (arith, ltb-false j k b) in
+            rw x (get_or-set_same places (used + k) q 0 room ∙ s.after_is)
 
   -- there is room for the next
   pub put_room : {at : Place} → PlacesLent v p at e used before → q < e → used + k < length places

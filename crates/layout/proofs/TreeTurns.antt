@@ -2,11 +2,11 @@
 use Prim.Native.Nat.{ℕ, ◌+◌, ◌-◌, ◌≤◌, ◌<◌}
 use mathlib.Core.Path.{◌≡◌, refl, ap, sym, ◌∙◌}
 use mathlib.Core.List.{List}
-use mathlib.Core.Bool.{Bool, true, false, ◌&&◌}
+use mathlib.Core.Bool.{Bool, true, false, ◌&&◌, false≢true}
 use mathlib.Core.Option.{Option, none, some}
 use native.Mathlib.Omega.{arith}
 use borrow.Author.Tests.{eqb-true, eqb-false, eq-eqb, ne_eqb, lt-ltb, le-ltb}
-use lib.Dec.{eqb}
+use lib.Dec.{eqb, ltb}
 use Rattle.rules.specs.Faults.{on_found, only_if}
 use Rattle.rules.specs.Records.{record_count, field_b, units, padding_of, zeros}
 use Rattle.rules.specs.Value.{value_size}
@@ -14,7 +14,11 @@ use Rattle.rules.specs.Layout.{then_read, text_end}
 use Rattle.layout.specs.declared.tree.Head.{Head}
 use Rattle.std.specs.Prelude.{Some, None}
 use Rattle.std.specs.Prelude as code
-use Rattle.layout.specs.Tree.{Thing, chain, scan, text_head, head_end, below, fills, Headed}
+use Rattle.stream.specs.declared.record.Place.{Place}
+use Rattle.stream.specs.Record.{place_of}
+use Rattle.laws.specs.Reads.{few_records}
+use Rattle.layout.specs.Common.{most_records}
+use Rattle.layout.specs.Tree.{Stopped, SizedBefore, Chains, Thing, chain, scan, text_head, head_end, below, fills, Headed}
 use Rattle.layout.proofs.TreeLaws.{fills_scan, scan_step, scan_long, scan_no_head, scan_no_chain, scan_end}
 use Rattle.laws.specs.Rows.{one_less}
 use Rattle.layout.proofs.TreeThings.{thing_is, head_grows}
@@ -27,18 +31,38 @@ module _ (size : ℕ → ℕ) (n k q e : ℕ) where
   chain_done l = let z : n - k ≡ 0 = omega arith in rw z
 
   module _ (l : k < n) where
-    pub chain_late : e ≤ q → chain size (n - k) q e ≡ false
+    pub chain_stop : (ltb q e && ltb 0 (size q)) ≡ false → chain size (n - k) q e ≡ false
     unfolding chain
-    chain_late g = rw (one_less n k l, chain, le-ltb q e g)
+    chain_stop z = rw (one_less n k l, chain) (stops (ltb q e) (ltb 0 (size q)) _ z)
+      where
+        stops : (a b c : Bool) → (a && b) ≡ false → a && (b && c) ≡ false
+        stops true true c z = absurd (false≢true (sym z))
+        stops true false c z = refl
+        stops false b c z = refl
 
-    module _ (g : q < e) (m : ℕ) (z : m ≡ size q) where
-      pub chain_empty : m < 1 → chain size (n - k) q e ≡ false
-      unfolding chain
-      chain_empty i = rw (one_less n k l, chain, lt-ltb q e g, le-ltb 0 (size q) (omega arith))
+    pub chain_go : q < e → (m : ℕ) → m ≡ size q → 1 ≤ m → chain size (n - k) q e ≡ chain size (n - (k + 1)) (q + m) e
+    unfolding chain
+    chain_go g m z i = rw (one_less n k l, chain, lt-ltb q e g, lt-ltb 0 (size q) (omega arith), z)
 
-      pub chain_go : 1 ≤ m → chain size (n - k) q e ≡ chain size (n - (k + 1)) (q + m) e
-      unfolding chain
-      chain_go i = rw (one_less n k l, chain, lt-ltb q e g, lt-ltb 0 (size q) (omega arith), z)
+-- What the code says of the size of a thing
+
+module _ (s : List ℕ) (q e : ℕ) where
+  pub stopped_at : e ≤ q → Stopped s q e
+  stopped_at l = rw (le-ltb q e l)
+
+  pub stopped_none : {m : ℕ} → m ≡ value_size s q → m ≡ 0 → Stopped s q e
+  stopped_none {m} z i = rw (sym z ∙ i) (never (ltb q e))
+    where
+      never : (b : Bool) → (b && ltb 0 0) ≡ false
+      never true = refl
+      never false = refl
+
+module _ {s : List ℕ} {q e m : ℕ} {at : Place} (c : Chains s q at e) (h : SizedBefore s q e m) where
+  pub chains_near : q < most_records
+  chains_near = let a = few_records s c.within.sized in omega (arith, h.before, c.within.inside)
+
+  pub chains_on : {next : Place} → next ≡ place_of (q + m) → Chains s (q + m) next e
+  chains_on is = record { place_is = is; within = record { sized = c.within.sized; near = omega (arith, chains_near, h.small); inside = c.within.inside } }
 
 -- What the code says of a head
 

@@ -159,3 +159,14 @@ pub record UpTo (s : List ℕ) (p e : ℕ) : Type 0 where
 pub record Chains (s : List ℕ) (p : ℕ) (at : Place) (e : ℕ) : Type 0 where
   pub place_is : at ≡ place_of p
   pub within : UpTo s p e
+
+-- nothing goes on from q: it is at e or past it, or the thing there has no size
+abbrev pub Stopped : List ℕ → ℕ → ℕ → Type 0
+Stopped s q e = (ltb q e && ltb 0 (value_size s q)) ≡ false
+
+-- a thing of this size stands at q, before e
+pub record SizedBefore (s : List ℕ) (q e size : ℕ) : Type 0 where
+  pub size_is : size ≡ value_size s q
+  pub before : q < e
+  pub some : 1 ≤ size
+  pub small : size < 65536

@@ -2,7 +2,7 @@
 // its children's places begins. The walk then finds a field in one step. (specs/Children of crate records.)
 ghost use Rattle.layout.specs.Children.{PlacesLent, PlacesPut, TableLent, TablePut};
 
-use crate::tree::Head;
+use crate::tree::{Head, size_before};
 use crate::value::value_head;
 use records::value::size_of;
 use stream::record::{Place, fetch_in, forward, place_of};
@@ -22,20 +22,13 @@ fn put_row(
 {
     let mut q = p;
     let mut here = at;
-    let mut k = 0;
-    while k < n {
-        if e <= q {
+    for k in 0..n {
+        let Some(size) = size_before(v, q, here, e) else {
             return false;
-        }
-        let size = size_of(fetch_in(v, here));
-        if size < 1 {
-            return false;
-        }
-        let slot = used + k;
-        places[slot] = q as u16;
+        };
+        places[used + k] = q as u16;
         q += size;
         here = forward(here, size);
-        k += 1;
     }
     q == e
 }

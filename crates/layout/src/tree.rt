@@ -1,11 +1,11 @@
 // A template's body and a value are trees: a head with the records that belong to it alone, then the things below it. They may be thousands deep
 // when their layout is judged, so nothing calls itself and no level is kept: the heads are gone over in a row, and the things below each must end,
 // by their sizes, where it ends itself. Here is what both share; their scans are `one_node` and `one_value`.
-ghost use Rattle.std.specs.Prelude.{◌≡◌, ℕ, ◌+◌};
+ghost use Rattle.std.specs.Prelude.{◌≡◌, ℕ, ◌+◌, MatchOption};
 ghost use Rattle.rules.specs.Records.{units, padding_of, zeros};
 ghost use Rattle.rules.specs.Value.{value_size};
 ghost use Rattle.stream.specs.Record.{Fetched, place_of};
-ghost use Rattle.layout.specs.Tree.{chain, text_head, Headed, Chains, LiesIn, HeadIn};
+ghost use Rattle.layout.specs.Tree.{chain, Stopped, SizedBefore, text_head, Headed, Chains, LiesIn, HeadIn};
 
 use crate::common::zero_from;
 use records::element::units;
@@ -19,26 +19,33 @@ pub struct Head {
     pub below: u32,
 }
 
+// The size of the thing at record q, at a place, where it starts before record e and has one. A node's size is read as a value's: no node has the
+// kind of a yes/no.
+pub fn size_before(s: &[u8], q: usize, at: Place, e: usize) -> Option<usize>
+    requires { Chains s.now q at e }
+    ensures { MatchOption result (Stopped s.now q e) (SizedBefore s.now q e) }
+{
+    if e <= q {
+        return None;
+    }
+    let size = size_of(fetch_in(s, at));
+    if size == 0 { None } else { Some(size) }
+}
+
 // The n things from record p on, at a place, end at record e by their sizes. Each must start before e and have a size, so that no count makes
-// this long. A node's size is read as a value's: no node has the kind of a yes/no.
+// this long.
 pub fn chained(s: &[u8], n: usize, p: usize, at: Place, e: usize) -> bool
     requires { Chains s.now p at e }
     ensures { result ≡ chain (value_size s.now) n p e }
 {
     let mut q = p;
     let mut here = at;
-    let mut k = 0;
-    while k < n {
-        if e <= q {
+    for _ in 0..n {
+        let Some(size) = size_before(s, q, here, e) else {
             return false;
-        }
-        let size = size_of(fetch_in(s, here));
-        if size < 1 {
-            return false;
-        }
+        };
         q += size;
         here = forward(here, size);
-        k += 1;
     }
     q == e
 }
