@@ -17,8 +17,7 @@ use Rattle.theorems.specs.LaidOut.{InRow, no_thing, one_thing, Numbered, no_more
 use Rattle.theorems.specs.Heads.{Spans, Sorts, kind_after, not_first, grammar_sorts, templates_sorts, class_spans, production_spans, type_spans, template_spans, classes_are, productions_are, types_are, templates_are}
 use Rattle.theorems.specs.Sizes.{each_in_row, each_numbered, row_grows, class_number}
 use Rattle.theorems.specs.LayoutExactly.{grammar_laid_exactly, templates_laid_exactly}
-use Rattle.layout.specs.Common.{most_records}
-use Rattle.layout.specs.Heads.{LaidGrammar, LaidTemplates, most_classes, part, Tables, with_records, SortRow, RowAhead, RowFilled}
+use Rattle.layout.specs.Heads.{LaidGrammar, LaidTemplates, most_classes, part, Tables, with_records, SortRow, RowAhead, RowFilled, TwoRows}
 use Rattle.layout.specs.declared.heads.RowEnd.{RowEnd}
 use Rattle.laws.specs.Reads.{few_records}
 
@@ -45,21 +44,6 @@ module _ {is : ℕ → Bool} {size : ℕ → ℕ} where
     resized_heads (no_thing p) = refl
     resized_heads (one_thing n p q r x xs) =
         rw (← f p x.is_one, ← x.end) (ap (λ ys. p ∷ ys) (resized_heads xs))
-
--- a row of one sort, whose heads are `first`, at most so many, and then one of another, whose heads are `second`; and there is room for both
-pub record TwoRows (s : List ℕ) (is is' : ℕ → Bool) (size other : ℕ → ℕ) (most room : ℕ) (first second : List ℕ) : Type 0 where
-  pub sized : stream_length s ≡ none
-  pub count : ℕ
-  pub middle : ℕ
-  pub count' : ℕ
-  pub end : ℕ
-  pub row : SortRow is size 0 count middle
-  pub row' : SortRow is' other middle count' end
-  pub first_are : first ≡ heads size count 0
-  pub second_are : second ≡ heads other count' middle
-  pub few : count ≤ most
-  pub fit : count + count' ≤ room
-  pub inside : end ≤ most_records
 
 -- what a table is whose part from a on was lent: the part as it came back, with nothing behind it
 module _ (a : ℕ) (xs : List ℕ) (l : a ≤ length xs) where

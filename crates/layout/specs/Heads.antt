@@ -3,6 +3,8 @@ use Rattle.std.specs.Prelude.{ℕ, ◌+◌, ◌-◌, ◌≤◌, ◌≡◌, List,
 use Rattle.std.proofs.Math.Option.{none}
 use Rattle.rules.specs.Blocks.{stream_length}
 use Rattle.rules.specs.Records.{field_d, heads}
+use Rattle.stream.specs.declared.record.Record.{Record}
+use Rattle.stream.specs.Record.{Fetched}
 use Rattle.rules.specs.Layout.{grammar_layout, templates_layout}
 use Rattle.theorems.specs.LaidOut.{InRow}
 use Rattle.theorems.specs.Heads.{Spans}
@@ -45,6 +47,12 @@ pub record SortRow (is : ℕ → Bool) (size : ℕ → ℕ) (p n q : ℕ) : Type
   pub things : InRow (Spans is size) n p q
   pub stops : is q ≡ false
 
+-- a thing of a size stands at p of a whole stream, and inside it; r is its head
+pub record ThingAt (s : List ℕ) (p : ℕ) (r : Record) (size : ℕ) : Type 0 where
+  pub sized : stream_length s ≡ none
+  pub fetched : Fetched s p r
+  pub inside : p + size ≤ most_records
+
 -- there is such a row from p on, inside a whole stream, and a table has room for its heads
 pub record RowAhead (s : List ℕ) (is : ℕ → Bool) (size : ℕ → ℕ) (p room : ℕ) : Type 0 where
   pub sized : stream_length s ≡ none
@@ -59,3 +67,27 @@ pub record RowFilled (is : ℕ → Bool) (size : ℕ → ℕ) (p : ℕ) (before 
   pub row : SortRow is size p r.count r.next
   pub begins : take r.count table ≡ heads size r.count p
   pub rest : drop r.count table ≡ drop r.count before
+
+-- a row of one sort, whose heads are `first`, at most so many, and then one of another, whose heads are `second`; and there is room for both
+pub record TwoRows (s : List ℕ) (is is' : ℕ → Bool) (size other : ℕ → ℕ) (most room : ℕ) (first second : List ℕ) : Type 0 where
+  pub sized : stream_length s ≡ none
+  pub count : ℕ
+  pub middle : ℕ
+  pub count' : ℕ
+  pub end : ℕ
+  pub row : SortRow is size 0 count middle
+  pub row' : SortRow is' other middle count' end
+  pub first_are : first ≡ heads size count 0
+  pub second_are : second ≡ heads other count' middle
+  pub few : count ≤ most
+  pub fit : count + count' ≤ room
+  pub inside : end ≤ most_records
+
+-- there are two such rows, and a table has room for their heads
+pub record RoomForRows (s : List ℕ) (is is' : ℕ → Bool) (size other : ℕ → ℕ) (n : ℕ) : Type 0 where
+  pub most : ℕ
+  pub room : ℕ
+  pub first : List ℕ
+  pub second : List ℕ
+  pub rows : TwoRows s is is' size other most room first second
+  pub fits : room ≤ n

@@ -1,119 +1,150 @@
 // The table of heads of a grammar, classes and then productions, and of a template set, types and then templates: each by number. They are
 // filled once per run, so that no lookup by number scans.
-ghost use Rattle.std.specs.Prelude.{◌≡◌, ◌+◌, ◌≤◌, length};
-ghost use Rattle.std.proofs.Math.Option.{none};
-ghost use Rattle.rules.specs.Blocks.{stream_length};
-ghost use Rattle.rules.specs.Records.{record_count, field_c, after, of_kind};
-ghost use Rattle.rules.specs.Grammar.{is_class, element_size, production_size, classes, productions};
+ghost use Rattle.std.specs.Prelude.{◌≡◌, ℕ, ◌+◌, ◌≤◌, Bool, List, length};
+ghost use Rattle.rules.specs.Records.{record_count, field_c, of_kind};
+ghost use Rattle.rules.specs.Grammar.{is_class, production_size, classes, productions};
 ghost use Rattle.rules.specs.Templates.{types, templates};
-ghost use Rattle.layout.specs.Common.{most_records};
-ghost use Rattle.layout.specs.Heads.{LaidGrammar, LaidTemplates, most_classes, Tables, with_records, RowAhead, RowFilled};
+ghost use Rattle.stream.specs.Record.{Fetched};
+ghost use Rattle.layout.specs.Heads.{LaidGrammar, LaidTemplates, most_classes, Tables, with_records, ThingAt, RowAhead, RowFilled, TwoRows, RoomForRows};
 
 use records::class::is_class;
 use records::element::size_of;
-use stream::record::{fetch, fetch_at, forward, place_of};
+use stream::record::{Record, fetch, fetch_at, forward, place_of};
 
 // A row of things whose heads are in a table: how many there are, and the place after the last one.
-#[derive(Clone, Copy)]
+#[derive(Clone, Copy, Debug, PartialEq, Eq)]
 struct RowEnd {
     pub count: usize,
     pub next: usize,
 }
 
 // How many heads of each kind a stream's table holds.
-#[derive(Clone, Copy)]
+#[derive(Clone, Copy, Debug, PartialEq, Eq)]
 pub struct Counts {
     pub first: usize,
     pub second: usize,
 }
 
+// A sort of things that stand in a row: which records are their heads, and how many records each takes.
+trait Sort {
+    ghost is: { List ℕ → ℕ → Bool };
+
+    ghost size: { List ℕ → ℕ → ℕ };
+
+    fn is_head(r: Record) -> bool
+        ensures { (s : List ℕ) → (p : ℕ) → Fetched s p r → result ≡ is s p };
+
+    // The record after the thing at record p, whose head is r.
+    fn next(s: &[u8], p: usize, r: Record) -> usize
+        requires { ThingAt s.now p r (size s.now p) }
+        ensures { result ≡ p + size s.now p };
+}
+
 // The classes of a grammar, plain and escaped: each head has d records after it.
-fn class_row(g: &[u8], table: &mut [u16]) -> RowEnd
-    requires { RowAhead g.now (is_class g.now) (with_records g.now) 0 (length table.old) }
-    ensures { RowFilled (is_class g.now) (with_records g.now) 0 table.old table.new result }
-{
-    let mut p: usize = 0;
-    let mut n: usize = 0;
-    loop {
-        let head = fetch(g, p);
-        if !is_class(head) {
-            return RowEnd { count: n, next: p };
+struct Classes;
+
+impl Sort for Classes {
+    ghost is = { is_class };
+
+    ghost size = { with_records };
+
+    fn is_head(r: Record) -> bool {
+        is_class(r)
+    }
+
+    fn next(_g: &[u8], p: usize, r: Record) -> usize {
+        p + 1 + r.d as usize
+    }
+}
+
+// The productions of a grammar: each head has d elements after it.
+struct Productions;
+
+impl Sort for Productions {
+    ghost is = { λ g. of_kind g 3 };
+
+    ghost size = { production_size };
+
+    fn is_head(r: Record) -> bool {
+        r.kind == 3
+    }
+
+    // The place of an element is carried: where the next one lies hangs on this one's size alone.
+    fn next(g: &[u8], p: usize, r: Record) -> usize {
+        let mut q = p + 1;
+        let mut at = place_of(q);
+        for _ in 0..r.d {
+            let size = size_of(fetch_at(g, at));
+            q += size;
+            at = forward(at, size);
         }
-        table[n] = p as u16;
-        n += 1;
-        p += 1 + head.d as usize;
+        q
     }
 }
 
 // The types of a template set: each head has d records after it.
-fn type_row(t: &[u8], table: &mut [u16]) -> RowEnd
-    requires { RowAhead t.now (of_kind t.now 1) (with_records t.now) 0 (length table.old) }
-    ensures { RowFilled (of_kind t.now 1) (with_records t.now) 0 table.old table.new result }
-{
-    let mut p: usize = 0;
-    let mut n: usize = 0;
-    loop {
-        let head = fetch(t, p);
-        if head.kind != 1 {
-            return RowEnd { count: n, next: p };
-        }
-        table[n] = p as u16;
-        n += 1;
-        p += 1 + head.d as usize;
+struct Types;
+
+impl Sort for Types {
+    ghost is = { λ t. of_kind t 1 };
+
+    ghost size = { with_records };
+
+    fn is_head(r: Record) -> bool {
+        r.kind == 1
+    }
+
+    fn next(_t: &[u8], p: usize, r: Record) -> usize {
+        p + 1 + r.d as usize
     }
 }
 
-// The record after n elements from record p on. Their place is carried: where the next one lies hangs on this one's size alone.
-fn after_elements(g: &[u8], n: usize, p: usize) -> usize
-    requires g_value { stream_length g.now ≡ none }
-    requires p_bound { after (element_size g.now) n p ≤ most_records }
-    ensures { result ≡ after (element_size g.now) n p }
-{
-    let mut q = p;
-    let mut at = place_of(p);
-    let mut k = 0;
-    while k < n {
-        let size = size_of(fetch_at(g, at));
-        q += size;
-        at = forward(at, size);
-        k += 1;
+// The templates of a template set: a head's c is the size of all.
+struct Templates;
+
+impl Sort for Templates {
+    ghost is = { λ t. of_kind t 3 };
+
+    ghost size = { field_c };
+
+    fn is_head(r: Record) -> bool {
+        r.kind == 3
     }
-    q
+
+    fn next(_t: &[u8], p: usize, r: Record) -> usize {
+        p + r.c as usize
+    }
 }
 
-// The productions of a grammar, from record start on: each head has d elements after it.
-fn production_row(g: &[u8], start: usize, table: &mut [u16]) -> RowEnd
-    requires { RowAhead g.now (of_kind g.now 3) (production_size g.now) start (length table.old) }
-    ensures { RowFilled (of_kind g.now 3) (production_size g.now) start table.old table.new result }
+// The things of a sort from record start on: their heads go into the table.
+fn row<S: Sort>(s: &[u8], start: usize, table: &mut [u16]) -> RowEnd
+    requires { RowAhead s.now (S.is s.now) (S.size s.now) start (length table.old) }
+    ensures { RowFilled (S.is s.now) (S.size s.now) start table.old table.new result }
 {
     let mut p = start;
     let mut n: usize = 0;
     loop {
-        let head = fetch(g, p);
-        if head.kind != 3 {
+        let head = fetch(s, p);
+        if !S::is_head(head) {
             return RowEnd { count: n, next: p };
         }
         table[n] = p as u16;
         n += 1;
-        p = after_elements(g, head.d as usize, p + 1);
+        p = S::next(s, p, head);
     }
 }
 
-// The templates of a template set, from record start on: a head's c is the size of all.
-fn template_row(t: &[u8], start: usize, table: &mut [u16]) -> RowEnd
-    requires { RowAhead t.now (of_kind t.now 3) (field_c t.now) start (length table.old) }
-    ensures { RowFilled (of_kind t.now 3) (field_c t.now) start table.old table.new result }
+// The heads of the things of a sort, from the first record on, and behind them those of another.
+fn two_rows<A: Sort, B: Sort>(s: &[u8], heads: &mut [u16]) -> Counts
+    requires { RoomForRows s.now (A.is s.now) (B.is s.now) (A.size s.now) (B.size s.now) (length heads.old) }
+    ensures { (most room : ℕ) → (xs ys : List ℕ) → TwoRows s.now (A.is s.now) (B.is s.now) (A.size s.now) (B.size s.now) most room xs ys → room ≤ length heads.old → Tables most room xs ys heads.old heads.new result }
 {
-    let mut p = start;
-    let mut n: usize = 0;
-    loop {
-        let head = fetch(t, p);
-        if head.kind != 3 {
-            return RowEnd { count: n, next: p };
-        }
-        table[n] = p as u16;
-        n += 1;
-        p += head.c as usize;
+    let one = row::<A>(s, 0, heads);
+    let first = one.count;
+    let two = row::<B>(s, one.next, &mut heads[first..]);
+    Counts {
+        first,
+        second: two.count,
     }
 }
 
@@ -123,13 +154,7 @@ pub fn grammar_heads(g: &[u8], heads: &mut [u16]) -> Counts
     requires g_in_bounds { record_count g.now ≤ length heads.old }
     ensures { Tables most_classes (record_count g.now) (classes g.now) (productions g.now) heads.old heads.new result }
 {
-    let one = class_row(g, heads);
-    let count = one.count;
-    let two = production_row(g, one.next, &mut heads[count..]);
-    Counts {
-        first: count,
-        second: two.count,
-    }
+    two_rows::<Classes, Productions>(g, heads)
 }
 
 // The heads of a template set's types, and behind them those of its templates, likewise.
@@ -138,11 +163,5 @@ pub fn templates_heads(t: &[u8], heads: &mut [u16]) -> Counts
     requires t_in_bounds { record_count t.now ≤ length heads.old }
     ensures { Tables (record_count t.now) (record_count t.now) (types t.now) (templates t.now) heads.old heads.new result }
 {
-    let one = type_row(t, heads);
-    let count = one.count;
-    let two = template_row(t, one.next, &mut heads[count..]);
-    Counts {
-        first: count,
-        second: two.count,
-    }
+    two_rows::<Types, Templates>(t, heads)
 }
