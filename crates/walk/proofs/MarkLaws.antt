@@ -2,13 +2,15 @@
 use Prim.Native.Nat.{ℕ, zero, suc, ◌+◌, ◌-◌, ◌≤◌, ◌<◌}
 use mathlib.Core.Path.{◌≡◌, refl, sym, ap, ◌∙◌}
 use mathlib.Core.List.{List, [], ◌∷◌, ◌++◌, map, append_assoc, append-nil}
-use mathlib.Core.Bool.{Bool, true, false, cond}
+use mathlib.Core.Bool.{Bool, true, false, cond, ◌||◌, false≢true}
 use mathlib.Core.Option.{some, none}
 use native.Mathlib.Omega.{arith}
 use lib.ListN.{length, get_or, take, drop, set, length-append, length-set, length-map, drop_of_length-le, get_or-append, get_or-eq_default}
 use lib.Seq.{get_or-append-add, get_or_at, drop-cons, length-take-le}
 use lib.Dec.{eqb, ltb}
-use borrow.Author.Tests.{ne_eqb, eqb-true, ltb-true, ltb-false}
+use borrow.Author.Tests.{ne_eqb, ltb-true, ltb-false}
+use Rattle.std.specs.Int.{from_bool}
+use Rattle.std.specs.List.{list_any}
 use Rattle.rules.specs.Faults.{exists}
 use Rattle.rules.specs.Records.{kind_of}
 use Rattle.rules.specs.Grammar.{Element, keyword, lexeme, nonterminal, repetition, unknown, element_numbered, element_at, productions, production, escaped_class}
@@ -16,7 +18,8 @@ use Rattle.rules.specs.Escape.{escape}
 use Rattle.rules.specs.Walk.{piece, written_for}
 use Rattle.stream.specs.Record.{Fetched}
 use Rattle.stream.specs.declared.record.Record.{Record}
-use Rattle.laws.specs.Lists.{nth_some, nth_none}
+use Rattle.laws.specs.Lists.{nth_some, nth_none, first_some, first_none}
+use Rattle.rules.specs.Records.{nth}
 use Rattle.laws.specs.Writes.{copy_more, copy_all}
 use Rattle.walk.specs.Nodes.{element_for}
 use Rattle.walk.specs.Marks.{ProductionHeads, escapes_for, escapes_at, PlaceText, mark_of, Marked}
@@ -46,15 +49,26 @@ module _ {g heads : List ℕ} (h : ProductionHeads g heads) where
     at_marks : marks + number ≡ length h.marks + number
     at_marks = ap (λ (x : ℕ). x + number) (e ∙ marks_count)
 
-    pub production_found : marks + number + 1 < length heads → some (get_or heads (marks + number) 0) ≡ production g number
+    production_found : marks + number + 1 < length heads → some (get_or heads (marks + number) 0) ≡ production g number
     unfolding production
     production_found l =
         let m : number < length (productions g) = omega (arith, at_marks, heads_length) in
         sym (nth_some (productions g) number m ∙ ap some (sym (production_here number m) ∙ ap (λ (x : ℕ). get_or heads x 0) (sym at_marks)))
 
-    pub production_lost : length heads ≤ marks + number + 1 → none ≡ production g number
+    production_lost : length heads ≤ marks + number + 1 → none ≡ production g number
     unfolding production
     production_lost l = sym (nth_none (productions g) number (omega (arith, at_marks, heads_length)))
+
+    pub production_is : nth (take (length heads - 1) heads) (marks + number) ≡ production g number
+    production_is = go (ltb (marks + number) (length heads - 1)) refl
+      where
+        go : (b : Bool) → ltb (marks + number) (length heads - 1) ≡ b → nth (take (length heads - 1) heads) (marks + number) ≡ production g number
+        go true w =
+            let l : marks + number < length heads - 1 = ltb-true _ _ w in
+            sym (first_some heads (length heads - 1) (marks + number) (omega arith) l) ∙ production_found (omega arith)
+        go false w =
+            let l : length heads - 1 ≤ marks + number = ltb-false _ _ w in
+            sym (first_none heads (length heads - 1) (marks + number) l) ∙ production_lost (omega arith)
 
   -- the mark of a class, by its number
   module _ (marks : ℕ) (e : marks ≡ get_or heads (length heads - 1) 0) where
@@ -136,31 +150,29 @@ plain_text_lem e h t = rw (← e) (h t)
 
 -- Marks in the place of heads
 
-pub mark_yes : (g : List ℕ) (p kind : ℕ) → kind ≡ kind_of g p → eqb kind 5 ≡ true → 1 ≡ mark_of g p
+pub marked_as : (g : List ℕ) (p kind : ℕ) (b : Bool) → kind ≡ kind_of g p → b ≡ eqb kind 5 → from_bool b ≡ mark_of g p
 unfolding mark_of
-mark_yes g p kind e f = rw (← e, f)
-
-pub mark_no : (g : List ℕ) (p kind : ℕ) → kind ≡ kind_of g p → eqb kind 5 ≡ false → 0 ≡ mark_of g p
-unfolding mark_of
-mark_no g p kind e f = rw (← e, f)
+marked_as g p kind b e f = rw (← e, ← f) (go b)
+  where
+    go : (x : Bool) → from_bool x ≡ cond x 1 0
+    go true = refl
+    go false = refl
 
 -- What the marking keeps: so many heads are marks by now
-pub record Marking (g before classes : List ℕ) (n i : ℕ) : Type 0 where
+pub record Marking (g before classes : List ℕ) (i : ℕ) : Type 0 where
   pub few : i ≤ length before
   pub so_far : classes ≡ take i (map (mark_of g) before) ++ drop i before
   pub long : length classes ≡ length before
-  pub all_used : (n ≡ 0 → ⊥) → n ≡ length before
-  pub none_used : n ≡ 0 → (k : ℕ) → k < i → get_or (map (mark_of g) before) k 0 ≡ 0
 
-pub marking_start : (g before : List ℕ) → Marking g before before 0 0
-marking_start g before = record { few = omega arith; so_far = refl; long = refl; all_used = λ z. absurd (z refl); none_used = λ z k l. absurd (omega arith) }
+pub marking_start : (g before : List ℕ) → Marking g before before 0
+marking_start g before = record { few = omega arith; so_far = refl; long = refl }
 
-pub mark_at : (g before : List ℕ) (i : ℕ) → i < length before → get_or (map (mark_of g) before) i 0 ≡ mark_of g (get_or before i 0)
+mark_at : (g before : List ℕ) (i : ℕ) → i < length before → get_or (map (mark_of g) before) i 0 ≡ mark_of g (get_or before i 0)
 mark_at g [] i l = absurd (omega arith)
 mark_at g (p ∷ ps) zero l = refl
 mark_at g (p ∷ ps) (suc i) l = mark_at g ps i (omega arith)
 
-module _ {g before classes : List ℕ} {n i m : ℕ} (h : Marking g before classes n i) (l : i < length classes) (e : m ≡ mark_of g (get_or classes i 0)) where
+module _ {g before classes : List ℕ} {i m : ℕ} (h : Marking g before classes i) (l : i < length classes) (e : m ≡ mark_of g (get_or classes i 0)) where
   inside : i < length before
   inside = omega (arith, h.long)
 
@@ -174,38 +186,37 @@ module _ {g before classes : List ℕ} {n i m : ℕ} (h : Marking g before class
   mark_is : m ≡ get_or (map (mark_of g) before) i 0
   mark_is = e ∙ ap (mark_of g) head_here ∙ sym (mark_at g before i inside)
 
-  pub marking_turn : {r : ℕ} → r ≡ cond (eqb m 0) n (length (set classes i m)) → Marking g before (set classes i m) r (i + 1)
-  marking_turn {r} f = record {
+  pub marking_turn : Marking g before (set classes i m) (i + 1)
+  marking_turn = record {
     few = omega (arith, inside);
     so_far = rw mark_is (copy_more (map (mark_of g) before) classes before i (omega (arith, length-map before (mark_of g), inside)) (omega (arith, length-map before (mark_of g))) h.so_far);
     long = length-set classes i m ∙ h.long;
-    all_used = all (eqb m 0) refl (rw length-set at f);
-    none_used = none_left (eqb m 0) refl (rw length-set at f);
   }
-    where
-      all : (b : Bool) → eqb m 0 ≡ b → r ≡ cond b n (length classes) → (r ≡ 0 → ⊥) → r ≡ length before
-      all true q f z = f ∙ h.all_used (λ w. z (f ∙ w))
-      all false q f z = f ∙ h.long
 
-      none_left : (b : Bool) → eqb m 0 ≡ b → r ≡ cond b n (length classes) → r ≡ 0 → (k : ℕ) → k < i + 1 → get_or (map (mark_of g) before) k 0 ≡ 0
-      none_left false q f z k o = absurd (omega arith)
-      none_left true q f z k o = last (ltb k i) refl
-        where
-          last : (b : Bool) → ltb k i ≡ b → get_or (map (mark_of g) before) k 0 ≡ 0
-          last true w = h.none_used (sym f ∙ z) k (ltb-true k i w)
-          last false w =
-              let y : k ≡ i = omega (arith, ltb-false k i w) in
-              rw y (sym mark_is ∙ eqb-true m 0 q)
+-- a mark is 0 or 1, so where none is 1 all are 0
+neither : (a b : Bool) → a || b ≡ false → (a ≡ false) × (b ≡ false)
+neither true b h = absurd (false≢true (sym h))
+neither false b h = (refl, h)
 
-pub marking_end : {g before classes : List ℕ} {n i : ℕ} → Marking g before classes n i → length classes ≤ i → Marked g before classes n
-marking_end {g} {before} {classes} {n} {i} h l =
-    let m = length-map before (mark_of g) in
-    let e : classes ≡ map (mark_of g) before =
-    copy_all (map (mark_of g) before) classes before i (omega (arith, h.few)) (omega (arith, h.long)) h.so_far
-    ∙ ap (λ (x : List ℕ). map (mark_of g) before ++ x) (drop_of_length-le before {i = length (map (mark_of g) before)} (omega arith))
-    ∙ append-nil (map (mark_of g) before) in
-    record { each = e; all_used = h.all_used; none_used = λ z k. rw e (none-at z k (ltb k i) refl) }
-  where
-    none-at : n ≡ 0 → (k : ℕ) (b : Bool) → ltb k i ≡ b → get_or (map (mark_of g) before) k 0 ≡ 0
-    none-at z k true w = h.none_used z k (ltb-true k i w)
-    none-at z k false w = get_or-eq_default (map (mark_of g) before) 0 {n = k} (omega (arith, ltb-false k i w, length-map before (mark_of g), h.long))
+not_one : (b : Bool) → eqb (cond b 1 0) 1 ≡ false → ◌≡◌ {A = ℕ} (cond b 1 0) 0
+not_one true h = absurd (false≢true (sym h))
+not_one false h = refl
+
+no_mark : (g before : List ℕ) → list_any (λ m. eqb m 1) (map (mark_of g) before) ≡ false → (k : ℕ) → get_or (map (mark_of g) before) k 0 ≡ 0
+unfolding mark_of
+no_mark g [] h k = refl
+no_mark g (p ∷ ps) h zero = not_one (eqb (kind_of g p) 5) (neither _ _ h).0
+no_mark g (p ∷ ps) h (suc k) = no_mark g ps (neither (eqb (mark_of g p) 1) _ h).1 k
+
+module _ {g before classes : List ℕ} {i : ℕ} (h : Marking g before classes i) (l : length classes ≤ i) where
+  all_marks : classes ≡ map (mark_of g) before
+  all_marks =
+      copy_all (map (mark_of g) before) classes before i (omega (arith, h.few, length-map before (mark_of g))) (omega (arith, h.long, length-map before (mark_of g))) h.so_far
+      ∙ ap (λ (x : List ℕ). map (mark_of g) before ++ x) (drop_of_length-le before {i = length (map (mark_of g) before)} (omega (arith, length-map before (mark_of g))))
+      ∙ append-nil (map (mark_of g) before)
+
+  pub some_marked : Marked g before classes (length classes)
+  some_marked = record { each = all_marks; all_used = λ z. h.long; none_used = λ z k. get_or-eq_default classes 0 {n = k} (omega (arith, z)) }
+
+  pub none_marked : list_any (λ m. eqb m 1) classes ≡ false → Marked g before classes 0
+  none_marked e = record { each = all_marks; all_used = λ z. absurd (z refl); none_used = λ z k. rw all_marks (no_mark g before (rw all_marks at e) k) }

@@ -4,8 +4,7 @@ use mathlib.Core.Path.{◌≡◌, sym, ap, ◌∙◌}
 use mathlib.Core.List.{List, [], ◌∷◌, ◌++◌}
 use mathlib.Core.Option.{Option, none, some, none-ne-some, some-injective}
 use native.Mathlib.Omega.{arith}
-use lib.ListN.{length, get_or, drop, length-drop}
-use lib.Seq.{get_or-drop}
+use lib.ListN.{length, get_or, drop}
 use borrow.Author.Tests.{eq-eqb, ne_eqb, le-leb}
 use Rattle.rules.specs.Faults.{on_found}
 use Rattle.rules.specs.Blocks.{stream_length}
@@ -14,36 +13,40 @@ use Rattle.rules.specs.Templates.{variable}
 use Rattle.rules.specs.Value.{value_size, children, values_below, as_record, content}
 use Rattle.rules.specs.Walk.{value_along, path_value}
 use Rattle.laws.specs.Faults.{on_some, on_none, only_yes, only_no}
-use Rattle.laws.specs.Lists.{nth_some, nth_none, nth_more, first_some}
+use Rattle.laws.specs.Lists.{nth_some, nth_none, nth_more}
 use Rattle.laws.specs.Rows.{length_heads}
 use Rattle.stream.specs.Record.{Fetched}
 use Rattle.stream.specs.declared.record.Record.{Record}
 use Rattle.records.specs.Paths.{steps_in, StepIn}
 use Rattle.records.specs.Children.{Stands, below, ChildAt, Children}
 use Rattle.records.proofs.PathLaws.{steps_are, steps_done, steps_more}
-use Rattle.walk.specs.declared.tables.Lookup.{Lookup}
-use Rattle.walk.specs.declared.tables.Lookup.TheVariants.{Found, Nothing}
+use Rattle.std.specs.declared.option.Option as answer
+use Rattle.std.specs.Prelude.{Some, None, option_copied}
+use Rattle.std.specs.Slice.{IsItemAt}
+use denote.Ref.{Bor}
+use native.Mathlib.Nat.{le_refl}
 use Rattle.walk.specs.Lookups.{lookup_of, Finds}
-use Rattle.walk.specs.Frames.{frame, Held}
+use Rattle.walk.specs.Frames.{Held}
 
--- what an answer says, once its variant is known
+-- what an answer says: an entry of a list, and once its variant is known
 
-pub got : {o : Option ℕ} {r : Lookup} {w : ℕ} → lookup_of r ≡ o → r ≡ Found w → o ≡ some w
+pub entry_is : (xs : List ℕ) (i : ℕ) (r : answer.Option (Bor ℕ)) (o : answer.Option ℕ) → IsItemAt xs i r → o ≡ option_copied r → lookup_of o ≡ nth xs i
+entry_is xs i None o h e = rw e (sym (nth_none xs i h.3))
+entry_is xs i (Some x) o h e = rw e (ap some (h.4 (le_refl i) 0) ∙ sym (nth_some xs i h.3.0))
+
+pub got : {o : Option ℕ} {r : answer.Option ℕ} {w : ℕ} → lookup_of r ≡ o → r ≡ Some w → o ≡ some w
 got e h = sym e ∙ ap lookup_of h
 
-pub lost : {o : Option ℕ} {r : Lookup} → lookup_of r ≡ o → r ≡ Nothing → o ≡ none
+pub lost : {o : Option ℕ} {r : answer.Option ℕ} → lookup_of r ≡ o → r ≡ None → o ≡ none
 lost e h = sym e ∙ ap lookup_of h
 
-pub finds_nothing : {v : List ℕ} {o : Option ℕ} → o ≡ none → Finds v o Nothing
+pub finds_nothing : {v : List ℕ} {o : Option ℕ} → o ≡ none → Finds v o None
 finds_nothing e = record { is = sym e; stands = λ w h. absurd (none-ne-some w (sym e ∙ h)) }
 
-pub finds_value : {v : List ℕ} (w : ℕ) {o : Option ℕ} → o ≡ some w → Stands v w → Finds v o (Found w)
+pub finds_value : {v : List ℕ} (w : ℕ) {o : Option ℕ} → o ≡ some w → Stands v w → Finds v o (Some w)
 finds_value w e l = record { is = sym e; stands = λ x h. let z : w ≡ x = some-injective w x (sym e ∙ h) in rw z at l }
 
 -- variables
-
-pub variable_some : (base vars k : ℕ) (s : List ℕ) → base + vars ≤ length s → k < vars → some (get_or s (base + k) 0) ≡ nth (frame base vars s) k
-variable_some base vars k s h l = ap some (sym (get_or-drop base s k 0)) ∙ first_some (drop base s) vars k (simp length-drop (omega arith)) l
 
 pub held_none : (v : List ℕ) → Held v []
 unfolding nth
@@ -107,7 +110,7 @@ module _ (v : List ℕ) (w j k d : ℕ) (hk : k ≡ kind_of v w) (hd : d ≡ fie
       pub field_there : (w < length firsts) × (get_or firsts w 0 + j < length places)
       field_there = let c = child_there v firsts places table w value parent j inside in (c.head, c.entry)
 
-      pub field_found : (c : ℕ) → c ≡ get_or places (get_or firsts w 0 + j) 0 → Finds v (on_found (as_record v w) none (λ ws. nth ws j)) (Found c)
+      pub field_found : (c : ℕ) → c ≡ get_or places (get_or firsts w 0 + j) 0 → Finds v (on_found (as_record v w) none (λ ws. nth ws j)) (Some c)
       field_found c e =
           let is : c ≡ get_or (children v w) j 0 = e ∙ (child_there v firsts places table w value parent j inside).is in
           finds_value c
@@ -121,7 +124,7 @@ pub record InSteps (t v env : List ℕ) (p : ℕ) (path : Record) (w i : ℕ) : 
   pub stands : Stands v w
 
 module _ {t : List ℕ} (v env : List ℕ) {p : ℕ} {path : Record} (f : Fetched t p path) (k : ℕ) (is : k ≡ path.a) where
-  pub path_missing : nth env k ≡ none → Finds v (path_value t v env p) Nothing
+  pub path_missing : nth env k ≡ none → Finds v (path_value t v env p) None
   unfolding path_value variable field_a
   path_missing h = finds_nothing (on_none none _ (rw (← f.a, ← is) h))
 
@@ -139,7 +142,7 @@ on_on none j k e = rw (← e)
 on_on (some ws) j k e = rw e
 
 module _ {t v env : List ℕ} {p : ℕ} {path : Record} {w i : ℕ} (inv : InSteps t v env p path w i) (n : ℕ) (e : n ≡ length (steps_in path)) where
-  pub steps_end : n ≤ i → Finds v (path_value t v env p) (Found w)
+  pub steps_end : n ≤ i → Finds v (path_value t v env p) (Some w)
   unfolding value_along
   steps_end h = finds_value w (sym inv.same ∙ rw (steps_done path n i e h)) inv.stands
 
@@ -148,7 +151,7 @@ module _ {t v env : List ℕ} {p : ℕ} {path : Record} {w i : ℕ} (inv : InSte
     unfolding value_along
     along o h = sym (rw (steps_more path n i j e more step) (on_on _ j _ h)) ∙ inv.same
 
-    pub steps_stop : on_found (as_record v w) none (λ ws. nth ws j) ≡ none → Finds v (path_value t v env p) Nothing
+    pub steps_stop : on_found (as_record v w) none (λ ws. nth ws j) ≡ none → Finds v (path_value t v env p) None
     unfolding on_found
     steps_stop h = finds_nothing (sym (along none h))
 

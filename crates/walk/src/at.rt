@@ -91,7 +91,7 @@ pub fn ended(number: u32, at: At) -> Run
         place: at.node,
         bytes: at.bytes,
         steps: at.steps,
-        number: number,
+        number,
     }
 }
 

@@ -18,8 +18,8 @@ mod writer;
 
 use at::{At, stuck};
 use state::Run;
+use tables::head_at;
 pub use tables::mark;
-use tables::{Lookup, head_at};
 use variables::bind;
 use visits::{body_of, visit};
 
@@ -30,11 +30,7 @@ const LEVELS: usize = 200;
 fn clear(s: &mut [u16])
     ensures { s.new ≡ replicate (length s.old) 0 }
 {
-    let mut i = 0;
-    while i < s.len() {
-        s[i] = 0;
-        i += 1;
-    }
+    s.fill(0);
 }
 
 // A node to start with: all levels are left, and nothing is counted.
@@ -42,12 +38,12 @@ fn start(node: usize, fuel: u32) -> At
     ensures { result ≡ start_at node fuel }
 {
     At {
-        node: node,
+        node,
         element: 0,
         base: 0,
         vars: 1,
         left: LEVELS,
-        fuel: fuel,
+        fuel,
         steps: 0,
         bytes: 0,
     }
@@ -69,7 +65,7 @@ pub fn run(
     requires { Walkable (sources g.now t.now v.now productions.now templates.now firsts.now places.now) scratch.old }
     ensures { Walked g.now t.now v.now fuel result out.old out.new scratch.old scratch.new }
 {
-    let Lookup::Found(template) = head_at(templates, 0) else {
+    let Some(template) = head_at(templates, 0) else {
         clear(scratch);
         return stuck(start(0, fuel));
     };

@@ -10,24 +10,22 @@ ghost use Rattle.walk.specs.Asks.{ValueLent, Follows};
 ghost use Rattle.walk.specs.Frames.{frame, Passed};
 ghost use Rattle.walk.specs.Lookups.{Finds};
 
-use crate::tables::{Lookup, child_at};
+use crate::tables::child_at;
 use crate::variables::{bind, variable};
 use records::path::{step_at, steps_of, variable_of};
 use stream::record::fetch;
 
 // Field j of the value at w, if that is a record that has it.
-fn field(v: &[u8], firsts: &[u16], places: &[u16], w: u16, j: u16) -> Lookup
+fn field(v: &[u8], firsts: &[u16], places: &[u16], w: u16, j: u16) -> Option<u16>
     requires { (ValueLent v.now firsts.now places.now) × (Stands v.now w) }
     ensures { Finds v.now (on_found (as_record v.now w) none (λ ws. nth ws j)) result }
 {
-    let head = fetch(v, w as usize);
-    if head.kind != 4 {
-        return Lookup::Nothing;
+    let head = fetch(v, usize::from(w));
+    if head.kind == 4 && j < head.d {
+        Some(child_at(firsts, places, w, j))
+    } else {
+        None
     }
-    if head.d <= j {
-        return Lookup::Nothing;
-    }
-    Lookup::Found(child_at(firsts, places, w, j))
 }
 
 // The value that the path at p finds.
@@ -40,25 +38,16 @@ pub fn path_value(
     base: usize,
     vars: usize,
     p: usize,
-) -> Lookup
+) -> Option<u16>
     requires { Follows t.now v.now firsts.now places.now base vars scratch.now }
     ensures { Finds v.now (path_value t.now v.now (frame base vars scratch.now) p) result }
 {
     let path = fetch(t, p);
-    let Lookup::Found(first) = variable(scratch, base, vars, variable_of(path)) else {
-        return Lookup::Nothing;
-    };
-    let n = steps_of(path);
-    let mut w = first;
-    let mut i = 0;
-    while i < n {
-        let Lookup::Found(next) = field(v, firsts, places, w, step_at(path, i)) else {
-            return Lookup::Nothing;
-        };
-        w = next;
-        i += 1;
+    let mut w = variable(scratch, base, vars, variable_of(path))?;
+    for i in 0..steps_of(path) {
+        w = field(v, firsts, places, w, step_at(path, i))?;
     }
-    Lookup::Found(w)
+    Some(w)
 }
 
 // Whether n paths in a row from p on all find values. If `stored`, these become a frame right behind this one.
@@ -78,16 +67,13 @@ pub fn pass(
     ensures { Passed t.now v.now base vars p n stored result scratch.old scratch.new }
 {
     let next = base + vars;
-    let mut i = 0;
-    while i < n {
-        let Lookup::Found(w) = path_value(t, v, firsts, places, scratch, base, vars, p + i) else {
+    for i in 0..n {
+        let Some(w) = path_value(t, v, firsts, places, scratch, base, vars, p + i) else {
             return false;
         };
-        let turn = i + 1;
         if stored {
             bind(scratch, next, i, w);
         }
-        i = turn;
     }
     true
 }

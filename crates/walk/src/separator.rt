@@ -24,10 +24,7 @@ pub struct Separator {
 pub fn fills(element: usize, e: Record) -> bool
     ensures { result ≡ fills_at element e }
 {
-    if element == 0 {
-        return false;
-    }
-    is_repetition(e)
+    element != 0 && is_repetition(e)
 }
 
 // The separator of a sequence: e is the record of the element that it stands for.
@@ -46,10 +43,7 @@ pub fn separator_of(at: At, e: Record) -> Separator
 pub fn is_due(sep: Separator, before: usize) -> bool
     ensures { result ≡ due_at sep before }
 {
-    if before == 0 {
-        return false;
-    }
-    sep.length != 0
+    before != 0 && sep.length != 0
 }
 
 // Writes the separator before an item that is not the first of its sequence.

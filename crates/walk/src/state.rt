@@ -22,8 +22,5 @@ pub struct Turns {
 pub fn turned(run: Run, items: usize) -> Turns
     ensures { result ≡ turns_of run items }
 {
-    Turns {
-        run: run,
-        items: items,
-    }
+    Turns { run, items }
 }

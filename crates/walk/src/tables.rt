@@ -1,5 +1,5 @@
 // What the tables tell: the heads of productions and templates by their numbers, which classes are escaped, and the children of a value.
-ghost use Rattle.std.specs.Prelude.{◌≡◌, List, cond, eqb, ℕ, ◌+◌, ◌-◌, ◌≤◌, ◌<◌, length, get_or};
+ghost use Rattle.std.specs.Prelude.{◌≡◌, List, ℕ, ◌+◌, ◌-◌, ◌≤◌, ◌<◌, length, get_or};
 ghost use Rattle.std.proofs.Math.Option.{none};
 ghost use Rattle.rules.specs.Records.{nth};
 ghost use Rattle.rules.specs.Blocks.{stream_length};
@@ -10,29 +10,11 @@ ghost use Rattle.walk.specs.Marks.{ProductionHeads, escapes_at, mark_of, Marked}
 use records::class::is_escaped;
 use stream::record::fetch;
 
-// The place of something that was looked for: a value, or a head.
-#[derive(Clone, Copy)]
-pub enum Lookup {
-    Found(u16),
-    Nothing,
-}
-
 // The head with this number.
-pub fn head_at(heads: &[u16], number: u16) -> Lookup
+pub fn head_at(heads: &[u16], number: u16) -> Option<u16>
     ensures { lookup_of result ≡ nth heads.now number }
 {
-    let n = number as usize;
-    if n < heads.len() {
-        Lookup::Found(heads[n])
-    } else {
-        Lookup::Nothing
-    }
-}
-
-fn wide(n: u16) -> usize
-    ensures { (result ≡ n) × (result < 65536) }
-{
-    n as usize
+    heads.get(usize::from(number)).copied()
 }
 
 // How many marks the table of productions has: its last entry.
@@ -40,20 +22,18 @@ fn marks_in(heads: &[u16]) -> usize
     requires { 1 ≤ length heads.now }
     ensures { (result ≡ get_or heads.now (length heads.now - 1) 0) × (result < 65536) }
 {
-    wide(heads[heads.len() - 1])
+    usize::from(heads[heads.len() - 1])
 }
 
 // The production with this number. Its table has the marks of the classes first, and last how many these are.
-pub fn production_at(heads: &[u16], number: u16) -> Lookup
+pub fn production_at(heads: &[u16], number: u16) -> Option<u16>
     requires { 1 ≤ length heads.now }
     ensures { (g : List ℕ) → ProductionHeads g heads.now → lookup_of result ≡ production g number }
 {
-    let n = marks_in(heads) + number as usize;
-    if n + 1 < heads.len() {
-        Lookup::Found(heads[n])
-    } else {
-        Lookup::Nothing
-    }
+    let before_last = &heads[..heads.len() - 1];
+    before_last
+        .get(marks_in(heads) + usize::from(number))
+        .copied()
 }
 
 // Whether the position of an element of the grammar asks for a lexeme of an escaped class. Element 0 stands for a nonterminal. Most grammars have
@@ -63,18 +43,12 @@ pub fn is_escaped_at(g: &[u8], heads: &[u16], element: usize) -> bool
     ensures { result ≡ escapes_at g.now element }
 {
     let marks = marks_in(heads);
-    if marks == 0 {
-        return false;
-    }
-    if element == 0 {
+    if marks == 0 || element == 0 {
         return false;
     }
     let e = fetch(g, element);
-    if e.a != 1 {
-        return false;
-    }
-    let class = e.b as usize;
-    if marks <= class {
+    let class = usize::from(e.b);
+    if e.a != 1 || marks <= class {
         return false;
     }
     heads[class] == 1
@@ -85,18 +59,7 @@ fn mark_of(g: &[u8], p: u16) -> u16
     requires { stream_length g.now ≡ none }
     ensures { result ≡ mark_of g.now p }
 {
-    if is_escaped(fetch(g, p as usize)) {
-        1
-    } else {
-        0
-    }
-}
-
-// How many marks are used: all, as soon as one is set.
-fn used(n: usize, mark: u16, all: usize) -> usize
-    ensures { result ≡ cond (eqb mark 0) n all }
-{
-    if mark == 0 { n } else { all }
+    u16::from(is_escaped(fetch(g, usize::from(p))))
 }
 
 // Puts marks in the place of the heads of classes. The answer is how many marks there are: none, where no class is escaped.
@@ -104,15 +67,14 @@ pub fn mark(g: &[u8], classes: &mut [u16]) -> usize
     requires { stream_length g.now ≡ none }
     ensures { Marked g.now classes.old classes.new result }
 {
-    let mut n = 0;
-    let mut i = 0;
-    while i < classes.len() {
-        let m = mark_of(g, classes[i]);
-        classes[i] = m;
-        n = used(n, m, classes.len());
-        i += 1;
+    for class in classes.iter_mut() {
+        *class = mark_of(g, *class);
     }
-    n
+    if classes.contains(&1) {
+        classes.len()
+    } else {
+        0
+    }
 }
 
 // Child j of the value at w.
@@ -120,8 +82,6 @@ pub fn child_at(firsts: &[u16], places: &[u16], w: u16, j: u16) -> u16
     requires { (w < length firsts.now) × (get_or firsts.now w 0 + j < length places.now) }
     ensures { result ≡ get_or places.now (get_or firsts.now w 0 + j) 0 }
 {
-    let i = w as usize;
-    let first = firsts[i] as usize;
-    let k = first + j as usize;
-    places[k]
+    let first = usize::from(firsts[usize::from(w)]);
+    places[first + usize::from(j)]
 }

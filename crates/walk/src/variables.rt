@@ -4,19 +4,12 @@ ghost use Rattle.rules.specs.Records.{nth};
 ghost use Rattle.walk.specs.Frames.{frame, Bound};
 ghost use Rattle.walk.specs.Lookups.{lookup_of};
 
-use crate::tables::Lookup;
-
 // Variable k of a frame.
-pub fn variable(scratch: &[u16], base: usize, vars: usize, k: usize) -> Lookup
+pub fn variable(scratch: &[u16], base: usize, vars: usize, k: usize) -> Option<u16>
     requires { base + vars ≤ length scratch.now }
     ensures { lookup_of result ≡ nth (frame base vars scratch.now) k }
 {
-    if k < vars {
-        let i = base + k;
-        Lookup::Found(scratch[i])
-    } else {
-        Lookup::Nothing
-    }
+    scratch[base..base + vars].get(k).copied()
 }
 
 // One variable more, right behind those of a frame: the whole value, a parameter, a loop's item, the content of a case.
@@ -24,6 +17,5 @@ pub fn bind(scratch: &mut [u16], base: usize, vars: usize, w: u16)
     requires { base + vars < length scratch.old }
     ensures { Bound base vars w scratch.old scratch.new }
 {
-    let slot = base + vars;
-    scratch[slot] = w;
+    scratch[base + vars] = w;
 }

@@ -17,7 +17,7 @@ use crate::at::{At, ended, going, stuck};
 use crate::paths::{pass, path_value};
 use crate::separator::{Separator, fills, is_due, separate, separator_of};
 use crate::state::{Run, Turns, turned};
-use crate::tables::{Lookup, child_at, head_at, production_at};
+use crate::tables::{child_at, head_at, production_at};
 use crate::variables::bind;
 use crate::writer::{place, write};
 use records::element::size_of;
@@ -149,8 +149,7 @@ fn for_node(
         return turned(ended(11, here), before);
     }
     let path = here.node + 1;
-    let Lookup::Found(w) = path_value(t, v, firsts, places, scratch, here.base, here.vars, path)
-    else {
+    let Some(w) = path_value(t, v, firsts, places, scratch, here.base, here.vars, path) else {
         return turned(stuck(here), before);
     };
     let list = fetch(v, w as usize);
@@ -229,7 +228,7 @@ fn build_items(
     requires { (Formed Form.Build (sources g.now t.now v.now ps.now ts.now firsts.now places.now) at out.old scratch.old) × (Fetched t.now at.node head) }
     ensures { VisitedFrom (form_at Form.Build g.now t.now v.now at out.old scratch.old) at result out.old out.new scratch.old scratch.new }
 {
-    let Lookup::Found(production) = production_at(ps, head.b) else {
+    let Some(production) = production_at(ps, head.b) else {
         return stuck(at);
     };
     let count = fetch(g, production as usize).d;
@@ -286,7 +285,7 @@ fn expand_body(
     requires { (Formed Form.Expand (sources g.now t.now v.now ps.now ts.now firsts.now places.now) at out.old scratch.old) × (Fetched t.now at.node head) }
     ensures { VisitedFrom (form_at Form.Expand g.now t.now v.now at out.old scratch.old) at result out.old out.new scratch.old scratch.new }
 {
-    let Lookup::Found(template) = head_at(ts, head.b) else {
+    let Some(template) = head_at(ts, head.b) else {
         return stuck(at);
     };
     let body = body_of(t, template);
@@ -323,7 +322,7 @@ fn if_branch(
     ensures { VisitedFrom (form_at Form.If g.now t.now v.now at out.old scratch.old) at result out.old out.new scratch.old scratch.new }
 {
     let path = at.node + 1;
-    let Lookup::Found(w) = path_value(t, v, firsts, places, scratch, at.base, at.vars, path) else {
+    let Some(w) = path_value(t, v, firsts, places, scratch, at.base, at.vars, path) else {
         return stuck(at);
     };
     let head = fetch(v, w as usize);
@@ -354,7 +353,7 @@ fn match_arm(
     ensures { VisitedFrom (form_at Form.Match g.now t.now v.now at out.old scratch.old) at result out.old out.new scratch.old scratch.new }
 {
     let path = at.node + 1;
-    let Lookup::Found(w) = path_value(t, v, firsts, places, scratch, at.base, at.vars, path) else {
+    let Some(w) = path_value(t, v, firsts, places, scratch, at.base, at.vars, path) else {
         return stuck(at);
     };
     let case = fetch(v, w as usize);

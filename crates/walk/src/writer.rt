@@ -12,7 +12,7 @@ ghost use Rattle.walk.specs.Run.{RanFrom};
 use crate::at::{At, ended, stuck};
 use crate::paths::path_value;
 use crate::state::Run;
-use crate::tables::{Lookup, is_escaped_at};
+use crate::tables::is_escaped_at;
 use entities::escape::{copy_escaped, is_own_form};
 use stream::record::fetch;
 use stream::text::{copy_text, text_after};
@@ -25,7 +25,7 @@ pub fn write(s: &[u8], i: usize, n: u16, out: &mut [u8], at: At) -> Run
 {
     let bytes = at.bytes;
     let left = out.len() - bytes;
-    let long = copy_text(s, text_after(s, i, n as usize), &mut out[bytes..]);
+    let long = copy_text(s, text_after(s, i, usize::from(n)), &mut out[bytes..]);
     written(at, left, long)
 }
 
@@ -36,7 +36,7 @@ fn write_escaped(s: &[u8], i: usize, n: u16, out: &mut [u8], at: At) -> Run
 {
     let bytes = at.bytes;
     let left = out.len() - bytes;
-    let long = copy_escaped(s, text_after(s, i, n as usize), &mut out[bytes..]);
+    let long = copy_escaped(s, text_after(s, i, usize::from(n)), &mut out[bytes..]);
     written(at, left, long)
 }
 
@@ -62,10 +62,7 @@ fn as_it_stands(g: &[u8], heads: &[u16], element: usize, v: &[u8], i: usize, n: 
     requires { (stream_length g.now ≡ none) × (ProductionHeads g.now heads.now) × (1 ≤ length heads.now) × (stream_length v.now ≡ none) }
     ensures { PlaceText g.now element (text_of v.now n i) result }
 {
-    if !is_escaped_at(g, heads, element) {
-        return true;
-    }
-    is_own_form(v, text_after(v, i, n as usize))
+    !is_escaped_at(g, heads, element) || is_own_form(v, text_after(v, i, usize::from(n)))
 }
 
 // A place writes the text that its path finds: in the position of an escaped class, its escaped form.
@@ -83,17 +80,17 @@ pub fn place(
     requires { (Follows t.now v.now firsts.now places.now at.base at.vars scratch.now) × (InReach 1 at.node) × (at.bytes ≤ length out.old) × (stream_length g.now ≡ none) × (ProductionHeads g.now heads.now) × (1 ≤ length heads.now) }
     ensures { RanFrom (place_at g.now t.now v.now at out.old scratch.now) at result out.old out.new }
 {
-    let Lookup::Found(w) = path_value(t, v, firsts, places, scratch, at.base, at.vars, at.node + 1)
-    else {
+    let Some(w) = path_value(t, v, firsts, places, scratch, at.base, at.vars, at.node + 1) else {
         return stuck(at);
     };
-    let i = w as usize;
+    let i = usize::from(w);
     let head = fetch(v, i);
     if head.kind != 1 {
         return stuck(at);
     }
     if as_it_stands(g, heads, at.element, v, i, head.b) {
-        return write(v, i, head.b, out, at);
+        write(v, i, head.b, out, at)
+    } else {
+        write_escaped(v, i, head.b, out, at)
     }
-    write_escaped(v, i, head.b, out, at)
 }

@@ -14,10 +14,10 @@ pub bind-requires : goal.bind-requires
 bind-requires c = omega (arith, scratch_room c.requires)
 
 pub visit-r-requires : goal.visit-r-requires
-visit-r-requires c = start_visitable c.requires (got c.head_at.ensures c.in-Found.is) _ c.body_of-body.ensures.0 c.bind.ensures c.bind.auto.scratch _ c.start-2.ensures c.body_of-body.ensures.1 _
+visit-r-requires c = start_visitable c.requires (got c.head_at.ensures c.in-Some.is) _ c.body_of-body.ensures.0 c.bind.ensures c.bind.auto.scratch _ c.start-2.ensures c.body_of-body.ensures.1 _
 
 pub shape_of-scratch : goal.shape_of-scratch
 shape_of-scratch c = c.clear-2.auto.s ∙ c.visit-r.auto.scratch ∙ c.bind.auto.scratch
 
 pub returns : goal.returns
-returns c = start_walked c.requires (got c.head_at.ensures c.in-Found.is) _ c.body_of-body.ensures.0 c.bind.ensures c.bind.auto.scratch _ c.start-2.ensures c.visit-r.ensures c.visit-r.auto.scratch c.clear-2.ensures
+returns c = start_walked c.requires (got c.head_at.ensures c.in-Some.is) _ c.body_of-body.ensures.0 c.bind.ensures c.bind.auto.scratch _ c.start-2.ensures c.visit-r.ensures c.visit-r.auto.scratch c.clear-2.ensures

@@ -1,10 +1,6 @@
-use Prim.Native.Nat.{◌-◌}
 use Rattle.walk.specs.Frames.{frame}
 use Rattle.walk.proofs.PathLaws.{InSteps}
 use Rattle.walk.proofs.paths.path_value.Given as goal
 
 abbrev pub invariant-loop-i : goal.invariant-loop-i
 invariant-loop-i l = InSteps l.t l.v (frame l.base l.vars l.scratch) l.p l.path l.w l.i
-
-abbrev pub decreases-loop-i : goal.decreases-loop-i
-decreases-loop-i l = l.n - l.i

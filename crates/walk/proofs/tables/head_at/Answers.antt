@@ -1,9 +1,7 @@
-use mathlib.Core.Path.{sym}
-use Rattle.laws.specs.Lists.{nth_some, nth_none}
+use mathlib.Core.Path.{ap, ◌∙◌}
+use Rattle.rules.specs.Records.{nth}
+use Rattle.walk.proofs.PathLaws.{entry_is}
 use Rattle.walk.proofs.tables.head_at.Goals as goal
 
-pub returns-then-n-heads : goal.returns-then-n-heads
-returns-then-n-heads c = sym (nth_some _ _ c.if-n-heads.true)
-
-pub returns-else-n-heads : goal.returns-else-n-heads
-returns-else-n-heads c = sym (nth_none _ _ c.if-n-heads.false)
+pub returns : goal.returns
+returns c = entry_is _ _ _ _ c.get.ensures.lookup c.copied.ensures ∙ ap (nth c.args.heads.now) c.from.ensures

@@ -1,8 +1,7 @@
-use Rattle.walk.proofs.MarkLaws.{production_found, production_lost}
+use mathlib.Core.Path.{◌∙◌}
+use Rattle.walk.proofs.PathLaws.{entry_is}
+use Rattle.walk.proofs.MarkLaws.{production_is}
 use Rattle.walk.proofs.tables.production_at.Goals as goal
 
-pub returns-then-n-heads : goal.returns-then-n-heads
-returns-then-n-heads c = λ g h. production_found h _ _ c.marks_in.ensures.0 c.if-n-heads.true
-
-pub returns-else-n-heads : goal.returns-else-n-heads
-returns-else-n-heads c = λ g h. production_lost h _ _ c.marks_in.ensures.0 c.if-n-heads.false
+pub returns : goal.returns
+returns c = λ g h. entry_is _ _ _ _ c.get.ensures.lookup c.copied.ensures ∙ rw c.from.ensures (production_is h _ _ c.marks_in.ensures.0)

@@ -1,9 +1,10 @@
-use Rattle.walk.proofs.PathLaws.{variable_some}
-use Rattle.laws.specs.Lists.{first_none}
+use Prim.Native.Nat.{◌+◌, ◌-◌}
+use mathlib.Core.Path.{◌≡◌}
+use native.Mathlib.Omega.{arith}
+use Rattle.walk.proofs.PathLaws.{entry_is}
 use Rattle.walk.proofs.variables.variable.Goals as goal
 
-pub returns-then-k-vars : goal.returns-then-k-vars
-returns-then-k-vars c = variable_some _ _ _ _ c.requires c.if-k-vars.true
-
-pub returns-else-k-vars : goal.returns-else-k-vars
-returns-else-k-vars c = first_none _ _ _ c.if-k-vars.false
+pub returns : goal.returns
+returns c =
+    let e : c.args.base + c.args.vars - c.args.base ≡ c.args.vars = omega arith in
+    rw e at (entry_is _ _ _ _ c.get.ensures.lookup c.copied.ensures)

@@ -34,7 +34,7 @@ pub build_items-overflow_add-child : goal.build_items-overflow_add-child
 build_items-overflow_add-child t c = record { fits = omega (arith, c.requires.0.visitable.near) }
 
 pub build_items-loop-taken-init : goal.build_items-loop-taken-init
-build_items-loop-taken-init t c = build_start c.requires.0 c.requires.1 _ (got (c.production_at.ensures _ c.requires.0.visitable.lent.productions_are) c.in-Found.is) (omega arith) c.fetch-count.ensures
+build_items-loop-taken-init t c = build_start c.requires.0 c.requires.1 _ (got (c.production_at.ensures _ c.requires.0.visitable.lent.productions_are) c.in-Some.is) (omega arith) c.fetch-count.ensures
 
 pub build_items-fetch-e-requires : goal.build_items-fetch-e-requires
 build_items-fetch-e-requires t c = c.requires.0.visitable.lent.grammar_sized
@@ -127,19 +127,19 @@ pub expand_body-overflow_add-next : goal.expand_body-overflow_add-next
 expand_body-overflow_add-next t c = record { fits = omega (arith, vars_inside c.requires.0, c.well_formed.1.1.1.1.1.1.1.1.1.0.0) }
 
 pub expand_body-pass-requires : goal.expand_body-pass-requires
-expand_body-pass-requires t c = (follows c.requires.0, expand_room c.requires.0 _ c.requires.1.b (got c.head_at.ensures c.in-Found.is) _ c.requires.1.d, omega (arith, c.requires.0.visitable.near, count_few c.requires.0 _ c.requires.1.b (got c.head_at.ensures c.in-Found.is) _ c.requires.1.d))
+expand_body-pass-requires t c = (follows c.requires.0, expand_room c.requires.0 _ c.requires.1.b (got c.head_at.ensures c.in-Some.is) _ c.requires.1.d, omega (arith, c.requires.0.visitable.near, count_few c.requires.0 _ c.requires.1.b (got c.head_at.ensures c.in-Some.is) _ c.requires.1.d))
 
 pub expand_body-shape_of-scratch-then-not-pass : goal.expand_body-shape_of-scratch-then-not-pass
 expand_body-shape_of-scratch-then-not-pass t c = c.pass.auto.scratch
 
 pub expand_body-returns-then-not-pass : goal.expand_body-returns-then-not-pass
-expand_body-returns-then-not-pass t c = enter_lost c.requires.0 _ c.requires.1.b (got c.head_at.ensures c.in-Found.is) _ c.requires.1.d c.pass.ensures c.pass.auto.scratch (c.if-not-pass.true) c.stuck-then-not-pass.ensures
+expand_body-returns-then-not-pass t c = enter_lost c.requires.0 _ c.requires.1.b (got c.head_at.ensures c.in-Some.is) _ c.requires.1.d c.pass.ensures c.pass.auto.scratch (c.if-not-pass.true) c.stuck-then-not-pass.ensures
 
 pub expand_body-below-requires : goal.expand_body-below-requires
 expand_body-below-requires t c = c.requires.0.level
 
 pub expand_body-visit-requires : goal.expand_body-visit-requires
-expand_body-visit-requires t c = (omega (arith, c.decreases, enter_falls c.requires.0 _ c.requires.1.b (got c.head_at.ensures c.in-Found.is) _ c.requires.1.d c.pass.ensures c.pass.auto.scratch (c.if-not-pass.false) _ c.body_of-body.ensures.0 c.below.ensures c.framed-below.ensures), enter_visitable c.requires.0 _ c.requires.1.b (got c.head_at.ensures c.in-Found.is) _ c.requires.1.d c.pass.ensures c.pass.auto.scratch (c.if-not-pass.false) _ c.body_of-body.ensures.0 c.below.ensures c.framed-below.ensures c.body_of-body.ensures.1)
+expand_body-visit-requires t c = (omega (arith, c.decreases, enter_falls c.requires.0 _ c.requires.1.b (got c.head_at.ensures c.in-Some.is) _ c.requires.1.d c.pass.ensures c.pass.auto.scratch (c.if-not-pass.false) _ c.body_of-body.ensures.0 c.below.ensures c.framed-below.ensures), enter_visitable c.requires.0 _ c.requires.1.b (got c.head_at.ensures c.in-Some.is) _ c.requires.1.d c.pass.ensures c.pass.auto.scratch (c.if-not-pass.false) _ c.body_of-body.ensures.0 c.below.ensures c.framed-below.ensures c.body_of-body.ensures.1)
 
 pub expand_body-shape_of-out : goal.expand_body-shape_of-out
 expand_body-shape_of-out t c = c.visit.auto.out
@@ -148,7 +148,7 @@ pub expand_body-shape_of-scratch : goal.expand_body-shape_of-scratch
 expand_body-shape_of-scratch t c = c.visit.auto.scratch ∙ c.pass.auto.scratch
 
 pub expand_body-returns : goal.expand_body-returns
-expand_body-returns t c = enter_visited c.requires.0 _ c.requires.1.b (got c.head_at.ensures c.in-Found.is) _ c.requires.1.d c.pass.ensures c.pass.auto.scratch (c.if-not-pass.false) _ c.body_of-body.ensures.0 c.below.ensures c.framed-below.ensures c.visit.ensures
+expand_body-returns t c = enter_visited c.requires.0 _ c.requires.1.b (got c.head_at.ensures c.in-Some.is) _ c.requires.1.d c.pass.ensures c.pass.auto.scratch (c.if-not-pass.false) _ c.body_of-body.ensures.0 c.below.ensures c.framed-below.ensures c.visit.ensures
 
 pub for_items-overflow_add-body : goal.for_items-overflow_add-body
 for_items-overflow_add-body t c = record { fits = omega (arith, c.requires.0.visitable.near) }
@@ -264,10 +264,10 @@ pub for_node-shape_of-scratch-then-list-ne3 : goal.for_node-shape_of-scratch-the
 for_node-shape_of-scratch-then-list-ne3 t c = refl
 
 pub for_node-returns-then-list-ne3 : goal.for_node-returns-then-list-ne3
-for_node-returns-then-list-ne3 t c = rw c.turned-then-list-ne3.ensures (turned_over 99 c.counted-here.result (λ z. omega arith) c.stuck-then-list-ne3.ensures (form_asked c.requires.0 _ (leb-false _ _ (sym c.spent.ensures ∙ c.if-spent.false)) c.counted-here.ensures c.if-at-eq0.false c.requires.1 (visited_stuck c.counted-here.result (form_formed c.requires.0 (leb-false _ _ (sym c.spent.ensures ∙ c.if-spent.false)) c.counted-here.ensures c.if-at-eq0.false c.requires.1).visitable.room c.stuck-then-list-ne3.ensures (for_none _ _ _ _ _ _ _ _ _ _ _ (listed_other _ _ _ _ _ _ _ _ (got c.path_value.ensures.is c.in-Found.is) (λ e. c.if-list-ne3.true (c.fetch-list.ensures.kind ∙ e)))))))
+for_node-returns-then-list-ne3 t c = rw c.turned-then-list-ne3.ensures (turned_over 99 c.counted-here.result (λ z. omega arith) c.stuck-then-list-ne3.ensures (form_asked c.requires.0 _ (leb-false _ _ (sym c.spent.ensures ∙ c.if-spent.false)) c.counted-here.ensures c.if-at-eq0.false c.requires.1 (visited_stuck c.counted-here.result (form_formed c.requires.0 (leb-false _ _ (sym c.spent.ensures ∙ c.if-spent.false)) c.counted-here.ensures c.if-at-eq0.false c.requires.1).visitable.room c.stuck-then-list-ne3.ensures (for_none _ _ _ _ _ _ _ _ _ _ _ (listed_other _ _ _ _ _ _ _ _ (got c.path_value.ensures.is c.in-Some.is) (λ e. c.if-list-ne3.true (c.fetch-list.ensures.kind ∙ e)))))))
 
 pub for_node-for_items-run-requires : goal.for_node-for_items-run-requires
-for_node-for_items-run-requires t c = (omega (arith, c.decreases, form_falls c.requires.0 (leb-false _ _ (sym c.spent.ensures ∙ c.if-spent.false)) c.counted-here.ensures), ((form_formed c.requires.0 (leb-false _ _ (sym c.spent.ensures ∙ c.if-spent.false)) c.counted-here.ensures c.if-at-eq0.false c.requires.1), (list_there _ (got c.path_value.ensures.is c.in-Found.is) (c.path_value.ensures.stands _ (got c.path_value.ensures.is c.in-Found.is)) c.fetch-list.ensures c.if-list-ne3.false), c.requires.2))
+for_node-for_items-run-requires t c = (omega (arith, c.decreases, form_falls c.requires.0 (leb-false _ _ (sym c.spent.ensures ∙ c.if-spent.false)) c.counted-here.ensures), ((form_formed c.requires.0 (leb-false _ _ (sym c.spent.ensures ∙ c.if-spent.false)) c.counted-here.ensures c.if-at-eq0.false c.requires.1), (list_there _ (got c.path_value.ensures.is c.in-Some.is) (c.path_value.ensures.stands _ (got c.path_value.ensures.is c.in-Some.is)) c.fetch-list.ensures c.if-list-ne3.false), c.requires.2))
 
 pub for_node-overflow_add-before : goal.for_node-overflow_add-before
 for_node-overflow_add-before t c = record { fits = omega (arith, c.requires.2) }
@@ -279,7 +279,7 @@ pub for_node-shape_of-scratch : goal.for_node-shape_of-scratch
 for_node-shape_of-scratch t c = c.for_items-run.auto.scratch
 
 pub for_node-returns : goal.for_node-returns
-for_node-returns t c = rw c.turned-2.ensures (turned_whole _ c.counted-here.ensures (form_formed c.requires.0 (leb-false _ _ (sym c.spent.ensures ∙ c.if-spent.false)) c.counted-here.ensures c.if-at-eq0.false c.requires.1) (list_there _ (got c.path_value.ensures.is c.in-Found.is) (c.path_value.ensures.stands _ (got c.path_value.ensures.is c.in-Found.is)) c.fetch-list.ensures c.if-list-ne3.false) (form_asked c.requires.0 _ (leb-false _ _ (sym c.spent.ensures ∙ c.if-spent.false)) c.counted-here.ensures c.if-at-eq0.false c.requires.1 c.for_items-run.ensures))
+for_node-returns t c = rw c.turned-2.ensures (turned_whole _ c.counted-here.ensures (form_formed c.requires.0 (leb-false _ _ (sym c.spent.ensures ∙ c.if-spent.false)) c.counted-here.ensures c.if-at-eq0.false c.requires.1) (list_there _ (got c.path_value.ensures.is c.in-Some.is) (c.path_value.ensures.stands _ (got c.path_value.ensures.is c.in-Some.is)) c.fetch-list.ensures c.if-list-ne3.false) (form_asked c.requires.0 _ (leb-false _ _ (sym c.spent.ensures ∙ c.if-spent.false)) c.counted-here.ensures c.if-at-eq0.false c.requires.1 c.for_items-run.ensures))
 
 pub if_branch-overflow_add-path : goal.if_branch-overflow_add-path
 if_branch-overflow_add-path t c = record { fits = omega (arith, c.requires.visitable.near) }
@@ -300,7 +300,7 @@ pub if_branch-shape_of-scratch-then-head-ne2 : goal.if_branch-shape_of-scratch-t
 if_branch-shape_of-scratch-then-head-ne2 t c = refl
 
 pub if_branch-returns-then-head-ne2 : goal.if_branch-returns-then-head-ne2
-if_branch-returns-then-head-ne2 t c = visited_stuck c.args.at c.requires.visitable.room c.stuck-then-head-ne2.ensures (if_other _ _ _ _ _ _ _ _ _ _ _ (got c.path_value.ensures.is c.in-Found.is) _ c.fetch-head.ensures.kind c.if-head-ne2.true)
+if_branch-returns-then-head-ne2 t c = visited_stuck c.args.at c.requires.visitable.room c.stuck-then-head-ne2.ensures (if_other _ _ _ _ _ _ _ _ _ _ _ (got c.path_value.ensures.is c.in-Some.is) _ c.fetch-head.ensures.kind c.if-head-ne2.true)
 
 pub if_branch-branch_of-branch-requires : goal.if_branch-branch_of-branch-requires
 if_branch-branch_of-branch-requires t c = (c.requires.visitable.lent.templates_sized, omega (arith, c.requires.level, c.requires.visitable.near))
@@ -318,7 +318,7 @@ pub if_branch-shape_of-scratch : goal.if_branch-shape_of-scratch
 if_branch-shape_of-scratch t c = c.visit.auto.scratch
 
 pub if_branch-returns : goal.if_branch-returns
-if_branch-returns t c = branch_visited c.requires c.below-below.ensures (if_is _ _ _ _ _ _ _ _ _ _ _ (got c.path_value.ensures.is c.in-Found.is) _ c.fetch-head.ensures.kind c.if-head-ne2.false _ _ c.fetch-head.ensures.a c.branch_of-branch.ensures.0) c.visit.ensures
+if_branch-returns t c = branch_visited c.requires c.below-below.ensures (if_is _ _ _ _ _ _ _ _ _ _ _ (got c.path_value.ensures.is c.in-Some.is) _ c.fetch-head.ensures.kind c.if-head-ne2.false _ _ c.fetch-head.ensures.a c.branch_of-branch.ensures.0) c.visit.ensures
 
 pub match_arm-overflow_add-path : goal.match_arm-overflow_add-path
 match_arm-overflow_add-path t c = record { fits = omega (arith, c.requires.0.visitable.near) }
@@ -339,19 +339,19 @@ pub match_arm-shape_of-scratch-then-case-ne5 : goal.match_arm-shape_of-scratch-t
 match_arm-shape_of-scratch-then-case-ne5 t c = refl
 
 pub match_arm-returns-then-case-ne5 : goal.match_arm-returns-then-case-ne5
-match_arm-returns-then-case-ne5 t c = visited_stuck c.args.at c.requires.0.visitable.room c.stuck-then-case-ne5.ensures (match_other _ _ _ _ _ _ _ _ _ _ _ (got c.path_value.ensures.is c.in-Found.is) _ c.fetch-case.ensures.kind c.if-case-ne5.true)
+match_arm-returns-then-case-ne5 t c = visited_stuck c.args.at c.requires.0.visitable.room c.stuck-then-case-ne5.ensures (match_other _ _ _ _ _ _ _ _ _ _ _ (got c.path_value.ensures.is c.in-Some.is) _ c.fetch-case.ensures.kind c.if-case-ne5.true)
 
 pub match_arm-shape_of-scratch-then-head-case : goal.match_arm-shape_of-scratch-then-head-case
 match_arm-shape_of-scratch-then-head-case t c = refl
 
 pub match_arm-returns-then-head-case : goal.match_arm-returns-then-head-case
-match_arm-returns-then-head-case t c = visited_stuck c.args.at c.requires.0.visitable.room c.stuck-then-head-case.ensures (match_missing _ _ _ _ _ _ _ _ _ _ _ (got c.path_value.ensures.is c.in-Found.is) _ c.fetch-case.ensures.kind c.if-case-ne5.false _ c.fetch-case.ensures.a (no_arm c.requires.1 _ c.if-head-case.true))
+match_arm-returns-then-head-case t c = visited_stuck c.args.at c.requires.0.visitable.room c.stuck-then-head-case.ensures (match_missing _ _ _ _ _ _ _ _ _ _ _ (got c.path_value.ensures.is c.in-Some.is) _ c.fetch-case.ensures.kind c.if-case-ne5.false _ c.fetch-case.ensures.a (no_arm c.requires.1 _ c.if-head-case.true))
 
 pub match_arm-arm_of-arm-requires : goal.match_arm-arm_of-arm-requires
 match_arm-arm_of-arm-requires t c = (c.requires.0.visitable.lent.templates_sized, omega (arith, c.requires.0.level, c.requires.0.visitable.near))
 
 pub match_arm-child_at-content-requires : goal.match_arm-child_at-content-requires
-match_arm-child_at-content-requires t c = arm_there c.requires.0 (c.path_value.ensures.stands _ (got c.path_value.ensures.is c.in-Found.is)) c.fetch-case.ensures c.if-case-ne5.false
+match_arm-child_at-content-requires t c = arm_there c.requires.0 (c.path_value.ensures.stands _ (got c.path_value.ensures.is c.in-Some.is)) c.fetch-case.ensures c.if-case-ne5.false
 
 pub match_arm-bind-requires : goal.match_arm-bind-requires
 match_arm-bind-requires t c = vars_inside c.requires.0
@@ -363,7 +363,7 @@ pub match_arm-bound-below-requires : goal.match_arm-bound-below-requires
 match_arm-bound-below-requires t c = arm_vars c.requires.0 c.below.ensures
 
 pub match_arm-visit-requires : goal.match_arm-visit-requires
-match_arm-visit-requires t c = (omega (arith, c.decreases, arm_falls c.requires.0 (c.path_value.ensures.stands _ (got c.path_value.ensures.is c.in-Found.is)) c.fetch-case.ensures c.if-case-ne5.false (an_arm c.requires.1 _ c.if-head-case.false c.arm_of-arm.ensures.0) _ c.child_at-content.ensures _ c.bind.ensures c.below.ensures c.bound-below.ensures), arm_visitable c.requires.0 (c.path_value.ensures.stands _ (got c.path_value.ensures.is c.in-Found.is)) c.fetch-case.ensures c.if-case-ne5.false (an_arm c.requires.1 _ c.if-head-case.false c.arm_of-arm.ensures.0) _ c.child_at-content.ensures _ c.bind.ensures c.below.ensures c.bound-below.ensures c.arm_of-arm.ensures.1 c.bind.auto.scratch)
+match_arm-visit-requires t c = (omega (arith, c.decreases, arm_falls c.requires.0 (c.path_value.ensures.stands _ (got c.path_value.ensures.is c.in-Some.is)) c.fetch-case.ensures c.if-case-ne5.false (an_arm c.requires.1 _ c.if-head-case.false c.arm_of-arm.ensures.0) _ c.child_at-content.ensures _ c.bind.ensures c.below.ensures c.bound-below.ensures), arm_visitable c.requires.0 (c.path_value.ensures.stands _ (got c.path_value.ensures.is c.in-Some.is)) c.fetch-case.ensures c.if-case-ne5.false (an_arm c.requires.1 _ c.if-head-case.false c.arm_of-arm.ensures.0) _ c.child_at-content.ensures _ c.bind.ensures c.below.ensures c.bound-below.ensures c.arm_of-arm.ensures.1 c.bind.auto.scratch)
 
 pub match_arm-shape_of-out : goal.match_arm-shape_of-out
 match_arm-shape_of-out t c = c.visit.auto.out
@@ -372,7 +372,7 @@ pub match_arm-shape_of-scratch : goal.match_arm-shape_of-scratch
 match_arm-shape_of-scratch t c = c.visit.auto.scratch ∙ c.bind.auto.scratch
 
 pub match_arm-returns : goal.match_arm-returns
-match_arm-returns t c = arm_visited c.requires.0 (c.path_value.ensures.stands _ (got c.path_value.ensures.is c.in-Found.is)) c.fetch-case.ensures c.if-case-ne5.false (an_arm c.requires.1 _ c.if-head-case.false c.arm_of-arm.ensures.0) _ c.child_at-content.ensures _ c.bind.ensures c.below.ensures c.bound-below.ensures (got c.path_value.ensures.is c.in-Found.is) c.visit.ensures
+match_arm-returns t c = arm_visited c.requires.0 (c.path_value.ensures.stands _ (got c.path_value.ensures.is c.in-Some.is)) c.fetch-case.ensures c.if-case-ne5.false (an_arm c.requires.1 _ c.if-head-case.false c.arm_of-arm.ensures.0) _ c.child_at-content.ensures _ c.bind.ensures c.below.ensures c.bound-below.ensures (got c.path_value.ensures.is c.in-Some.is) c.visit.ensures
 
 pub sequence_items-fetch-e-requires : goal.sequence_items-fetch-e-requires
 sequence_items-fetch-e-requires t c = c.requires.0.visitable.lent.grammar_sized
