@@ -65,6 +65,9 @@ pub record Follows (t v firsts places : List ℕ) (base vars : ℕ) (scratch : L
   pub inside : base + vars ≤ length scratch
   pub held : Held v (frame base vars scratch)
 
+abbrev pub FollowsIn : Sources → ℕ → ℕ → List ℕ → Type 0
+FollowsIn s base vars scratch = Follows s.templates s.value s.firsts s.places base vars scratch
+
 -- a node that may be visited: its variables, and those of the levels left, have their numbers in the scratch; with no level left none is read
 pub record Visitable (s : Sources) (at : At) (out scratch : List ℕ) : Type 0 where
   pub lent : WalkLent s

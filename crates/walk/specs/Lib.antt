@@ -6,3 +6,4 @@ pub mod Marks
 pub mod Turns
 pub mod Bodies
 pub mod Asks
+pub mod Visits

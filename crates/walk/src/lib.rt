@@ -10,6 +10,7 @@ ghost use Rattle.walk.specs.Run.{Walked};
 mod at;
 mod paths;
 mod separator;
+mod sources;
 pub mod state;
 mod tables;
 mod variables;
@@ -17,6 +18,7 @@ mod visits;
 mod writer;
 
 use at::{At, stuck};
+use sources::Sources;
 use state::Run;
 use tables::head_at;
 pub use tables::mark;
@@ -71,18 +73,16 @@ pub fn run(
     };
     let body = body_of(t, template);
     bind(scratch, 0, 0, 0);
-    let r = visit(
-        start(body, fuel),
-        g,
-        t,
-        productions,
-        out,
-        v,
+    let s = Sources {
+        grammar: g,
+        templates: t,
+        value: v,
+        production_heads: productions,
+        template_heads: templates,
         firsts,
         places,
-        scratch,
-        templates,
-    );
+    };
+    let r = visit(start(body, fuel), &s, out, scratch);
     clear(scratch);
     r
 }

@@ -6,23 +6,25 @@ ghost use Rattle.rules.specs.Records.{nth};
 ghost use Rattle.rules.specs.Value.{as_record};
 ghost use Rattle.rules.specs.Walk.{path_value};
 ghost use Rattle.records.specs.Children.{Stands};
-ghost use Rattle.walk.specs.Asks.{ValueLent, Follows};
+ghost use Rattle.walk.specs.Asks.{ValueLent, FollowsIn};
 ghost use Rattle.walk.specs.Frames.{frame, Passed};
 ghost use Rattle.walk.specs.Lookups.{Finds};
+ghost use Rattle.walk.specs.Visits.{sources_of};
 
+use crate::sources::Sources;
 use crate::tables::child_at;
 use crate::variables::{bind, variable};
 use records::path::{step_at, steps_of, variable_of};
 use stream::record::fetch;
 
 // Field j of the value at w, if that is a record that has it.
-fn field(v: &[u8], firsts: &[u16], places: &[u16], w: u16, j: u16) -> Option<u16>
-    requires { (ValueLent v.now firsts.now places.now) × (Stands v.now w) }
-    ensures { Finds v.now (on_found (as_record v.now w) none (λ ws. nth ws j)) result }
+fn field(s: &Sources<'_>, w: u16, j: u16) -> Option<u16>
+    requires { (ValueLent s.now.value.now s.now.firsts.now s.now.places.now) × (Stands s.now.value.now w) }
+    ensures { Finds s.now.value.now (on_found (as_record s.now.value.now w) none (λ ws. nth ws j)) result }
 {
-    let head = fetch(v, usize::from(w));
+    let head = fetch(s.value, usize::from(w));
     if head.kind == 4 && j < head.d {
-        Some(child_at(firsts, places, w, j))
+        Some(child_at(s.firsts, s.places, w, j))
     } else {
         None
     }
@@ -30,32 +32,26 @@ fn field(v: &[u8], firsts: &[u16], places: &[u16], w: u16, j: u16) -> Option<u16
 
 // The value that the path at p finds.
 pub fn path_value(
-    t: &[u8],
-    v: &[u8],
-    firsts: &[u16],
-    places: &[u16],
+    s: &Sources<'_>,
     scratch: &[u16],
     base: usize,
     vars: usize,
     p: usize,
 ) -> Option<u16>
-    requires { Follows t.now v.now firsts.now places.now base vars scratch.now }
-    ensures { Finds v.now (path_value t.now v.now (frame base vars scratch.now) p) result }
+    requires { FollowsIn (sources_of s.now) base vars scratch.now }
+    ensures { Finds s.now.value.now (path_value s.now.templates.now s.now.value.now (frame base vars scratch.now) p) result }
 {
-    let path = fetch(t, p);
+    let path = fetch(s.templates, p);
     let mut w = variable(scratch, base, vars, variable_of(path))?;
     for i in 0..steps_of(path) {
-        w = field(v, firsts, places, w, step_at(path, i))?;
+        w = field(s, w, step_at(path, i))?;
     }
     Some(w)
 }
 
 // Whether n paths in a row from p on all find values. If `stored`, these become a frame right behind this one.
 pub fn pass(
-    t: &[u8],
-    v: &[u8],
-    firsts: &[u16],
-    places: &[u16],
+    s: &Sources<'_>,
     scratch: &mut [u16],
     base: usize,
     vars: usize,
@@ -63,12 +59,12 @@ pub fn pass(
     n: usize,
     stored: bool,
 ) -> bool
-    requires { (Follows t.now v.now firsts.now places.now base vars scratch.old) × (stored ≡ true → base + vars + n ≤ length scratch.old) × (p + n < 2 ^ 60) }
-    ensures { Passed t.now v.now base vars p n stored result scratch.old scratch.new }
+    requires { (FollowsIn (sources_of s.now) base vars scratch.old) × (stored ≡ true → base + vars + n ≤ length scratch.old) × (p + n < 2 ^ 60) }
+    ensures { Passed s.now.templates.now s.now.value.now base vars p n stored result scratch.old scratch.new }
 {
     let next = base + vars;
     for i in 0..n {
-        let Some(w) = path_value(t, v, firsts, places, scratch, base, vars, p + i) else {
+        let Some(w) = path_value(s, scratch, base, vars, p + i) else {
             return false;
         };
         if stored {

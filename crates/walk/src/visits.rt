@@ -1,21 +1,21 @@
 // The visit of a node and of what stands below it: a cycle of functions. A call of `visit` below another has one level less, so the calls are
-// at most 201 levels deep, whatever the lists hold; items, children and elements are walked by loops. Each is given its node, and lent the three
-// streams g, t and v, the tables of heads ps (productions) and ts (templates), that of the value's children, the output and the scratch. What a
-// build reads and writes is named first: the first few go in registers, and builds are what nests deepest.
+// at most 201 levels deep, whatever the lists hold; items, children and elements are walked by loops. Each is given its node, and lent what a
+// walk reads, the output and the scratch.
 ghost use Rattle.std.specs.Prelude.{◌≡◌, cond, ◌+◌, ◌*◌, ◌≤◌, ◌<◌, ◌^◌, eqb};
 ghost use Rattle.std.proofs.Math.Option.{none};
 ghost use Rattle.rules.specs.Blocks.{stream_length};
 ghost use Rattle.rules.specs.Records.{field_c, after};
 ghost use Rattle.rules.specs.Templates.{body, form_of, first, second};
 ghost use Rattle.stream.specs.Record.{Fetched};
-ghost use Rattle.walk.specs.Asks.{InReach, sources, Visitable, Formed, Listed};
-ghost use Rattle.walk.specs.Nodes.{visit_at, form_at, turns_at};
+ghost use Rattle.walk.specs.Asks.{InReach, Visitable, Formed, Listed};
 ghost use Rattle.walk.specs.Run.{VisitedFrom};
 ghost use Rattle.walk.specs.Turns.{Turned};
+ghost use Rattle.walk.specs.Visits.{sources_of, visit_end, form_end, turns_end};
 
 use crate::at::{At, ended, going, stuck};
 use crate::paths::{pass, path_value};
 use crate::separator::{Separator, fills, is_due, separate, separator_of};
+use crate::sources::Sources;
 use crate::state::{Run, Turns, turned};
 use crate::tables::{child_at, head_at, production_at};
 use crate::variables::bind;
@@ -63,23 +63,11 @@ fn arm_of(t: &[u8], node: usize, case: u8) -> usize
 // A sequence visits its items in order, with its separator between them; n of them so far. A for among them brings any number. The two ways stay apart
 // until the next turn, as those of a build.
 #[cycle(visits)]
-fn sequence_items(
-    at: At,
-    head: Record,
-    g: &[u8],
-    t: &[u8],
-    ps: &[u16],
-    out: &mut [u8],
-    v: &[u8],
-    firsts: &[u16],
-    places: &[u16],
-    scratch: &mut [u16],
-    ts: &[u16],
-) -> Run
-    requires { (Formed Form.Sequence (sources g.now t.now v.now ps.now ts.now firsts.now places.now) at out.old scratch.old) × (Fetched t.now at.node head) }
-    ensures { VisitedFrom (form_at Form.Sequence g.now t.now v.now at out.old scratch.old) at result out.old out.new scratch.old scratch.new }
+fn sequence_items(at: At, head: Record, s: &Sources<'_>, out: &mut [u8], scratch: &mut [u16]) -> Run
+    requires { (Formed Form.Sequence (sources_of s.now) at out.old scratch.old) × (Fetched s.now.templates.now at.node head) }
+    ensures { VisitedFrom (form_end Form.Sequence (sources_of s.now) at out.old scratch.old) at result out.old out.new scratch.old scratch.new }
 {
-    let e = fetch(g, at.element);
+    let e = fetch(s.grammar, at.element);
     if !fills(at.element, e) {
         return stuck(at);
     }
@@ -90,13 +78,13 @@ fn sequence_items(
     let mut r = going(at);
     let mut visited = 0;
     while visited < count {
-        let next = fetch(t, item);
+        let next = fetch(s.templates, item);
         let turn = visited + 1;
         visited = turn;
         if is_for(next) {
             let below = at.after(r).below(item, 0);
             item += size_in(next);
-            let end = for_node(below, sep, n, g, t, ps, out, v, firsts, places, scratch, ts);
+            let end = for_node(below, sep, n, s, out, scratch);
             r = end.run;
             if r.number != 0 {
                 return r;
@@ -104,7 +92,7 @@ fn sequence_items(
             n = end.items;
         } else {
             if is_due(sep, n) {
-                r = separate(g, sep, out, at.after(r));
+                r = separate(s.grammar, sep, out, at.after(r));
                 if r.number != 0 {
                     return r;
                 }
@@ -112,7 +100,7 @@ fn sequence_items(
             let below = at.after(r).below(item, 0);
             item += size_in(next);
             n += 1;
-            r = visit(below, g, t, ps, out, v, firsts, places, scratch, ts);
+            r = visit(below, s, out, scratch);
             if r.number != 0 {
                 return r;
             }
@@ -128,18 +116,12 @@ fn for_node(
     at: At,
     sep: Separator,
     before: usize,
-    g: &[u8],
-    t: &[u8],
-    ps: &[u16],
+    s: &Sources<'_>,
     out: &mut [u8],
-    v: &[u8],
-    firsts: &[u16],
-    places: &[u16],
     scratch: &mut [u16],
-    ts: &[u16],
 ) -> Turns
-    requires { (Visitable (sources g.now t.now v.now ps.now ts.now firsts.now places.now) at out.old scratch.old) × (form_of t.now at.node ≡ Form.For) × (before < 2 ^ 32) }
-    ensures { Turned g.now t.now v.now sep before at result out.old out.new scratch.old scratch.new }
+    requires { (Visitable (sources_of s.now) at out.old scratch.old) × (form_of s.now.templates.now at.node ≡ Form.For) × (before < 2 ^ 32) }
+    ensures { Turned s.now.grammar.now s.now.templates.now s.now.value.now sep before at result out.old out.new scratch.old scratch.new }
 {
     if at.spent() {
         return turned(ended(10, at), before);
@@ -149,17 +131,15 @@ fn for_node(
         return turned(ended(11, here), before);
     }
     let path = here.node + 1;
-    let Some(w) = path_value(t, v, firsts, places, scratch, here.base, here.vars, path) else {
+    let Some(w) = path_value(s, scratch, here.base, here.vars, path) else {
         return turned(stuck(here), before);
     };
-    let list = fetch(v, w as usize);
+    let list = fetch(s.value, w as usize);
     if list.kind != 3 {
         return turned(stuck(here), before);
     }
     let count = list.d;
-    let run = for_items(
-        here, w, count, sep, before, g, t, ps, out, v, firsts, places, scratch, ts,
-    );
+    let run = for_items(here, w, count, sep, before, s, out, scratch);
     turned(run, before + count as usize)
 }
 
@@ -171,34 +151,28 @@ fn for_items(
     count: u16,
     sep: Separator,
     before: usize,
-    g: &[u8],
-    t: &[u8],
-    ps: &[u16],
+    s: &Sources<'_>,
     out: &mut [u8],
-    v: &[u8],
-    firsts: &[u16],
-    places: &[u16],
     scratch: &mut [u16],
-    ts: &[u16],
 ) -> Run
-    requires { (Formed Form.For (sources g.now t.now v.now ps.now ts.now firsts.now places.now) at out.old scratch.old) × (Listed t.now v.now at scratch.old w count) × (before < 2 ^ 32) }
-    ensures { VisitedFrom (turns_at g.now t.now v.now sep before at out.old scratch.old) at result out.old out.new scratch.old scratch.new }
+    requires { (Formed Form.For (sources_of s.now) at out.old scratch.old) × (Listed s.now.templates.now s.now.value.now at scratch.old w count) × (before < 2 ^ 32) }
+    ensures { VisitedFrom (turns_end (sources_of s.now) sep before at out.old scratch.old) at result out.old out.new scratch.old scratch.new }
 {
     let body = at.node + 2;
     let mut here = at;
     let mut done = 0;
     while done < count {
         if is_due(sep, before + done as usize) {
-            let written = separate(g, sep, out, here);
+            let written = separate(s.grammar, sep, out, here);
             if written.number != 0 {
                 return written;
             }
             here = here.after(written);
         }
-        let item = child_at(firsts, places, w, done);
+        let item = child_at(s.firsts, s.places, w, done);
         bind(scratch, at.base, at.vars, item);
         let below = here.below(body, 0).bound();
-        let end = visit(below, g, t, ps, out, v, firsts, places, scratch, ts);
+        let end = visit(below, s, out, scratch);
         if end.number != 0 {
             return end;
         }
@@ -212,37 +186,25 @@ fn for_items(
 // A build takes the elements of its production in order: it writes a keyword, and visits the next child for any other. The two ways stay apart
 // until the next turn: a function for both would be slower.
 #[cycle(visits)]
-fn build_items(
-    at: At,
-    head: Record,
-    g: &[u8],
-    t: &[u8],
-    ps: &[u16],
-    out: &mut [u8],
-    v: &[u8],
-    firsts: &[u16],
-    places: &[u16],
-    scratch: &mut [u16],
-    ts: &[u16],
-) -> Run
-    requires { (Formed Form.Build (sources g.now t.now v.now ps.now ts.now firsts.now places.now) at out.old scratch.old) × (Fetched t.now at.node head) }
-    ensures { VisitedFrom (form_at Form.Build g.now t.now v.now at out.old scratch.old) at result out.old out.new scratch.old scratch.new }
+fn build_items(at: At, head: Record, s: &Sources<'_>, out: &mut [u8], scratch: &mut [u16]) -> Run
+    requires { (Formed Form.Build (sources_of s.now) at out.old scratch.old) × (Fetched s.now.templates.now at.node head) }
+    ensures { VisitedFrom (form_end Form.Build (sources_of s.now) at out.old scratch.old) at result out.old out.new scratch.old scratch.new }
 {
-    let Some(production) = production_at(ps, head.b) else {
+    let Some(production) = production_at(s.production_heads, head.b) else {
         return stuck(at);
     };
-    let count = fetch(g, production as usize).d;
+    let count = fetch(s.grammar, production as usize).d;
     let mut element = production as usize + 1;
     let mut child = at.node + 1;
     let mut used = 0;
     let mut here = at;
     let mut taken = 0;
     while taken < count {
-        let e = fetch(g, element);
+        let e = fetch(s.grammar, element);
         let turn = taken + 1;
         taken = turn;
         if e.a == 0 {
-            let written = write(g, element, e.b, out, here);
+            let written = write(s.grammar, element, e.b, out, here);
             if written.number != 0 {
                 return written;
             }
@@ -255,12 +217,12 @@ fn build_items(
             let below = here.below(child, element);
             element += size_of(e);
             used += 1;
-            let end = visit(below, g, t, ps, out, v, firsts, places, scratch, ts);
+            let end = visit(below, s, out, scratch);
             if end.number != 0 {
                 return end;
             }
             here = here.after(end);
-            child += size_at(t, child);
+            child += size_at(s.templates, child);
         }
     }
     going(here)
@@ -269,123 +231,75 @@ fn build_items(
 // An expand enters the body of its template with a fresh set of variables, those that its paths find, right behind its own. With no level
 // left below it they are only looked for: the body is not visited, and reads none.
 #[cycle(visits)]
-fn expand_body(
-    at: At,
-    head: Record,
-    g: &[u8],
-    t: &[u8],
-    ps: &[u16],
-    out: &mut [u8],
-    v: &[u8],
-    firsts: &[u16],
-    places: &[u16],
-    scratch: &mut [u16],
-    ts: &[u16],
-) -> Run
-    requires { (Formed Form.Expand (sources g.now t.now v.now ps.now ts.now firsts.now places.now) at out.old scratch.old) × (Fetched t.now at.node head) }
-    ensures { VisitedFrom (form_at Form.Expand g.now t.now v.now at out.old scratch.old) at result out.old out.new scratch.old scratch.new }
+fn expand_body(at: At, head: Record, s: &Sources<'_>, out: &mut [u8], scratch: &mut [u16]) -> Run
+    requires { (Formed Form.Expand (sources_of s.now) at out.old scratch.old) × (Fetched s.now.templates.now at.node head) }
+    ensures { VisitedFrom (form_end Form.Expand (sources_of s.now) at out.old scratch.old) at result out.old out.new scratch.old scratch.new }
 {
-    let Some(template) = head_at(ts, head.b) else {
+    let Some(template) = head_at(s.template_heads, head.b) else {
         return stuck(at);
     };
-    let body = body_of(t, template);
+    let body = body_of(s.templates, template);
     let paths = at.node + 1;
     let count = head.d as usize;
     let base = at.base;
     let vars = at.vars;
     let next = base + vars;
     let stored = 1 < at.left;
-    if !pass(
-        t, v, firsts, places, scratch, base, vars, paths, count, stored,
-    ) {
+    if !pass(s, scratch, base, vars, paths, count, stored) {
         return stuck(at);
     }
     let below = at.below(body, 0).framed(next, count);
-    visit(below, g, t, ps, out, v, firsts, places, scratch, ts)
+    visit(below, s, out, scratch)
 }
 
 // An if visits only the branch taken.
 #[cycle(visits)]
-fn if_branch(
-    at: At,
-    g: &[u8],
-    t: &[u8],
-    ps: &[u16],
-    out: &mut [u8],
-    v: &[u8],
-    firsts: &[u16],
-    places: &[u16],
-    scratch: &mut [u16],
-    ts: &[u16],
-) -> Run
-    requires { Formed Form.If (sources g.now t.now v.now ps.now ts.now firsts.now places.now) at out.old scratch.old }
-    ensures { VisitedFrom (form_at Form.If g.now t.now v.now at out.old scratch.old) at result out.old out.new scratch.old scratch.new }
+fn if_branch(at: At, s: &Sources<'_>, out: &mut [u8], scratch: &mut [u16]) -> Run
+    requires { Formed Form.If (sources_of s.now) at out.old scratch.old }
+    ensures { VisitedFrom (form_end Form.If (sources_of s.now) at out.old scratch.old) at result out.old out.new scratch.old scratch.new }
 {
     let path = at.node + 1;
-    let Some(w) = path_value(t, v, firsts, places, scratch, at.base, at.vars, path) else {
+    let Some(w) = path_value(s, scratch, at.base, at.vars, path) else {
         return stuck(at);
     };
-    let head = fetch(v, w as usize);
+    let head = fetch(s.value, w as usize);
     if head.kind != 2 {
         return stuck(at);
     }
-    let branch = branch_of(t, at.node, head.a);
+    let branch = branch_of(s.templates, at.node, head.a);
     let below = at.below(branch, at.element);
-    visit(below, g, t, ps, out, v, firsts, places, scratch, ts)
+    visit(below, s, out, scratch)
 }
 
 // A match visits only the arm of its case, with the case's content as one variable more.
 #[cycle(visits)]
-fn match_arm(
-    at: At,
-    head: Record,
-    g: &[u8],
-    t: &[u8],
-    ps: &[u16],
-    out: &mut [u8],
-    v: &[u8],
-    firsts: &[u16],
-    places: &[u16],
-    scratch: &mut [u16],
-    ts: &[u16],
-) -> Run
-    requires { (Formed Form.Match (sources g.now t.now v.now ps.now ts.now firsts.now places.now) at out.old scratch.old) × (Fetched t.now at.node head) }
-    ensures { VisitedFrom (form_at Form.Match g.now t.now v.now at out.old scratch.old) at result out.old out.new scratch.old scratch.new }
+fn match_arm(at: At, head: Record, s: &Sources<'_>, out: &mut [u8], scratch: &mut [u16]) -> Run
+    requires { (Formed Form.Match (sources_of s.now) at out.old scratch.old) × (Fetched s.now.templates.now at.node head) }
+    ensures { VisitedFrom (form_end Form.Match (sources_of s.now) at out.old scratch.old) at result out.old out.new scratch.old scratch.new }
 {
     let path = at.node + 1;
-    let Some(w) = path_value(t, v, firsts, places, scratch, at.base, at.vars, path) else {
+    let Some(w) = path_value(s, scratch, at.base, at.vars, path) else {
         return stuck(at);
     };
-    let case = fetch(v, w as usize);
+    let case = fetch(s.value, w as usize);
     if case.kind != 5 {
         return stuck(at);
     }
     if head.d <= case.a as u16 {
         return stuck(at);
     }
-    let arm = arm_of(t, at.node, case.a);
-    let content = child_at(firsts, places, w, 0);
+    let arm = arm_of(s.templates, at.node, case.a);
+    let content = child_at(s.firsts, s.places, w, 0);
     bind(scratch, at.base, at.vars, content);
     let below = at.below(arm, at.element).bound();
-    visit(below, g, t, ps, out, v, firsts, places, scratch, ts)
+    visit(below, s, out, scratch)
 }
 
 // A visit of a node: it is tried for 10, counts one step, and is tried for 11; then its form decides.
 #[cycle(visits)]
-pub fn visit(
-    at: At,
-    g: &[u8],
-    t: &[u8],
-    ps: &[u16],
-    out: &mut [u8],
-    v: &[u8],
-    firsts: &[u16],
-    places: &[u16],
-    scratch: &mut [u16],
-    ts: &[u16],
-) -> Run
-    requires { Visitable (sources g.now t.now v.now ps.now ts.now firsts.now places.now) at out.old scratch.old }
-    ensures { VisitedFrom (visit_at g.now t.now v.now at out.old scratch.old) at result out.old out.new scratch.old scratch.new }
+pub fn visit(at: At, s: &Sources<'_>, out: &mut [u8], scratch: &mut [u16]) -> Run
+    requires { Visitable (sources_of s.now) at out.old scratch.old }
+    ensures { VisitedFrom (visit_end (sources_of s.now) at out.old scratch.old) at result out.old out.new scratch.old scratch.new }
 {
     if at.spent() {
         return ended(10, at);
@@ -394,16 +308,16 @@ pub fn visit(
     if at.left == 0 {
         return ended(11, here);
     }
-    let head = fetch(t, here.node);
+    let head = fetch(s.templates, here.node);
     match form_of(head) {
-        Form::Build => build_items(here, head, g, t, ps, out, v, firsts, places, scratch, ts),
-        Form::Literal => write(t, here.node, head.b, out, here),
-        Form::Place => place(g, ps, t, v, firsts, places, out, scratch, here),
-        Form::Expand => expand_body(here, head, g, t, ps, out, v, firsts, places, scratch, ts),
-        Form::If => if_branch(here, g, t, ps, out, v, firsts, places, scratch, ts),
+        Form::Build => build_items(here, head, s, out, scratch),
+        Form::Literal => write(s.templates, here.node, head.b, out, here),
+        Form::Place => place(s, out, scratch, here),
+        Form::Expand => expand_body(here, head, s, out, scratch),
+        Form::If => if_branch(here, s, out, scratch),
         Form::For => stuck(here),
-        Form::Sequence => sequence_items(here, head, g, t, ps, out, v, firsts, places, scratch, ts),
-        Form::Match => match_arm(here, head, g, t, ps, out, v, firsts, places, scratch, ts),
+        Form::Sequence => sequence_items(here, head, s, out, scratch),
+        Form::Match => match_arm(here, head, s, out, scratch),
         Form::Unknown => stuck(here),
     }
 }

@@ -4,13 +4,15 @@ ghost use Rattle.std.proofs.Math.Option.{none};
 ghost use Rattle.rules.specs.Blocks.{stream_length};
 ghost use Rattle.rules.specs.Records.{text_of};
 ghost use Rattle.rules.specs.Escape.{escape};
-ghost use Rattle.walk.specs.Asks.{Follows, InReach};
+ghost use Rattle.walk.specs.Asks.{FollowsIn, InReach};
 ghost use Rattle.walk.specs.Nodes.{write_at, written_at, place_at};
 ghost use Rattle.walk.specs.Marks.{ProductionHeads, PlaceText};
 ghost use Rattle.walk.specs.Run.{RanFrom};
+ghost use Rattle.walk.specs.Visits.{sources_of};
 
 use crate::at::{At, ended, stuck};
 use crate::paths::path_value;
+use crate::sources::Sources;
 use crate::state::Run;
 use crate::tables::is_escaped_at;
 use entities::escape::{copy_escaped, is_own_form};
@@ -66,31 +68,28 @@ fn as_it_stands(g: &[u8], heads: &[u16], element: usize, v: &[u8], i: usize, n: 
 }
 
 // A place writes the text that its path finds: in the position of an escaped class, its escaped form.
-pub fn place(
-    g: &[u8],
-    heads: &[u16],
-    t: &[u8],
-    v: &[u8],
-    firsts: &[u16],
-    places: &[u16],
-    out: &mut [u8],
-    scratch: &[u16],
-    at: At,
-) -> Run
-    requires { (Follows t.now v.now firsts.now places.now at.base at.vars scratch.now) × (InReach 1 at.node) × (at.bytes ≤ length out.old) × (stream_length g.now ≡ none) × (ProductionHeads g.now heads.now) × (1 ≤ length heads.now) }
-    ensures { RanFrom (place_at g.now t.now v.now at out.old scratch.now) at result out.old out.new }
+pub fn place(s: &Sources<'_>, out: &mut [u8], scratch: &[u16], at: At) -> Run
+    requires { (FollowsIn (sources_of s.now) at.base at.vars scratch.now) × (InReach 1 at.node) × (at.bytes ≤ length out.old) × (stream_length s.now.grammar.now ≡ none) × (ProductionHeads s.now.grammar.now s.now.production_heads.now) × (1 ≤ length s.now.production_heads.now) }
+    ensures { RanFrom (place_at s.now.grammar.now s.now.templates.now s.now.value.now at out.old scratch.now) at result out.old out.new }
 {
-    let Some(w) = path_value(t, v, firsts, places, scratch, at.base, at.vars, at.node + 1) else {
+    let Some(w) = path_value(s, scratch, at.base, at.vars, at.node + 1) else {
         return stuck(at);
     };
     let i = usize::from(w);
-    let head = fetch(v, i);
+    let head = fetch(s.value, i);
     if head.kind != 1 {
         return stuck(at);
     }
-    if as_it_stands(g, heads, at.element, v, i, head.b) {
-        write(v, i, head.b, out, at)
+    if as_it_stands(
+        s.grammar,
+        s.production_heads,
+        at.element,
+        s.value,
+        i,
+        head.b,
+    ) {
+        write(s.value, i, head.b, out, at)
     } else {
-        write_escaped(v, i, head.b, out, at)
+        write_escaped(s.value, i, head.b, out, at)
     }
 }

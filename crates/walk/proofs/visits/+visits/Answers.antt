@@ -19,7 +19,7 @@ use Rattle.walk.proofs.MatchLaws.{no_arm, an_arm, arm_there, arm_vars, arm_visit
 use Rattle.walk.proofs.EnterLaws.{spent_visited, deepest_visited, form_asked, form_falls, form_here, form_formed, form_visited, form_ran}
 use borrow.Author.Rules.{rules}
 use Rattle.walk.proofs.visits.+visits.Goals as goal
-use Rattle.walk.proofs.visits.+visits.Goals.{for_items-then-is_due+else-written-ne0, for_items-else-is_due, sequence_items-then-is_due+else-r-ne0-2, sequence_items-else-is_due}
+use Rattle.walk.proofs.visits.+visits.Goals.{for_items-Joined-is_due, sequence_items-Joined-is_due, for_items-then-is_due+else-written-ne0, for_items-else-is_due, sequence_items-then-is_due+else-r-ne0-2, sequence_items-else-is_due}
 
 pub build_items-production_at-requires : goal.build_items-production_at-requires
 build_items-production_at-requires t c = heads_some c.requires.0.visitable.lent.productions_are
@@ -124,7 +124,7 @@ pub expand_body-overflow_add-paths : goal.expand_body-overflow_add-paths
 expand_body-overflow_add-paths t c = record { fits = omega (arith, c.requires.0.visitable.near) }
 
 pub expand_body-overflow_add-next : goal.expand_body-overflow_add-next
-expand_body-overflow_add-next t c = record { fits = omega (arith, vars_inside c.requires.0, c.well_formed.1.1.1.1.1.1.1.1.1.0.0) }
+expand_body-overflow_add-next t c = record { fits = omega (arith, c.requires.0.visitable.alive) }
 
 pub expand_body-pass-requires : goal.expand_body-pass-requires
 expand_body-pass-requires t c = (follows c.requires.0, expand_room c.requires.0 _ c.requires.1.b (got c.head_at.ensures c.in-Some.is) _ c.requires.1.d, omega (arith, c.requires.0.visitable.near, count_few c.requires.0 _ c.requires.1.b (got c.head_at.ensures c.in-Some.is) _ c.requires.1.d))
@@ -173,8 +173,8 @@ for_items-returns-then-written-ne0 t c = for_apart_stop c.requires.0 c.requires.
 
 -- What is so of an item once the separator before it is written or not asked for. Goals further on share the record of that place: it is some steps
 -- above their own.
-for_items_past : (t : ℕ) (c : goal.for_items-Joined-is_due t)
-    → Apart c.args.g.now c.args.sep (c.args.before + c.loop-done.done) c.loop-done.here c.loop-done.out (ended_at 0 c.if-is_due.here) c.if-is_due.out
+for_items_past : (t : ℕ) (c : for_items-Joined-is_due t)
+    → Apart c.args.s.now.grammar.now c.args.sep (c.args.before + c.loop-done.done) c.loop-done.here c.loop-done.out (ended_at 0 c.if-is_due.here) c.if-is_due.out
     × (c.if-is_due.here ≡ after_at c.args.at (ended_at 0 c.if-is_due.here))
 for_items_past t c =
     elim c.if-is_due.branch [
@@ -190,22 +190,22 @@ for_items-bind-requires t c = for_slot c.requires.0 c.requires.1 c.loop-done.inv
 
 pub for_items-below-requires : goal.for_items-below-requires
 for_items-below-requires t c =
-    let past = for_items_past t (record { before = c.before.before.before.before.before.before; type_inv = search rules }) in
+    let past = for_items_past t (goal.at.for_items-below-requires t c).Joined-is_due in
     for_level c.requires.0 c.requires.1 c.loop-done.invariant c.loop-done-test.true past.0 past.1
 
 pub for_items-bound-below-requires : goal.for_items-bound-below-requires
 for_items-bound-below-requires t c =
-    let past = for_items_past t (record { before = c.before.before.before.before.before.before.before; type_inv = search rules }) in
+    let past = for_items_past t (goal.at.for_items-bound-below-requires t c).Joined-is_due in
     for_vars c.requires.0 c.requires.1 c.loop-done.invariant c.loop-done-test.true past.0 past.1 c.below.ensures
 
 pub for_items-visit-end-requires : goal.for_items-visit-end-requires
 for_items-visit-end-requires t c =
-    let past = for_items_past t (record { before = c.before.before.before.before.before.before.before.before.before.before; type_inv = search rules }) in
+    let past = for_items_past t (goal.at.for_items-visit-end-requires t c).Joined-is_due in
     (omega (arith, c.decreases, for_falls c.requires.0 c.requires.1 c.loop-done.invariant c.loop-done-test.true past.0 past.1 _ c.child_at-item.ensures _ c.bind.ensures c.bind.auto.scratch c.below.ensures c.bound-below.ensures), for_visitable c.requires.0 c.requires.1 c.loop-done.invariant c.loop-done-test.true past.0 past.1 _ c.child_at-item.ensures _ c.bind.ensures c.bind.auto.scratch c.below.ensures c.bound-below.ensures)
 
 pub for_items-shape_of-out-then-end-ne0 : goal.for_items-shape_of-out-then-end-ne0
 for_items-shape_of-out-then-end-ne0 t c =
-    let past = for_items_past t (record { before = c.before.before.before.before.before.before.before.before.before.before.before.before.before.before.before.before.before; type_inv = search rules }) in
+    let past = for_items_past t (goal.at.for_items-shape_of-out-then-end-ne0 t c).Joined-is_due in
     c.visit-end.auto.out ∙ past.0.len ∙ c.loop-done.invariant.going.len
 
 pub for_items-shape_of-scratch-then-end-ne0 : goal.for_items-shape_of-scratch-then-end-ne0
@@ -213,7 +213,7 @@ for_items-shape_of-scratch-then-end-ne0 t c = c.visit-end.auto.scratch ∙ c.bin
 
 pub for_items-returns-then-end-ne0 : goal.for_items-returns-then-end-ne0
 for_items-returns-then-end-ne0 t c =
-    let past = for_items_past t (record { before = c.before.before.before.before.before.before.before.before.before.before.before.before.before.before.before.before.before; type_inv = search rules }) in
+    let past = for_items_past t (goal.at.for_items-returns-then-end-ne0 t c).Joined-is_due in
     for_stop c.requires.0 c.requires.1 c.loop-done.invariant c.loop-done-test.true past.0 past.1 _ c.child_at-item.ensures _ c.bind.ensures c.bind.auto.scratch c.below.ensures c.bound-below.ensures c.visit-end.ensures c.visit-end.auto.out c.if-end-ne0.true
 
 pub for_items-overflow_add-turn : goal.for_items-overflow_add-turn
@@ -224,7 +224,7 @@ for_items-loop-done-smaller t c = omega (arith, c.loop-done-test.true)
 
 pub for_items-loop-done-preserved : goal.for_items-loop-done-preserved
 for_items-loop-done-preserved t c =
-    let past = for_items_past t (record { before = c.before.before.before.before.before.before.before.before.before.before.before.before.before.before.before.before.before.before; type_inv = search rules }) in
+    let past = for_items_past t (goal.at.for_items-loop-done-preserved t c).Joined-is_due in
     for_next c.requires.0 c.requires.1 c.loop-done.invariant c.loop-done-test.true past.0 past.1 _ c.child_at-item.ensures _ c.bind.ensures c.bind.auto.scratch c.below.ensures c.bound-below.ensures c.visit-end.ensures c.visit-end.auto.out c.if-end-ne0.false c.visit-end.auto.scratch c.after-here-in-loop-done.ensures
 
 pub for_items-shape_of-out : goal.for_items-shape_of-out
@@ -432,8 +432,8 @@ pub sequence_items-after-requires-else-is_for : goal.sequence_items-after-requir
 sequence_items-after-requires-else-is_for t c = search rules
 
 -- The same of an item of a sequence itself.
-sequence_items_apart : (t : ℕ) (c : goal.sequence_items-Joined-is_due t)
-    → Apart c.args.g.now c.separator_of-sep.result c.loop-visited.n (after_at c.args.at c.loop-visited.r) c.loop-visited.out c.if-is_due.r c.if-is_due.out
+sequence_items_apart : (t : ℕ) (c : sequence_items-Joined-is_due t)
+    → Apart c.args.s.now.grammar.now c.separator_of-sep.result c.loop-visited.n (after_at c.args.at c.loop-visited.r) c.loop-visited.out c.if-is_due.r c.if-is_due.out
 sequence_items_apart t c =
     elim c.if-is_due.branch [
       | sequence_items-then-is_due+else-r-ne0-2 w ↦ apart_written c.requires.0 c.loop-visited.invariant c.loop-visited-test.true c.fetch-next.ensures (eqb-false _ _ (sym c.is_for.ensures ∙ c.if-is_for.false)) w.after-then-is_due.ensures (w.separate-r.ensures _ (due_later _ _ (sym c.is_due.ensures ∙ w.if-is_due.true))) w.separate-r.auto.out w.if-r-ne0-2.false w.out-is w.r-is
@@ -451,12 +451,12 @@ sequence_items-overflow_add-n t c = record { fits = omega (arith, items_few c.re
 
 pub sequence_items-visit-r-requires : goal.sequence_items-visit-r-requires
 sequence_items-visit-r-requires t c =
-    let past = sequence_items_apart t (record { before = c.before.before.before.before.before.before; type_inv = search rules }) in
+    let past = sequence_items_apart t (goal.at.sequence_items-visit-r-requires t c).Joined-is_due in
     (omega (arith, c.decreases, item_falls c.requires.0 c.loop-visited.invariant c.loop-visited-test.true c.fetch-next.ensures (eqb-false _ _ (sym c.is_for.ensures ∙ c.if-is_for.false)) past c.after-else-is_for.ensures c.below-below-else-is_for.ensures), item_visitable c.requires.0 c.loop-visited.invariant c.loop-visited-test.true c.fetch-next.ensures (eqb-false _ _ (sym c.is_for.ensures ∙ c.if-is_for.false)) past c.after-else-is_for.ensures c.below-below-else-is_for.ensures)
 
 pub sequence_items-shape_of-out-then-r-ne0-3 : goal.sequence_items-shape_of-out-then-r-ne0-3
 sequence_items-shape_of-out-then-r-ne0-3 t c =
-    let past = sequence_items_apart t (record { before = c.before.before.before.before.before.before.before.before.before.before.before.before.before; type_inv = search rules }) in
+    let past = sequence_items_apart t (goal.at.sequence_items-shape_of-out-then-r-ne0-3 t c).Joined-is_due in
     c.visit-r.auto.out ∙ past.len ∙ c.loop-visited.invariant.going.len
 
 pub sequence_items-shape_of-scratch-then-r-ne0-3 : goal.sequence_items-shape_of-scratch-then-r-ne0-3
@@ -464,7 +464,7 @@ sequence_items-shape_of-scratch-then-r-ne0-3 t c = c.visit-r.auto.scratch ∙ c.
 
 pub sequence_items-returns-then-r-ne0-3 : goal.sequence_items-returns-then-r-ne0-3
 sequence_items-returns-then-r-ne0-3 t c =
-    let past = sequence_items_apart t (record { before = c.before.before.before.before.before.before.before.before.before.before.before.before.before; type_inv = search rules }) in
+    let past = sequence_items_apart t (goal.at.sequence_items-returns-then-r-ne0-3 t c).Joined-is_due in
     item_stop c.requires.0 c.loop-visited.invariant c.loop-visited-test.true c.fetch-next.ensures (eqb-false _ _ (sym c.is_for.ensures ∙ c.if-is_for.false)) past c.after-else-is_for.ensures c.below-below-else-is_for.ensures c.visit-r.ensures c.visit-r.auto.out c.if-r-ne0-3.true
 
 pub sequence_items-loop-visited-smaller : goal.sequence_items-loop-visited-smaller
@@ -472,7 +472,7 @@ sequence_items-loop-visited-smaller t c = omega (arith, c.loop-visited-test.true
 
 pub sequence_items-loop-visited-preserved : goal.sequence_items-loop-visited-preserved
 sequence_items-loop-visited-preserved t c =
-    let past = sequence_items_apart t (record { before = c.before.before.before.before.before.before.before.before.before.before.before.before.before; type_inv = search rules }) in
+    let past = sequence_items_apart t (goal.at.sequence_items-loop-visited-preserved t c).Joined-is_due in
     rw c.size_in-item-else-is_for.ensures.0 (item_next c.requires.0 c.loop-visited.invariant c.loop-visited-test.true c.fetch-next.ensures (eqb-false _ _ (sym c.is_for.ensures ∙ c.if-is_for.false)) past c.after-else-is_for.ensures c.below-below-else-is_for.ensures c.visit-r.ensures c.visit-r.auto.out c.if-r-ne0-3.false c.visit-r.auto.scratch)
 
 pub sequence_items-shape_of-out : goal.sequence_items-shape_of-out

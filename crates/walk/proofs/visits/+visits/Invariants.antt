@@ -1,6 +1,6 @@
 -- The proof of the cycle of calls. The measure is twice the fuel that is left, and one more between a visit and the visits below it. Assumes nothing.
 use Prim.Native.Nat.{◌+◌, ◌-◌, ◌*◌}
-use Rattle.walk.specs.Asks.{sources}
+use Rattle.walk.specs.Visits.{sources_of}
 use Rattle.walk.proofs.LoopLaws.{InSequence}
 use Rattle.walk.proofs.ForLaws.{InFor}
 use Rattle.walk.proofs.BuildLaws.{InBuild}
@@ -31,19 +31,19 @@ abbrev pub decreases-visit : goal.decreases-visit
 decreases-visit l = 2 * (l.at.fuel - l.at.steps)
 
 abbrev pub invariant-build_items-loop-taken : goal.invariant-build_items-loop-taken
-invariant-build_items-loop-taken l = InBuild (sources l.g l.t l.v l.ps l.ts l.firsts l.places) l.initial.here l.initial.out l.initial.scratch l.production l.count l.head.d l.out l.scratch l.element l.child l.used l.here l.taken
+invariant-build_items-loop-taken l = InBuild (sources_of l.s) l.initial.here l.initial.out l.initial.scratch l.production l.count l.head.d l.out l.scratch l.element l.child l.used l.here l.taken
 
 abbrev pub decreases-build_items-loop-taken : goal.decreases-build_items-loop-taken
 decreases-build_items-loop-taken l = l.count - l.taken
 
 abbrev pub invariant-for_items-loop-done : goal.invariant-for_items-loop-done
-invariant-for_items-loop-done l = InFor (sources l.g l.t l.v l.ps l.ts l.firsts l.places) l.at l.initial.out l.initial.scratch l.sep l.before l.w l.count l.out l.scratch l.here l.done
+invariant-for_items-loop-done l = InFor (sources_of l.s) l.at l.initial.out l.initial.scratch l.sep l.before l.w l.count l.out l.scratch l.here l.done
 
 abbrev pub decreases-for_items-loop-done : goal.decreases-for_items-loop-done
 decreases-for_items-loop-done l = l.count - l.done
 
 abbrev pub invariant-sequence_items-loop-visited : goal.invariant-sequence_items-loop-visited
-invariant-sequence_items-loop-visited l = InSequence (sources l.g l.t l.v l.ps l.ts l.firsts l.places) l.at l.initial.out l.initial.scratch l.sep l.count l.out l.scratch l.item l.n l.r l.visited
+invariant-sequence_items-loop-visited l = InSequence (sources_of l.s) l.at l.initial.out l.initial.scratch l.sep l.count l.out l.scratch l.item l.n l.r l.visited
 
 abbrev pub decreases-sequence_items-loop-visited : goal.decreases-sequence_items-loop-visited
 decreases-sequence_items-loop-visited l = l.count - l.visited

@@ -1,0 +1,14 @@
+// What a walk reads.
+
+// The three streams; the heads of productions, with the marks of the escaped classes before them, and of templates; where the children of a
+// value stand, and their places.
+#[derive(Clone, Copy)]
+pub struct Sources<'a> {
+    pub grammar: &'a [u8],
+    pub templates: &'a [u8],
+    pub value: &'a [u8],
+    pub production_heads: &'a [u16],
+    pub template_heads: &'a [u16],
+    pub firsts: &'a [u16],
+    pub places: &'a [u16],
+}
