@@ -167,7 +167,7 @@ pub record Marking (g before classes : List ℕ) (i : ℕ) : Type 0 where
 pub marking_start : (g before : List ℕ) → Marking g before before 0
 marking_start g before = record { few = omega arith; so_far = refl; long = refl }
 
-mark_at : (g before : List ℕ) (i : ℕ) → i < length before → get_or (map (mark_of g) before) i 0 ≡ mark_of g (get_or before i 0)
+pub mark_at : (g before : List ℕ) (i : ℕ) → i < length before → get_or (map (mark_of g) before) i 0 ≡ mark_of g (get_or before i 0)
 mark_at g [] i l = absurd (omega arith)
 mark_at g (p ∷ ps) zero l = refl
 mark_at g (p ∷ ps) (suc i) l = mark_at g ps i (omega arith)
