@@ -41,6 +41,12 @@ pub record InBuild (s : Sources) (at : At) (out₀ s₀ : List ℕ) (place count
   pub is : here ≡ after_at at (ended_at 0 here)
   pub going : Going (build_left s at out₀ s₀ (count - taken) element (children - used) child) (form_at Build s.grammar s.templates s.value at out₀ s₀) at out₀ s₀ (ended_at 0 here) out sc
 
+-- after the element with record e: its run ends the build, or the build goes on behind it
+pub record BuildTurn (s : Sources) (at : At) (out₀ s₀ : List ℕ) (place count children : ℕ) (e : Record) (out sc : List ℕ) (element child used : ℕ) (here : At) (r : Run) (taken : ℕ) : Type 0 where
+  pub stops : (r.number ≡ 0 → ⊥) → VisitedFrom (form_at Build s.grammar s.templates s.value at out₀ s₀) at r out₀ out s₀ sc
+  pub goes : r.number ≡ 0 → {there : At} → there ≡ after_at here r → (size : ℕ) → ElementSize e size
+      → InBuild s at out₀ s₀ place count children out sc (element + size) child used there (taken + 1)
+
 module _ {s : Sources} {at : At} {out₀ s₀ : List ℕ} (formed : Formed Build s at out₀ s₀) where
   pub build_start : {head first : Record} → Fetched s.templates at.node head → (place : ℕ) → production s.grammar head.b ≡ some place → place < 65536 → Fetched s.grammar place first
       → InBuild s at out₀ s₀ place first.d head.d out₀ s₀ (place + 1) (at.node + 1) 0 at 0
@@ -93,19 +99,19 @@ module _ {s : Sources} {at : At} {out₀ s₀ : List ℕ} (formed : Formed Build
             here.steps here.bytes u out out' (at.base + at.vars) sc sc
         written = visited_ran _ sc (rw (inv.is, inv.going.len, f.b) at v)
 
-        pub keyword_stop : (u.number ≡ 0 → ⊥) → VisitedFrom (form_at Build s.grammar s.templates s.value at out₀ s₀) at u out₀ out' s₀ sc
-        keyword_stop z = piece_stop is_keyword written len z
-
-        pub keyword_next : u.number ≡ 0 → {there : At} → there ≡ after_at here u → (size : ℕ) → ElementSize e size → InBuild s at out₀ s₀ place count kids out' sc (element + size) child used there (taken + 1)
-        keyword_next z e₂ size hs = record {
-          along = inv.along;
-          place_few = inv.place_few;
-          count_few = inv.count_few;
-          used_few = omega (arith, inv.used_few);
-          some = omega (arith, inv.some);
-          near = omega (arith, inv.near, hs.small);
-          is = after_after at here u inv.is e₂;
-          going = going_there here (piece_next is_keyword written len z refl size hs) e₂;
+        pub keyword_turn : BuildTurn s at out₀ s₀ place count kids e out' sc element child used here u taken
+        keyword_turn = record {
+          stops = piece_stop is_keyword written len;
+          goes = λ z e₂ size hs. record {
+            along = inv.along;
+            place_few = inv.place_few;
+            count_few = inv.count_few;
+            used_few = omega (arith, inv.used_few);
+            some = omega (arith, inv.some);
+            near = omega (arith, inv.near, hs.small);
+            is = after_after at here u inv.is e₂;
+            going = going_there here (piece_next is_keyword written len z refl size hs) e₂;
+          };
         }
 
       -- any other: it is stuck where no child is left
@@ -130,18 +136,18 @@ module _ {s : Sources} {at : At} {out₀ s₀ : List ℕ} (formed : Formed Build
             child_visited =
                 rw (lt-ltb used kids l, ← element_there s.grammar element (λ z. omega (arith, inv.some))) (below_visited formed inv.going inv.is e₂ v)
 
-            pub child_stop : (u.number ≡ 0 → ⊥) → VisitedFrom (form_at Build s.grammar s.templates s.value at out₀ s₀) at u out₀ out' s₀ sc'
-            child_stop z = piece_stop is_other child_visited len z
-
-            pub child_next : u.number ≡ 0 → length sc' ≡ length sc → {onward : At} → onward ≡ after_at here u → (size : ℕ) → ElementSize e size → (records : ℕ) → records ≡ field_c s.templates child → records < 65536
-                → InBuild s at out₀ s₀ place count kids out' sc' (element + size) (child + records) (used + 1) onward (taken + 1)
-            child_next z lens e₃ size hs records c l = record {
-              along = along_next inv.along records c l;
-              place_few = inv.place_few;
-              count_few = inv.count_few;
-              used_few = omega (arith, inv.used_few);
-              some = omega (arith, inv.some);
-              near = omega (arith, inv.near, hs.small);
-              is = after_after at here u inv.is e₃;
-              going = rw c (going_there here (piece_next is_other child_visited len z lens size hs) e₃);
+            pub child_turn : length sc' ≡ length sc → (records : ℕ) → records ≡ field_c s.templates child → records < 65536
+                → BuildTurn s at out₀ s₀ place count kids e out' sc' element (child + records) (used + 1) here u taken
+            child_turn lens records c l = record {
+              stops = piece_stop is_other child_visited len;
+              goes = λ z e₃ size hs. record {
+                along = along_next inv.along records c l;
+                place_few = inv.place_few;
+                count_few = inv.count_few;
+                used_few = omega (arith, inv.used_few);
+                some = omega (arith, inv.some);
+                near = omega (arith, inv.near, hs.small);
+                is = after_after at here u inv.is e₃;
+                going = rw c (going_there here (piece_next is_other child_visited len z lens size hs) e₃);
+              };
             }

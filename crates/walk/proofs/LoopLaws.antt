@@ -144,6 +144,11 @@ pub record InSequence (s : Sources) (at : At) (out₀ s₀ : List ℕ) (x : Sepa
   pub few : items ≤ visited * 65535
   pub going : Going (items_left s at out₀ s₀ x items (heads (field_c s.templates) (count - visited) item)) (form_at Sequence s.grammar s.templates s.value at out₀ s₀) at out₀ s₀ r out sc
 
+-- after a node of it: its run ends the sequence, or the sequence goes on behind it
+pub record SequenceTurn (s : Sources) (at : At) (out₀ s₀ : List ℕ) (x : Separator) (count : ℕ) (out sc : List ℕ) (item items : ℕ) (r : Run) (visited : ℕ) : Type 0 where
+  pub stops : (r.number ≡ 0 → ⊥) → VisitedFrom (form_at Sequence s.grammar s.templates s.value at out₀ s₀) at r out₀ out s₀ sc
+  pub goes : r.number ≡ 0 → InSequence s at out₀ s₀ x count out sc item items r visited
+
 module _ {s : Sources} {at : At} {out₀ s₀ : List ℕ} (formed : Formed Sequence s at out₀ s₀) where
   pub sequence_lost : {e : Record} → Fetched s.grammar at.element e → fills_at at.element e ≡ false → {r : Run} → r ≡ ended_at 99 at
       → VisitedFrom (form_at Sequence s.grammar s.templates s.value at out₀ s₀) at r out₀ out₀ s₀ s₀
@@ -206,7 +211,7 @@ module _ {s : Sources} {at : At} {out₀ s₀ : List ℕ} (formed : Formed Seque
           turns_visited : Visited (visits s at out₀ s₀ as_for item (state_of r.steps r.bytes out)) r.steps r.bytes u.run out out' (at.base + at.vars) sc sc'
           turns_visited = asked_visited formed inv.going e₁ e₂ _ v.visited
 
-          pub turns_stop : (u.run.number ≡ 0 → ⊥) → VisitedFrom (form_at Sequence s.grammar s.templates s.value at out₀ s₀) at u.run out₀ out' s₀ sc'
+          turns_stop : (u.run.number ≡ 0 → ⊥) → VisitedFrom (form_at Sequence s.grammar s.templates s.value at out₀ s₀) at u.run out₀ out' s₀ sc'
           turns_stop z = going_stop inv.going _ (turns_row _) turns_visited len z
 
           -- how many it brings does not hang on the output
@@ -214,11 +219,14 @@ module _ {s : Sources} {at : At} {out₀ s₀ : List ℕ} (formed : Formed Seque
           unfolding items_of listed input
           brought z = rw (← same_frame formed inv.going) (rw (e₂, e₁) at (v.more z))
 
-          pub turns_next : u.run.number ≡ 0 → length sc' ≡ length sc → InSequence s at out₀ s₀ x count out' sc' (item + next.c) u.items u.run (visited + 1)
-          turns_next z lens = record {
-            along = sequence_along;
-            few = omega (arith, inv.few, v.few);
-            going = rw (brought z) (going_next inv.going _ (turns_row _) turns_visited len z lens);
+          pub turns_turn : length sc' ≡ length sc → SequenceTurn s at out₀ s₀ x count out' sc' (item + next.c) u.items u.run (visited + 1)
+          turns_turn lens = record {
+            stops = turns_stop;
+            goes = λ z. record {
+              along = sequence_along;
+              few = omega (arith, inv.few, v.few);
+              going = rw (brought z) (going_next inv.going _ (turns_row _) turns_visited len z lens);
+            };
           }
 
       -- any other node is one item
@@ -267,12 +275,15 @@ module _ {s : Sources} {at : At} {out₀ s₀ : List ℕ} (formed : Formed Seque
               unfolding element_for
               item_visited = visited_is (visit_any _ _ _ _ _ _ _) (below_visited formed apart_going e₂ e₃ v)
 
-              pub item_stop : (w.number ≡ 0 → ⊥) → VisitedFrom (form_at Sequence s.grammar s.templates s.value at out₀ s₀) at w out₀ out'' s₀ sc'
+              item_stop : (w.number ≡ 0 → ⊥) → VisitedFrom (form_at Sequence s.grammar s.templates s.value at out₀ s₀) at w out₀ out'' s₀ sc'
               item_stop y = going_stop apart_going _ refl item_visited len y
 
-              pub item_next : w.number ≡ 0 → length sc' ≡ length sc → InSequence s at out₀ s₀ x count out'' sc' (item + next.c) (items + 1) w (visited + 1)
-              item_next y lens = record {
-                along = sequence_along;
-                few = omega (arith, inv.few);
-                going = going_next apart_going _ refl item_visited len y lens;
+              pub item_turn : length sc' ≡ length sc → SequenceTurn s at out₀ s₀ x count out'' sc' (item + next.c) (items + 1) w (visited + 1)
+              item_turn lens = record {
+                stops = item_stop;
+                goes = λ y. record {
+                  along = sequence_along;
+                  few = omega (arith, inv.few);
+                  going = going_next apart_going _ refl item_visited len y lens;
+                };
               }

@@ -52,16 +52,13 @@ fn arm_of(t: &[u8], node: usize, case: u8) -> usize
     ensures { (result ≡ after (field_c t.now) case (first node)) × (result ≤ node + 2 + 65535 * case) }
 {
     let mut arm = node + 2;
-    let mut i = 0;
-    while i < case {
+    for _ in 0..case {
         arm += size_at(t, arm);
-        i += 1;
     }
     arm
 }
 
-// A sequence visits its items in order, with its separator between them; n of them so far. A for among them brings any number. The two ways stay apart
-// until the next turn, as those of a build.
+// A sequence visits its items in order, with its separator between them; n of them so far. A for among them brings any number.
 #[cycle(visits)]
 fn sequence_items(at: At, head: Record, s: &Sources<'_>, out: &mut [u8], scratch: &mut [u16]) -> Run
     requires { (Formed Form.Sequence (sources_of s.now) at out.old scratch.old) × (Fetched s.now.templates.now at.node head) }
@@ -72,23 +69,15 @@ fn sequence_items(at: At, head: Record, s: &Sources<'_>, out: &mut [u8], scratch
         return stuck(at);
     }
     let sep = separator_of(at, e);
-    let count = head.d;
     let mut item = at.node + 1;
     let mut n = 0;
     let mut r = going(at);
-    let mut visited = 0;
-    while visited < count {
+    for _ in 0..head.d {
         let next = fetch(s.templates, item);
-        let turn = visited + 1;
-        visited = turn;
         if is_for(next) {
             let below = at.after(r).below(item, 0);
-            item += size_in(next);
             let end = for_node(below, sep, n, s, out, scratch);
             r = end.run;
-            if r.number != 0 {
-                return r;
-            }
             n = end.items;
         } else {
             if is_due(sep, n) {
@@ -98,13 +87,13 @@ fn sequence_items(at: At, head: Record, s: &Sources<'_>, out: &mut [u8], scratch
                 }
             }
             let below = at.after(r).below(item, 0);
-            item += size_in(next);
-            n += 1;
             r = visit(below, s, out, scratch);
-            if r.number != 0 {
-                return r;
-            }
+            n += 1;
         }
+        if r.number != 0 {
+            return r;
+        }
+        item += size_in(next);
     }
     r
 }
@@ -160,8 +149,7 @@ fn for_items(
 {
     let body = at.node + 2;
     let mut here = at;
-    let mut done = 0;
-    while done < count {
+    for done in 0..count {
         if is_due(sep, before + done as usize) {
             let written = separate(s.grammar, sep, out, here);
             if written.number != 0 {
@@ -177,14 +165,11 @@ fn for_items(
             return end;
         }
         here = here.after(end);
-        let turn = done + 1;
-        done = turn;
     }
     going(here)
 }
 
-// A build takes the elements of its production in order: it writes a keyword, and visits the next child for any other. The two ways stay apart
-// until the next turn: a function for both would be slower.
+// A build takes the elements of its production in order: it writes a keyword, and visits the next child for any other.
 #[cycle(visits)]
 fn build_items(at: At, head: Record, s: &Sources<'_>, out: &mut [u8], scratch: &mut [u16]) -> Run
     requires { (Formed Form.Build (sources_of s.now) at out.old scratch.old) × (Fetched s.now.templates.now at.node head) }
@@ -198,32 +183,24 @@ fn build_items(at: At, head: Record, s: &Sources<'_>, out: &mut [u8], scratch: &
     let mut child = at.node + 1;
     let mut used = 0;
     let mut here = at;
-    let mut taken = 0;
-    while taken < count {
+    for _ in 0..count {
         let e = fetch(s.grammar, element);
-        let turn = taken + 1;
-        taken = turn;
-        if e.a == 0 {
-            let written = write(s.grammar, element, e.b, out, here);
-            if written.number != 0 {
-                return written;
-            }
-            here = here.after(written);
-            element += size_of(e);
+        let end = if e.a == 0 {
+            write(s.grammar, element, e.b, out, here)
         } else {
             if head.d <= used {
                 return stuck(here);
             }
             let below = here.below(child, element);
-            element += size_of(e);
             used += 1;
-            let end = visit(below, s, out, scratch);
-            if end.number != 0 {
-                return end;
-            }
-            here = here.after(end);
             child += size_at(s.templates, child);
+            visit(below, s, out, scratch)
+        };
+        if end.number != 0 {
+            return end;
         }
+        here = here.after(end);
+        element += size_of(e);
     }
     going(here)
 }

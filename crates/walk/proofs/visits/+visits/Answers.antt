@@ -9,110 +9,49 @@ use Rattle.walk.proofs.RunLaws.{visited_stuck}
 use Rattle.walk.proofs.MarkLaws.{heads_some}
 use Rattle.walk.proofs.FormLaws.{literal_is, place_is, unknown_is, build_none, if_lost, if_other, if_is, match_lost, match_other, match_missing, for_piece, listed_none, listed_other, for_none}
 use Rattle.walk.proofs.SeparatorLaws.{Apart, due_later}
-use Rattle.walk.proofs.LoopLaws.{follows, vars_inside, after_level, below_falls, sequence_lost, sequence_start, sequence_end, items_few}
-use Rattle.walk.proofs.LoopLaws.{turns_visitable, turns_for, turns_stop, turns_next, apart_room, apart_stop, apart_skipped, apart_written, item_visitable, item_falls, item_stop, item_next}
+use Rattle.walk.proofs.LoopLaws.{follows, vars_inside, below_falls, sequence_lost, sequence_start, sequence_end, items_few}
+use Rattle.walk.proofs.LoopLaws.{SequenceTurn, turns_visitable, turns_for, turns_turn, apart_room, apart_stop, apart_skipped, apart_written, item_visitable, item_falls, item_turn}
 use Rattle.walk.proofs.ForLaws.{for_start, for_end, turn_room, for_there, for_slot, for_apart_stop, past_none, past_written, for_level, for_vars, for_visitable, for_falls, for_stop, for_next}
 use Rattle.walk.proofs.ForLaws.{turned_over, list_there, turned_whole}
-use Rattle.walk.proofs.BuildLaws.{build_start, build_end, write_asks, keyword_stop, keyword_next, child_missing, child_visitable, child_falls, child_stop, child_next}
+use Rattle.walk.proofs.BuildLaws.{BuildTurn, build_start, build_end, keyword_turn, child_missing, child_visitable, child_falls, child_turn}
 use Rattle.walk.proofs.EnterLaws.{falls_there, branch_visitable, branch_visited, expand_missing, count_few, expand_room, enter_lost, enter_visitable, enter_falls, enter_visited}
 use Rattle.walk.proofs.MatchLaws.{no_arm, an_arm, arm_there, arm_vars, arm_visitable, arm_falls, arm_visited}
 use Rattle.walk.proofs.EnterLaws.{spent_visited, deepest_visited, form_asked, form_falls, form_here, form_formed, form_visited, form_ran}
-use borrow.Author.Rules.{rules}
+use Rattle.walk.specs.Visits.{sources_of}
 use Rattle.walk.proofs.visits.+visits.Goals as goal
-use Rattle.walk.proofs.visits.+visits.Goals.{for_items-Joined-is_due, sequence_items-Joined-is_due, for_items-then-is_due+else-written-ne0, for_items-else-is_due, sequence_items-then-is_due+else-r-ne0-2, sequence_items-else-is_due}
-
-pub build_items-production_at-requires : goal.build_items-production_at-requires
-build_items-production_at-requires t c = heads_some c.requires.0.visitable.lent.productions_are
+use Rattle.walk.proofs.visits.+visits.Goals.{build_items-Joined-e-eq0, build_items-then-e-eq0, build_items-else-e-eq0+else-head-used}
+use Rattle.walk.proofs.visits.+visits.Goals.{for_items-Joined-is_due, for_items-then-is_due+else-written-ne0, for_items-else-is_due}
+use Rattle.walk.proofs.visits.+visits.Goals.{sequence_items-Joined-is_due, sequence_items-then-is_due+else-r-ne0, sequence_items-else-is_due, sequence_items-Joined-is_for, sequence_items-then-is_for, sequence_items-else-is_for}
 
 pub build_items-returns-in_default : goal.build_items-returns-in_default
 build_items-returns-in_default t c = visited_stuck c.args.at c.requires.0.visitable.room c.stuck.ensures (build_none _ _ _ _ _ _ _ _ _ _ _ c.requires.1.b (lost (c.production_at.ensures _ c.requires.0.visitable.lent.productions_are) c.in_default.is))
 
-pub build_items-fetch-count-requires : goal.build_items-fetch-count-requires
-build_items-fetch-count-requires t c = c.requires.0.visitable.lent.grammar_sized
-
-pub build_items-overflow_add-child : goal.build_items-overflow_add-child
-build_items-overflow_add-child t c = record { fits = omega (arith, c.requires.0.visitable.near) }
-
-pub build_items-loop-taken-init : goal.build_items-loop-taken-init
-build_items-loop-taken-init t c = build_start c.requires.0 c.requires.1 _ (got (c.production_at.ensures _ c.requires.0.visitable.lent.productions_are) c.in-Some.is) (omega arith) c.fetch-count.ensures
-
-pub build_items-fetch-e-requires : goal.build_items-fetch-e-requires
-build_items-fetch-e-requires t c = c.requires.0.visitable.lent.grammar_sized
-
-pub build_items-overflow_add-turn : goal.build_items-overflow_add-turn
-build_items-overflow_add-turn t c = record { fits = omega (arith, c.loop-taken.invariant.count_few, c.loop-taken-test.true) }
-
-pub build_items-write-written-requires : goal.build_items-write-written-requires
-build_items-write-written-requires t c = (c.requires.0.visitable.lent.grammar_sized, write_asks c.requires.0 c.loop-taken.invariant c.loop-taken-test.true c.fetch-e.ensures)
-
-pub build_items-shape_of-out-then-written-ne0 : goal.build_items-shape_of-out-then-written-ne0
-build_items-shape_of-out-then-written-ne0 t c = c.write-written.auto.out ∙ c.loop-taken.invariant.going.len
-
-pub build_items-shape_of-scratch-then-written-ne0 : goal.build_items-shape_of-scratch-then-written-ne0
-build_items-shape_of-scratch-then-written-ne0 t c = c.loop-taken.invariant.going.lens
-
-pub build_items-returns-then-written-ne0 : goal.build_items-returns-then-written-ne0
-build_items-returns-then-written-ne0 t c = keyword_stop c.requires.0 c.loop-taken.invariant c.loop-taken-test.true c.fetch-e.ensures c.if-e-eq0.true c.write-written.ensures c.write-written.auto.out c.if-written-ne0.true
-
-pub build_items-overflow_add-element-then-e-eq0 : goal.build_items-overflow_add-element-then-e-eq0
-build_items-overflow_add-element-then-e-eq0 t c = record { fits = omega (arith, c.loop-taken.invariant.near, c.loop-taken.invariant.place_few, c.loop-taken.invariant.count_few, c.loop-taken-test.true, c.size_of-element.ensures.small) }
-
-pub build_items-loop-taken-smaller-then-e-eq0 : goal.build_items-loop-taken-smaller-then-e-eq0
-build_items-loop-taken-smaller-then-e-eq0 t c = omega (arith, c.loop-taken-test.true)
-
-pub build_items-loop-taken-preserved-then-e-eq0 : goal.build_items-loop-taken-preserved-then-e-eq0
-build_items-loop-taken-preserved-then-e-eq0 t c = keyword_next c.requires.0 c.loop-taken.invariant c.loop-taken-test.true c.fetch-e.ensures c.if-e-eq0.true c.write-written.ensures c.write-written.auto.out c.if-written-ne0.false c.after-here.ensures _ c.size_of-element.ensures
-
-pub build_items-shape_of-out-then-head-used : goal.build_items-shape_of-out-then-head-used
-build_items-shape_of-out-then-head-used t c = c.loop-taken.invariant.going.len
-
-pub build_items-shape_of-scratch-then-head-used : goal.build_items-shape_of-scratch-then-head-used
-build_items-shape_of-scratch-then-head-used t c = c.loop-taken.invariant.going.lens
+pub build_items-loop-init : goal.build_items-loop-init
+build_items-loop-init t c = build_start c.requires.0 c.requires.1 _ (got (c.production_at.ensures _ c.requires.0.visitable.lent.productions_are) c.in-Some.is) (omega arith) c.fetch-count.ensures
 
 pub build_items-returns-then-head-used : goal.build_items-returns-then-head-used
-build_items-returns-then-head-used t c = child_missing c.requires.0 c.loop-taken.invariant c.loop-taken-test.true c.fetch-e.ensures c.if-e-eq0.false c.if-head-used.true c.stuck-then-head-used.ensures
-
-pub build_items-below-below-requires : goal.build_items-below-below-requires
-build_items-below-below-requires t c = after_level c.requires.0 c.loop-taken.invariant.going c.loop-taken.invariant.is
-
-pub build_items-overflow_add-element-else-e-eq0 : goal.build_items-overflow_add-element-else-e-eq0
-build_items-overflow_add-element-else-e-eq0 t c = record { fits = omega (arith, c.loop-taken.invariant.near, c.loop-taken.invariant.place_few, c.loop-taken.invariant.count_few, c.loop-taken-test.true, c.size_of-element-else-e-eq0.ensures.small) }
-
-pub build_items-overflow_add-used : goal.build_items-overflow_add-used
-build_items-overflow_add-used t c = record { fits = omega (arith, c.loop-taken.invariant.used_few, c.loop-taken.invariant.count_few, c.loop-taken-test.true) }
+build_items-returns-then-head-used t c = child_missing c.requires.0 c.loop.invariant c.loop-test.true c.fetch-e.ensures c.if-e-eq0.false c.if-head-used.true c.stuck-then-head-used.ensures
 
 pub build_items-visit-end-requires : goal.build_items-visit-end-requires
-build_items-visit-end-requires t c = (omega (arith, c.decreases, child_falls c.requires.0 c.loop-taken.invariant c.loop-taken-test.true c.fetch-e.ensures c.if-e-eq0.false c.if-head-used.false c.below-below.ensures), child_visitable c.requires.0 c.loop-taken.invariant c.loop-taken-test.true c.fetch-e.ensures c.if-e-eq0.false c.if-head-used.false c.below-below.ensures)
+build_items-visit-end-requires t c = (omega (arith, c.decreases, child_falls c.requires.0 c.loop.invariant c.loop-test.true c.fetch-e.ensures c.if-e-eq0.false c.if-head-used.false c.below-below.ensures), child_visitable c.requires.0 c.loop.invariant c.loop-test.true c.fetch-e.ensures c.if-e-eq0.false c.if-head-used.false c.below-below.ensures)
 
-pub build_items-shape_of-out-then-end-ne0 : goal.build_items-shape_of-out-then-end-ne0
-build_items-shape_of-out-then-end-ne0 t c = c.visit-end.auto.out ∙ c.loop-taken.invariant.going.len
-
-pub build_items-shape_of-scratch-then-end-ne0 : goal.build_items-shape_of-scratch-then-end-ne0
-build_items-shape_of-scratch-then-end-ne0 t c = c.visit-end.auto.scratch ∙ c.loop-taken.invariant.going.lens
+-- What an element came to, a keyword or not.
+build_items_turn : (t : ℕ) (c : build_items-Joined-e-eq0 t)
+    → BuildTurn (sources_of c.args.s.now) c.args.at c.args.out.now c.args.scratch.now c.in-Some.production c.fetch-count.result.d c.args.head.d c.fetch-e.result c.if-e-eq0.out c.if-e-eq0.scratch c.loop.element c.if-e-eq0.child c.if-e-eq0.used c.loop.here c.if-e-eq0.end c.loop.counter
+build_items_turn t c =
+    elim c.if-e-eq0.branch [
+      | build_items-then-e-eq0 w ↦ rw (w.out-is, w.scratch-is, w.child-is, w.used-is, w.end-is) (keyword_turn c.requires.0 c.loop.invariant c.loop-test.true c.fetch-e.ensures w.if-e-eq0.true w.write-end.ensures w.write-end.auto.out)
+      | build_items-else-e-eq0+else-head-used w ↦ rw (w.out-is, w.scratch-is, w.child-is, w.used-is, w.end-is) (child_turn c.requires.0 c.loop.invariant c.loop-test.true c.fetch-e.ensures w.if-e-eq0.false w.if-head-used.false w.below-below.ensures w.visit-end.ensures w.visit-end.auto.out w.visit-end.auto.scratch _ w.size_at-child.ensures.0 w.size_at-child.ensures.1)
+    ]
 
 pub build_items-returns-then-end-ne0 : goal.build_items-returns-then-end-ne0
-build_items-returns-then-end-ne0 t c = child_stop c.requires.0 c.loop-taken.invariant c.loop-taken-test.true c.fetch-e.ensures c.if-e-eq0.false c.if-head-used.false c.below-below.ensures c.visit-end.ensures c.visit-end.auto.out c.if-end-ne0.true
+build_items-returns-then-end-ne0 t c = (build_items_turn t (goal.at.build_items-returns-then-end-ne0 t c).Joined-e-eq0).stops c.if-end-ne0.true
 
-pub build_items-size_at-child-requires : goal.build_items-size_at-child-requires
-build_items-size_at-child-requires t c = c.requires.0.visitable.lent.templates_sized
-
-pub build_items-overflow_add-child-else-e-eq0 : goal.build_items-overflow_add-child-else-e-eq0
-build_items-overflow_add-child-else-e-eq0 t c = record { fits = omega (arith, c.loop-taken.invariant.along.near, c.loop-taken.invariant.used_few, c.loop-taken.invariant.count_few, c.loop-taken-test.true, c.requires.0.visitable.near, c.size_at-child.ensures.1) }
-
-pub build_items-loop-taken-smaller : goal.build_items-loop-taken-smaller
-build_items-loop-taken-smaller t c = omega (arith, c.loop-taken-test.true)
-
-pub build_items-loop-taken-preserved : goal.build_items-loop-taken-preserved
-build_items-loop-taken-preserved t c = child_next c.requires.0 c.loop-taken.invariant c.loop-taken-test.true c.fetch-e.ensures c.if-e-eq0.false c.if-head-used.false c.below-below.ensures c.visit-end.ensures c.visit-end.auto.out c.if-end-ne0.false c.visit-end.auto.scratch c.after-here-else-e-eq0.ensures _ c.size_of-element-else-e-eq0.ensures _ c.size_at-child.ensures.0 c.size_at-child.ensures.1
-
-pub build_items-shape_of-out : goal.build_items-shape_of-out
-build_items-shape_of-out t c = c.loop-taken.invariant.going.len
-
-pub build_items-shape_of-scratch : goal.build_items-shape_of-scratch
-build_items-shape_of-scratch t c = c.loop-taken.invariant.going.lens
+pub build_items-loop-preserved : goal.build_items-loop-preserved
+build_items-loop-preserved t c = (build_items_turn t (goal.at.build_items-loop-preserved t c).Joined-e-eq0).goes c.if-end-ne0.false c.after-here.ensures _ c.size_of-element.ensures
 
 pub build_items-returns : goal.build_items-returns
-build_items-returns t c = build_end c.requires.0 c.loop-taken.invariant c.loop-taken-test.false c.going.ensures
+build_items-returns t c = build_end c.requires.0 c.loop.invariant c.loop-test.false c.going.ensures
 
 pub expand_body-returns-in_default : goal.expand_body-returns-in_default
 expand_body-returns-in_default t c = visited_stuck c.args.at c.requires.0.visitable.room c.stuck.ensures (expand_missing c.requires.0 _ c.requires.1.b (lost c.head_at.ensures c.in_default.is))
@@ -150,29 +89,16 @@ expand_body-shape_of-scratch t c = c.visit.auto.scratch ∙ c.pass.auto.scratch
 pub expand_body-returns : goal.expand_body-returns
 expand_body-returns t c = enter_visited c.requires.0 _ c.requires.1.b (got c.head_at.ensures c.in-Some.is) _ c.requires.1.d c.pass.ensures c.pass.auto.scratch (c.if-not-pass.false) _ c.body_of-body.ensures.0 c.below.ensures c.framed-below.ensures c.visit.ensures
 
-pub for_items-overflow_add-body : goal.for_items-overflow_add-body
-for_items-overflow_add-body t c = record { fits = omega (arith, c.requires.0.visitable.near) }
-
 pub for_items-loop-done-init : goal.for_items-loop-done-init
 for_items-loop-done-init t c = for_start c.requires.0 c.requires.1
-
-pub for_items-overflow_add-before : goal.for_items-overflow_add-before
-for_items-overflow_add-before t c = record { fits = omega (arith, c.requires.2, c.loop-done-test.true) }
 
 pub for_items-separate-written-requires : goal.for_items-separate-written-requires
 for_items-separate-written-requires t c = (c.requires.0.visitable.lent.grammar_sized, turn_room c.requires.0 c.requires.1 c.loop-done.invariant c.loop-done-test.true)
 
-pub for_items-shape_of-out-then-written-ne0 : goal.for_items-shape_of-out-then-written-ne0
-for_items-shape_of-out-then-written-ne0 t c = c.separate-written.auto.out ∙ c.loop-done.invariant.going.len
-
-pub for_items-shape_of-scratch-then-written-ne0 : goal.for_items-shape_of-scratch-then-written-ne0
-for_items-shape_of-scratch-then-written-ne0 t c = c.loop-done.invariant.going.lens
-
 pub for_items-returns-then-written-ne0 : goal.for_items-returns-then-written-ne0
 for_items-returns-then-written-ne0 t c = for_apart_stop c.requires.0 c.requires.1 c.loop-done.invariant c.loop-done-test.true (c.separate-written.ensures _ (due_later _ _ (sym c.is_due.ensures ∙ c.if-is_due.true))) c.separate-written.auto.out c.if-written-ne0.true
 
--- What is so of an item once the separator before it is written or not asked for. Goals further on share the record of that place: it is some steps
--- above their own.
+-- What is so of an item once the separator before it is written or not asked for.
 for_items_past : (t : ℕ) (c : for_items-Joined-is_due t)
     → Apart c.args.s.now.grammar.now c.args.sep (c.args.before + c.loop-done.done) c.loop-done.here c.loop-done.out (ended_at 0 c.if-is_due.here) c.if-is_due.out
     × (c.if-is_due.here ≡ after_at c.args.at (ended_at 0 c.if-is_due.here))
@@ -203,35 +129,15 @@ for_items-visit-end-requires t c =
     let past = for_items_past t (goal.at.for_items-visit-end-requires t c).Joined-is_due in
     (omega (arith, c.decreases, for_falls c.requires.0 c.requires.1 c.loop-done.invariant c.loop-done-test.true past.0 past.1 _ c.child_at-item.ensures _ c.bind.ensures c.bind.auto.scratch c.below.ensures c.bound-below.ensures), for_visitable c.requires.0 c.requires.1 c.loop-done.invariant c.loop-done-test.true past.0 past.1 _ c.child_at-item.ensures _ c.bind.ensures c.bind.auto.scratch c.below.ensures c.bound-below.ensures)
 
-pub for_items-shape_of-out-then-end-ne0 : goal.for_items-shape_of-out-then-end-ne0
-for_items-shape_of-out-then-end-ne0 t c =
-    let past = for_items_past t (goal.at.for_items-shape_of-out-then-end-ne0 t c).Joined-is_due in
-    c.visit-end.auto.out ∙ past.0.len ∙ c.loop-done.invariant.going.len
-
-pub for_items-shape_of-scratch-then-end-ne0 : goal.for_items-shape_of-scratch-then-end-ne0
-for_items-shape_of-scratch-then-end-ne0 t c = c.visit-end.auto.scratch ∙ c.bind.auto.scratch ∙ c.loop-done.invariant.going.lens
-
 pub for_items-returns-then-end-ne0 : goal.for_items-returns-then-end-ne0
 for_items-returns-then-end-ne0 t c =
     let past = for_items_past t (goal.at.for_items-returns-then-end-ne0 t c).Joined-is_due in
     for_stop c.requires.0 c.requires.1 c.loop-done.invariant c.loop-done-test.true past.0 past.1 _ c.child_at-item.ensures _ c.bind.ensures c.bind.auto.scratch c.below.ensures c.bound-below.ensures c.visit-end.ensures c.visit-end.auto.out c.if-end-ne0.true
 
-pub for_items-overflow_add-turn : goal.for_items-overflow_add-turn
-for_items-overflow_add-turn t c = record { fits = omega (arith, c.loop-done-test.true, c.requires.1.few) }
-
-pub for_items-loop-done-smaller : goal.for_items-loop-done-smaller
-for_items-loop-done-smaller t c = omega (arith, c.loop-done-test.true)
-
 pub for_items-loop-done-preserved : goal.for_items-loop-done-preserved
 for_items-loop-done-preserved t c =
     let past = for_items_past t (goal.at.for_items-loop-done-preserved t c).Joined-is_due in
     for_next c.requires.0 c.requires.1 c.loop-done.invariant c.loop-done-test.true past.0 past.1 _ c.child_at-item.ensures _ c.bind.ensures c.bind.auto.scratch c.below.ensures c.bound-below.ensures c.visit-end.ensures c.visit-end.auto.out c.if-end-ne0.false c.visit-end.auto.scratch c.after-here-in-loop-done.ensures
-
-pub for_items-shape_of-out : goal.for_items-shape_of-out
-for_items-shape_of-out t c = c.loop-done.invariant.going.len
-
-pub for_items-shape_of-scratch : goal.for_items-shape_of-scratch
-for_items-shape_of-scratch t c = c.loop-done.invariant.going.lens
 
 pub for_items-returns : goal.for_items-returns
 for_items-returns t c = for_end c.requires.0 c.requires.1 c.loop-done.invariant c.loop-done-test.false c.going.ensures
@@ -374,115 +280,63 @@ match_arm-shape_of-scratch t c = c.visit.auto.scratch ∙ c.bind.auto.scratch
 pub match_arm-returns : goal.match_arm-returns
 match_arm-returns t c = arm_visited c.requires.0 (c.path_value.ensures.stands _ (got c.path_value.ensures.is c.in-Some.is)) c.fetch-case.ensures c.if-case-ne5.false (an_arm c.requires.1 _ c.if-head-case.false c.arm_of-arm.ensures.0) _ c.child_at-content.ensures _ c.bind.ensures c.below.ensures c.bound-below.ensures (got c.path_value.ensures.is c.in-Some.is) c.visit.ensures
 
-pub sequence_items-fetch-e-requires : goal.sequence_items-fetch-e-requires
-sequence_items-fetch-e-requires t c = c.requires.0.visitable.lent.grammar_sized
-
 pub sequence_items-returns-then-not-fills : goal.sequence_items-returns-then-not-fills
 sequence_items-returns-then-not-fills t c = sequence_lost c.requires.0 c.fetch-e.ensures (sym c.fills.ensures ∙ c.if-not-fills.true) c.stuck.ensures
 
-pub sequence_items-overflow_add-item : goal.sequence_items-overflow_add-item
-sequence_items-overflow_add-item t c = record { fits = omega (arith, c.requires.0.visitable.near) }
-
-pub sequence_items-loop-visited-init : goal.sequence_items-loop-visited-init
-sequence_items-loop-visited-init t c = sequence_start c.requires.0 c.fetch-e.ensures (sym c.fills.ensures ∙ c.if-not-fills.false) c.separator_of-sep.ensures c.requires.1 c.going-r.ensures
-
-pub sequence_items-fetch-next-requires : goal.sequence_items-fetch-next-requires
-sequence_items-fetch-next-requires t c = c.requires.0.visitable.lent.templates_sized
-
-pub sequence_items-overflow_add-turn : goal.sequence_items-overflow_add-turn
-sequence_items-overflow_add-turn t c = record { fits = omega (arith, c.loop-visited.invariant.along.few, c.loop-visited-test.true) }
-
-pub sequence_items-below-below-requires : goal.sequence_items-below-below-requires
-sequence_items-below-below-requires t c = after_level c.requires.0 c.loop-visited.invariant.going c.after.ensures
-
-pub sequence_items-overflow_add-item-then-is_for : goal.sequence_items-overflow_add-item-then-is_for
-sequence_items-overflow_add-item-then-is_for t c = record { fits = omega (arith, c.loop-visited.invariant.along.near, c.loop-visited.invariant.along.few, c.loop-visited-test.true, c.requires.0.visitable.near, c.size_in-item.ensures.1) }
+pub sequence_items-loop-init : goal.sequence_items-loop-init
+sequence_items-loop-init t c = sequence_start c.requires.0 c.fetch-e.ensures (sym c.fills.ensures ∙ c.if-not-fills.false) c.separator_of-sep.ensures c.requires.1 c.going-r.ensures
 
 pub sequence_items-for_node-end-requires : goal.sequence_items-for_node-end-requires
-sequence_items-for_node-end-requires t c = (omega (arith, c.decreases, below_falls c.requires.0 c.loop-visited.invariant.going c.after.ensures c.below-below.ensures), (turns_visitable c.requires.0 c.loop-visited.invariant c.loop-visited-test.true c.fetch-next.ensures (eqb-true _ _ (sym c.is_for.ensures ∙ c.if-is_for.true)) c.after.ensures c.below-below.ensures, turns_for c.requires.0 c.loop-visited.invariant c.loop-visited-test.true c.fetch-next.ensures (eqb-true _ _ (sym c.is_for.ensures ∙ c.if-is_for.true)) c.after.ensures c.below-below.ensures, items_few c.requires.0 c.loop-visited.invariant c.loop-visited-test.true))
-
-pub sequence_items-shape_of-out-then-r-ne0 : goal.sequence_items-shape_of-out-then-r-ne0
-sequence_items-shape_of-out-then-r-ne0 t c = c.for_node-end.auto.out ∙ c.loop-visited.invariant.going.len
-
-pub sequence_items-shape_of-scratch-then-r-ne0 : goal.sequence_items-shape_of-scratch-then-r-ne0
-sequence_items-shape_of-scratch-then-r-ne0 t c = c.for_node-end.auto.scratch ∙ c.loop-visited.invariant.going.lens
-
-pub sequence_items-returns-then-r-ne0 : goal.sequence_items-returns-then-r-ne0
-sequence_items-returns-then-r-ne0 t c = turns_stop c.requires.0 c.loop-visited.invariant c.loop-visited-test.true c.fetch-next.ensures (eqb-true _ _ (sym c.is_for.ensures ∙ c.if-is_for.true)) c.after.ensures c.below-below.ensures c.for_node-end.ensures c.for_node-end.auto.out c.if-r-ne0.true
-
-pub sequence_items-loop-visited-smaller-then-is_for : goal.sequence_items-loop-visited-smaller-then-is_for
-sequence_items-loop-visited-smaller-then-is_for t c = omega (arith, c.loop-visited-test.true)
-
-pub sequence_items-loop-visited-preserved-then-is_for : goal.sequence_items-loop-visited-preserved-then-is_for
-sequence_items-loop-visited-preserved-then-is_for t c = rw c.size_in-item.ensures.0 (turns_next c.requires.0 c.loop-visited.invariant c.loop-visited-test.true c.fetch-next.ensures (eqb-true _ _ (sym c.is_for.ensures ∙ c.if-is_for.true)) c.after.ensures c.below-below.ensures c.for_node-end.ensures c.for_node-end.auto.out c.if-r-ne0.false c.for_node-end.auto.scratch)
+sequence_items-for_node-end-requires t c =
+    let k = eqb-true _ _ (sym c.is_for.ensures ∙ c.if-is_for.true) in
+    (omega (arith, c.decreases, below_falls c.requires.0 c.loop.invariant.going c.after.ensures c.below-below.ensures), (turns_visitable c.requires.0 c.loop.invariant c.loop-test.true c.fetch-next.ensures k c.after.ensures c.below-below.ensures, turns_for c.requires.0 c.loop.invariant c.loop-test.true c.fetch-next.ensures k c.after.ensures c.below-below.ensures, items_few c.requires.0 c.loop.invariant c.loop-test.true))
 
 pub sequence_items-separate-r-requires : goal.sequence_items-separate-r-requires
-sequence_items-separate-r-requires t c = (c.requires.0.visitable.lent.grammar_sized, apart_room c.requires.0 c.loop-visited.invariant c.loop-visited-test.true c.fetch-next.ensures (eqb-false _ _ (sym c.is_for.ensures ∙ c.if-is_for.false)) c.after-then-is_due.ensures)
+sequence_items-separate-r-requires t c = (c.requires.0.visitable.lent.grammar_sized, apart_room c.requires.0 c.loop.invariant c.loop-test.true c.fetch-next.ensures (eqb-false _ _ (sym c.is_for.ensures ∙ c.if-is_for.false)) c.after-then-is_due.ensures)
 
-pub sequence_items-shape_of-out-then-r-ne0-2 : goal.sequence_items-shape_of-out-then-r-ne0-2
-sequence_items-shape_of-out-then-r-ne0-2 t c = c.separate-r.auto.out ∙ c.loop-visited.invariant.going.len
-
-pub sequence_items-shape_of-scratch-then-r-ne0-2 : goal.sequence_items-shape_of-scratch-then-r-ne0-2
-sequence_items-shape_of-scratch-then-r-ne0-2 t c = c.loop-visited.invariant.going.lens
-
-pub sequence_items-returns-then-r-ne0-2 : goal.sequence_items-returns-then-r-ne0-2
-sequence_items-returns-then-r-ne0-2 t c = apart_stop c.requires.0 c.loop-visited.invariant c.loop-visited-test.true c.fetch-next.ensures (eqb-false _ _ (sym c.is_for.ensures ∙ c.if-is_for.false)) c.after-then-is_due.ensures (c.separate-r.ensures _ (due_later _ _ (sym c.is_due.ensures ∙ c.if-is_due.true))) c.separate-r.auto.out c.if-r-ne0-2.true
-
-pub sequence_items-after-requires-else-is_for : goal.sequence_items-after-requires-else-is_for
-sequence_items-after-requires-else-is_for t c = search rules
+pub sequence_items-returns-then-r-ne0 : goal.sequence_items-returns-then-r-ne0
+sequence_items-returns-then-r-ne0 t c = apart_stop c.requires.0 c.loop.invariant c.loop-test.true c.fetch-next.ensures (eqb-false _ _ (sym c.is_for.ensures ∙ c.if-is_for.false)) c.after-then-is_due.ensures (c.separate-r.ensures _ (due_later _ _ (sym c.is_due.ensures ∙ c.if-is_due.true))) c.separate-r.auto.out c.if-r-ne0.true
 
 -- The same of an item of a sequence itself.
 sequence_items_apart : (t : ℕ) (c : sequence_items-Joined-is_due t)
-    → Apart c.args.s.now.grammar.now c.separator_of-sep.result c.loop-visited.n (after_at c.args.at c.loop-visited.r) c.loop-visited.out c.if-is_due.r c.if-is_due.out
+    → Apart c.args.s.now.grammar.now c.separator_of-sep.result c.loop.n (after_at c.args.at c.loop.r) c.loop.out c.if-is_due.r c.if-is_due.out
 sequence_items_apart t c =
+    let k = eqb-false _ _ (sym c.is_for.ensures ∙ c.if-is_for.false) in
     elim c.if-is_due.branch [
-      | sequence_items-then-is_due+else-r-ne0-2 w ↦ apart_written c.requires.0 c.loop-visited.invariant c.loop-visited-test.true c.fetch-next.ensures (eqb-false _ _ (sym c.is_for.ensures ∙ c.if-is_for.false)) w.after-then-is_due.ensures (w.separate-r.ensures _ (due_later _ _ (sym c.is_due.ensures ∙ w.if-is_due.true))) w.separate-r.auto.out w.if-r-ne0-2.false w.out-is w.r-is
-      | sequence_items-else-is_due w ↦ apart_skipped c.requires.0 c.loop-visited.invariant c.loop-visited-test.true c.fetch-next.ensures (eqb-false _ _ (sym c.is_for.ensures ∙ c.if-is_for.false)) (sym c.is_due.ensures ∙ w.if-is_due.false) w.out-is w.r-is
+      | sequence_items-then-is_due+else-r-ne0 w ↦ apart_written c.requires.0 c.loop.invariant c.loop-test.true c.fetch-next.ensures k w.after-then-is_due.ensures (w.separate-r.ensures _ (due_later _ _ (sym c.is_due.ensures ∙ w.if-is_due.true))) w.separate-r.auto.out w.if-r-ne0.false w.out-is w.r-is
+      | sequence_items-else-is_due w ↦ apart_skipped c.requires.0 c.loop.invariant c.loop-test.true c.fetch-next.ensures k (sym c.is_due.ensures ∙ w.if-is_due.false) w.out-is w.r-is
     ]
-
-pub sequence_items-below-below-requires-else-is_for : goal.sequence_items-below-below-requires-else-is_for
-sequence_items-below-below-requires-else-is_for t c = rw c.after-else-is_for.ensures c.requires.0.level
-
-pub sequence_items-overflow_add-item-else-is_for : goal.sequence_items-overflow_add-item-else-is_for
-sequence_items-overflow_add-item-else-is_for t c = record { fits = omega (arith, c.loop-visited.invariant.along.near, c.loop-visited.invariant.along.few, c.loop-visited-test.true, c.requires.0.visitable.near, c.size_in-item-else-is_for.ensures.1) }
-
-pub sequence_items-overflow_add-n : goal.sequence_items-overflow_add-n
-sequence_items-overflow_add-n t c = record { fits = omega (arith, items_few c.requires.0 c.loop-visited.invariant c.loop-visited-test.true) }
 
 pub sequence_items-visit-r-requires : goal.sequence_items-visit-r-requires
 sequence_items-visit-r-requires t c =
     let past = sequence_items_apart t (goal.at.sequence_items-visit-r-requires t c).Joined-is_due in
-    (omega (arith, c.decreases, item_falls c.requires.0 c.loop-visited.invariant c.loop-visited-test.true c.fetch-next.ensures (eqb-false _ _ (sym c.is_for.ensures ∙ c.if-is_for.false)) past c.after-else-is_for.ensures c.below-below-else-is_for.ensures), item_visitable c.requires.0 c.loop-visited.invariant c.loop-visited-test.true c.fetch-next.ensures (eqb-false _ _ (sym c.is_for.ensures ∙ c.if-is_for.false)) past c.after-else-is_for.ensures c.below-below-else-is_for.ensures)
+    let k = eqb-false _ _ (sym c.is_for.ensures ∙ c.if-is_for.false) in
+    (omega (arith, c.decreases, item_falls c.requires.0 c.loop.invariant c.loop-test.true c.fetch-next.ensures k past c.after-else-is_for.ensures c.below-below-else-is_for.ensures), item_visitable c.requires.0 c.loop.invariant c.loop-test.true c.fetch-next.ensures k past c.after-else-is_for.ensures c.below-below-else-is_for.ensures)
 
-pub sequence_items-shape_of-out-then-r-ne0-3 : goal.sequence_items-shape_of-out-then-r-ne0-3
-sequence_items-shape_of-out-then-r-ne0-3 t c =
-    let past = sequence_items_apart t (goal.at.sequence_items-shape_of-out-then-r-ne0-3 t c).Joined-is_due in
-    c.visit-r.auto.out ∙ past.len ∙ c.loop-visited.invariant.going.len
+-- What a node of the sequence came to, a for or an item.
+sequence_items_turn : (t : ℕ) (c : sequence_items-Joined-is_for t)
+    → SequenceTurn (sources_of c.args.s.now) c.args.at c.args.out.now c.args.scratch.now c.separator_of-sep.result c.args.head.d c.if-is_for.out c.if-is_for.scratch (c.loop.item + c.fetch-next.result.c) c.if-is_for.n c.if-is_for.r (c.loop.counter + 1)
+sequence_items_turn t c =
+    elim c.if-is_for.branch [
+      | sequence_items-then-is_for w ↦ rw (w.out-is, w.scratch-is, w.n-is, w.r-is) (turns_turn c.requires.0 c.loop.invariant c.loop-test.true c.fetch-next.ensures (eqb-true _ _ (sym c.is_for.ensures ∙ w.if-is_for.true)) w.after.ensures w.below-below.ensures w.for_node-end.ensures w.for_node-end.auto.out w.for_node-end.auto.scratch)
+      | sequence_items-else-is_for w ↦
+          let k = eqb-false _ _ (sym c.is_for.ensures ∙ w.if-is_for.false) in
+          let past : Apart c.args.s.now.grammar.now c.separator_of-sep.result c.loop.n (after_at c.args.at c.loop.r) c.loop.out w.if-is_due.r w.if-is_due.out =
+          elim w.if-is_due.branch [
+            | sequence_items-then-is_due+else-r-ne0 x ↦ apart_written c.requires.0 c.loop.invariant c.loop-test.true c.fetch-next.ensures k x.after-then-is_due.ensures (x.separate-r.ensures _ (due_later _ _ (sym w.is_due.ensures ∙ x.if-is_due.true))) x.separate-r.auto.out x.if-r-ne0.false x.out-is x.r-is
+            | sequence_items-else-is_due x ↦ apart_skipped c.requires.0 c.loop.invariant c.loop-test.true c.fetch-next.ensures k (sym w.is_due.ensures ∙ x.if-is_due.false) x.out-is x.r-is
+          ] in
+          rw (w.out-is, w.scratch-is, w.n-is, w.r-is) (item_turn c.requires.0 c.loop.invariant c.loop-test.true c.fetch-next.ensures k past w.after-else-is_for.ensures w.below-below-else-is_for.ensures w.visit-r.ensures w.visit-r.auto.out w.visit-r.auto.scratch)
+    ]
 
-pub sequence_items-shape_of-scratch-then-r-ne0-3 : goal.sequence_items-shape_of-scratch-then-r-ne0-3
-sequence_items-shape_of-scratch-then-r-ne0-3 t c = c.visit-r.auto.scratch ∙ c.loop-visited.invariant.going.lens
+pub sequence_items-returns-then-r-ne0-2 : goal.sequence_items-returns-then-r-ne0-2
+sequence_items-returns-then-r-ne0-2 t c = (sequence_items_turn t (goal.at.sequence_items-returns-then-r-ne0-2 t c).Joined-is_for).stops c.if-r-ne0-2.true
 
-pub sequence_items-returns-then-r-ne0-3 : goal.sequence_items-returns-then-r-ne0-3
-sequence_items-returns-then-r-ne0-3 t c =
-    let past = sequence_items_apart t (goal.at.sequence_items-returns-then-r-ne0-3 t c).Joined-is_due in
-    item_stop c.requires.0 c.loop-visited.invariant c.loop-visited-test.true c.fetch-next.ensures (eqb-false _ _ (sym c.is_for.ensures ∙ c.if-is_for.false)) past c.after-else-is_for.ensures c.below-below-else-is_for.ensures c.visit-r.ensures c.visit-r.auto.out c.if-r-ne0-3.true
-
-pub sequence_items-loop-visited-smaller : goal.sequence_items-loop-visited-smaller
-sequence_items-loop-visited-smaller t c = omega (arith, c.loop-visited-test.true)
-
-pub sequence_items-loop-visited-preserved : goal.sequence_items-loop-visited-preserved
-sequence_items-loop-visited-preserved t c =
-    let past = sequence_items_apart t (goal.at.sequence_items-loop-visited-preserved t c).Joined-is_due in
-    rw c.size_in-item-else-is_for.ensures.0 (item_next c.requires.0 c.loop-visited.invariant c.loop-visited-test.true c.fetch-next.ensures (eqb-false _ _ (sym c.is_for.ensures ∙ c.if-is_for.false)) past c.after-else-is_for.ensures c.below-below-else-is_for.ensures c.visit-r.ensures c.visit-r.auto.out c.if-r-ne0-3.false c.visit-r.auto.scratch)
-
-pub sequence_items-shape_of-out : goal.sequence_items-shape_of-out
-sequence_items-shape_of-out t c = c.loop-visited.invariant.going.len
-
-pub sequence_items-shape_of-scratch : goal.sequence_items-shape_of-scratch
-sequence_items-shape_of-scratch t c = c.loop-visited.invariant.going.lens
+pub sequence_items-loop-preserved : goal.sequence_items-loop-preserved
+sequence_items-loop-preserved t c = rw c.size_in-item.ensures.0 ((sequence_items_turn t (goal.at.sequence_items-loop-preserved t c).Joined-is_for).goes c.if-r-ne0-2.false)
 
 pub sequence_items-returns : goal.sequence_items-returns
-sequence_items-returns t c = sequence_end c.requires.0 c.loop-visited.invariant c.loop-visited-test.false
+sequence_items-returns t c = sequence_end c.requires.0 c.loop.invariant c.loop-test.false
 
 pub visit-returns-then-spent : goal.visit-returns-then-spent
 visit-returns-then-spent t c = spent_visited c.requires _ (leb-true _ _ (sym c.spent.ensures ∙ c.if-spent.true)) c.ended.ensures

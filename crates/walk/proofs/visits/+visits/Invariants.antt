@@ -30,20 +30,11 @@ decreases-sequence_items l = 2 * (l.at.fuel - l.at.steps) + 1
 abbrev pub decreases-visit : goal.decreases-visit
 decreases-visit l = 2 * (l.at.fuel - l.at.steps)
 
-abbrev pub invariant-build_items-loop-taken : goal.invariant-build_items-loop-taken
-invariant-build_items-loop-taken l = InBuild (sources_of l.s) l.initial.here l.initial.out l.initial.scratch l.production l.count l.head.d l.out l.scratch l.element l.child l.used l.here l.taken
-
-abbrev pub decreases-build_items-loop-taken : goal.decreases-build_items-loop-taken
-decreases-build_items-loop-taken l = l.count - l.taken
+abbrev pub invariant-build_items-loop : goal.invariant-build_items-loop
+invariant-build_items-loop l = InBuild (sources_of l.s) l.initial.here l.initial.out l.initial.scratch l.production l.count l.head.d l.out l.scratch l.element l.child l.used l.here l.counter
 
 abbrev pub invariant-for_items-loop-done : goal.invariant-for_items-loop-done
 invariant-for_items-loop-done l = InFor (sources_of l.s) l.at l.initial.out l.initial.scratch l.sep l.before l.w l.count l.out l.scratch l.here l.done
 
-abbrev pub decreases-for_items-loop-done : goal.decreases-for_items-loop-done
-decreases-for_items-loop-done l = l.count - l.done
-
-abbrev pub invariant-sequence_items-loop-visited : goal.invariant-sequence_items-loop-visited
-invariant-sequence_items-loop-visited l = InSequence (sources_of l.s) l.at l.initial.out l.initial.scratch l.sep l.count l.out l.scratch l.item l.n l.r l.visited
-
-abbrev pub decreases-sequence_items-loop-visited : goal.decreases-sequence_items-loop-visited
-decreases-sequence_items-loop-visited l = l.count - l.visited
+abbrev pub invariant-sequence_items-loop : goal.invariant-sequence_items-loop
+invariant-sequence_items-loop l = InSequence (sources_of l.s) l.at l.initial.out l.initial.scratch l.sep l.fn.head.d l.out l.scratch l.item l.n l.r l.counter
