@@ -1,12 +1,11 @@
 -- Elements and rows of elements, in the code's steps.
-use Prim.Native.Nat.{ℕ, suc, ◌+◌, ◌-◌, ◌≤◌, ◌<◌}
+use Prim.Native.Nat.{ℕ, suc, ◌-◌, ◌≤◌, ◌<◌}
 use mathlib.Core.Path.{◌≡◌, refl, sym, ap, ◌∙◌}
 use mathlib.Core.List.{List, [], ◌∷◌, map}
 use mathlib.Core.Bool.{Bool, true, false}
 use native.Mathlib.Omega.{arith}
 use lib.Dec.{eqb}
 use borrow.Author.Tests.{eqb-true, eqb-false, eq-eqb, ne_eqb}
-use Rattle.rules.specs.Records.{heads}
 use Rattle.rules.specs.Grammar.{element_numbered, element_at}
 use Rattle.rules.specs.Finite.{has_lexeme, derivable, all_derivable}
 use Rattle.stream.specs.declared.record.Record.{Record}
@@ -49,16 +48,7 @@ none_left left l = eq-eqb left 0 (omega arith)
 pub some_left : (k left : ℕ) → k < left → eqb left 0 ≡ false
 some_left k left l = ne_eqb left 0 (λ z. omega arith)
 
--- a row of elements, so many of which are left
-module _ (size : ℕ → ℕ) (left at : ℕ) where
-  pub left_more : 0 < left → (next : ℕ) → next ≡ size at → heads size left at ≡ at ∷ heads size (left - 1) (at + next)
-  unfolding heads
-  left_more l next k = ap (λ (n : ℕ). heads size n at) (let e : left ≡ suc (left - 1) = omega arith in e) ∙ rw k
-
-  pub left_none : left ≤ 0 → heads size left at ≡ []
-  unfolding heads
-  left_none l = let e : left ≡ 0 = omega arith in rw e
-
+-- a row of elements, from the one at e on
 module _ (g : List ℕ) (known : ℕ → Bool) {xs : List ℕ} {whole : Bool} (rest : all_derivable g known (map (element_at g) xs) ≡ whole) where
   pub derivable_next : {e : ℕ} {es : List ℕ} → xs ≡ e ∷ es → derivable g known (element_at g e) ≡ true → all_derivable g known (map (element_at g) es) ≡ whole
   unfolding all_derivable

@@ -36,9 +36,6 @@ sound_start g = record { words = refl; derives = λ n e. absurd (false≢true (s
 pub grown_start : (g found : List ℕ) → Sound g found → Grown g found found
 grown_start g found s = record { sound = s; more = λ n e. e }
 
-pub grown_next : {g found found' found'' : List ℕ} → Grown g found found' → Grown g found' found'' → Grown g found found''
-grown_next a b = record { sound = b.sound; more = λ n e. b.more n (a.more n e) }
-
 -- one more is marked
 module _ (g found : List ℕ) (b : ℕ) (small : b < 65536) (s : Sound g found) where
   is_marked_lem : (n : ℕ) → is_marked (marked found b) n ≡ (eqb b n || is_marked found n)
@@ -97,14 +94,14 @@ pub record Rounding (g ps found₀ : List ℕ) (back : Bool) (found : List ℕ) 
 pub rounding_start : (g ps found : List ℕ) (back : Bool) → Sound g found → Rounding g ps found back found false 0
 rounding_start g ps found back s = record { sound = s; within = λ n e. e; so_far = λ j l. absurd (omega arith); same = λ e. refl }
 
-pub rounding_next : (g ps found₀ : List ℕ) (back : Bool) (found found' : List ℕ) (more r more' : Bool) (turn i : ℕ)
-    → Rounding g ps found₀ back found more turn → i ≡ turned (length ps) back turn → Tried g (get_or ps i 0) found found' r → more' ≡ (r || more)
-    → Rounding g ps found₀ back found' more' (turn + 1)
-rounding_next g ps found₀ back found found' more r more' turn i h k t m = record {
+pub rounding_next : (g ps found₀ : List ℕ) (back : Bool) (found found' : List ℕ) (more r : Bool) (turn i : ℕ)
+    → Rounding g ps found₀ back found more turn → i ≡ turned (length ps) back turn → Tried g (get_or ps i 0) found found' r
+    → Rounding g ps found₀ back found' (more || r) (turn + 1)
+rounding_next g ps found₀ back found found' more r turn i h k t = record {
   sound = t.grown.sound;
   within = λ n d. t.grown.more n (h.within n d);
   so_far = λ j q. go j q (eqb j turn) refl;
-  same = λ f. let (a, b) = neither r more (sym m ∙ f) in t.same a ∙ h.same b;
+  same = λ f. let (a, b) = neither more r f in t.same b ∙ h.same a;
 }
   where
     neither : (a b : Bool) → (a || b) ≡ false → (a ≡ false) × (b ≡ false)
@@ -125,9 +122,6 @@ turned_in : (n k : ℕ) (back : Bool) → k < n → turned n back k < n
 unfolding turned
 turned_in n k true l = omega arith
 turned_in n k false l = l
-
-pub turned_less : (n k i : ℕ) (back : Bool) → i ≡ turned n back k → k < n → i < n
-turned_less n k i back e l = rw e (turned_in n k back l)
 
 turned_twice : (n k : ℕ) (back : Bool) → k < n → turned n back (turned n back k) ≡ k
 unfolding turned

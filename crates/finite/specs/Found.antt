@@ -1,5 +1,5 @@
 -- What the search for refusal 13 is lent, and what its parts promise. The nonterminals that are found so far to derive a text are a set of bits.
-use Rattle.std.specs.Prelude.{ℕ, ◌-◌, ◌≤◌, ◌<◌, ◌≡◌, List, map, Bool, true, false, cond, length, get_or, eqb}
+use Rattle.std.specs.Prelude.{ℕ, ◌-◌, ◌≤◌, ◌<◌, ◌≡◌, List, map, Bool, true, false, cond, length, get_or}
 use Rattle.std.proofs.Math.Option.{Option, none, some}
 use Rattle.rules.specs.Blocks.{stream_length}
 use Rattle.rules.specs.Faults.{need, every}
@@ -24,32 +24,32 @@ pub record FiniteAsks (g cs ps : List ℕ) : Type 0 where
   pub of_classes : ClassesAsk g cs
   pub productions_are : ps ≡ productions g
 
--- a 1 is noted for each class that has a lexeme, and for no other
-unfoldable pub is_noted : List ℕ → ℕ → Bool
-is_noted lexemes c = eqb (get_or lexemes c 0) 1
+-- it is noted of each class whether it has a lexeme
+unfoldable pub is_noted : List Bool → ℕ → Bool
+is_noted lexemes c = get_or lexemes c false
 
-pub record Noted (g lexemes : List ℕ) : Type 0 where
+pub record Noted (g : List ℕ) (lexemes : List Bool) : Type 0 where
   pub exactly : (c : ℕ) → is_noted lexemes c ≡ has_lexeme g c
 
 -- that is so of the first n classes, and nothing is noted of those behind them
-pub record NotedTo (g : List ℕ) (n : ℕ) (lexemes : List ℕ) : Type 0 where
+pub record NotedTo (g : List ℕ) (n : ℕ) (lexemes : List Bool) : Type 0 where
   pub places : length lexemes ≡ 256
   pub so_far : (c : ℕ) → c < n → is_noted lexemes c ≡ has_lexeme g c
-  pub not_yet : (c : ℕ) → n ≤ c → get_or lexemes c 0 ≡ 0
+  pub not_yet : (c : ℕ) → n ≤ c → is_noted lexemes c ≡ false
 
 -- class n at p, with what is noted of the classes before it
-pub record ClassAsks (g : List ℕ) (n p : ℕ) (lexemes : List ℕ) : Type 0 where
+pub record ClassAsks (g : List ℕ) (n p : ℕ) (lexemes : List Bool) : Type 0 where
   pub sized : stream_length g ≡ none
   pub a_class : class g n ≡ some p
   pub named : grammar_names g ≡ none
   pub noted : NotedTo g n lexemes
 
 -- a grammar of right length, with what is noted of its classes; the element at e of it
-pub record Readable (g lexemes : List ℕ) : Type 0 where
+pub record Readable (g : List ℕ) (lexemes : List Bool) : Type 0 where
   pub sized : stream_length g ≡ none
   pub noted : Noted g lexemes
 
-pub record ElementAsks (g lexemes : List ℕ) (e : ℕ) (element : Record) : Type 0 where
+pub record ElementAsks (g : List ℕ) (lexemes : List Bool) (e : ℕ) (element : Record) : Type 0 where
   pub noted : Noted g lexemes
   pub fetched : Fetched g e element
 
@@ -63,12 +63,12 @@ pub record Sound (g found : List ℕ) : Type 0 where
   pub derives : Within (is_marked found) (is_one_of (finite g))
 
 -- what a part of the search is lent: the production at p, or all of them, and what is found so far
-pub record TryAsks (g lexemes : List ℕ) (p : ℕ) (found : List ℕ) : Type 0 where
+pub record TryAsks (g : List ℕ) (lexemes : List Bool) (p : ℕ) (found : List ℕ) : Type 0 where
   pub readable : Readable g lexemes
   pub a_production : In p (productions g)
   pub sound : Sound g found
 
-pub record SearchAsks (g lexemes ps found : List ℕ) : Type 0 where
+pub record SearchAsks (g : List ℕ) (lexemes : List Bool) (ps found : List ℕ) : Type 0 where
   pub readable : Readable g lexemes
   pub productions_are : ps ≡ productions g
   pub sound : Sound g found

@@ -1,5 +1,5 @@
 // Which classes have a lexeme: found once for each class, however many elements name it.
-ghost use Rattle.std.specs.Prelude.{◌≡◌, cond, ◌≤◌};
+ghost use Rattle.std.specs.Prelude.{◌≡◌, ◌≤◌};
 ghost use Rattle.std.proofs.Math.Option.{none};
 ghost use Rattle.rules.specs.Blocks.{stream_length};
 ghost use Rattle.rules.specs.Records.{row};
@@ -14,47 +14,39 @@ use stream::record::fetch;
 const CLASSES: usize = 256;
 
 // Whether some number is in both of two intervals that aren't empty, from lowest to highest and from one to another.
+#[tactic(auto, unfolding(rules::specs::Finite::overlap))]
 fn overlap(lowest: usize, highest: usize, from: usize, to: usize) -> bool
     ensures { result ≡ overlap lowest highest (from, to) }
 {
-    if to < lowest {
-        return false;
-    }
-    from <= highest
+    lowest <= to && from <= highest
 }
 
-// Whether an interval that isn't empty holds a character that XML 1.0 admits: by the intervals of these, not character by character.
+// The characters that XML 1.0 admits.
+const XML: [(usize, usize); 6] = [
+    (0x9, 0x9),
+    (0xa, 0xa),
+    (0xd, 0xd),
+    (0x20, 0xd7ff),
+    (0xe000, 0xfffd),
+    (0x10000, 0x10ffff),
+];
+
+// Whether an interval that isn't empty holds one of these characters: by their intervals, not character by character.
 fn holds_xml(lowest: usize, highest: usize) -> bool
     ensures { result ≡ overlap_some lowest highest xml_intervals }
 {
-    if overlap(lowest, highest, 0x9, 0x9) {
-        return true;
-    }
-    if overlap(lowest, highest, 0xa, 0xa) {
-        return true;
-    }
-    if overlap(lowest, highest, 0xd, 0xd) {
-        return true;
-    }
-    if overlap(lowest, highest, 0x20, 0xd7ff) {
-        return true;
-    }
-    if overlap(lowest, highest, 0xe000, 0xfffd) {
-        return true;
-    }
-    overlap(lowest, highest, 0x10000, 0x10ffff)
+    XML.iter()
+        .any(|&(from, to)| overlap(lowest, highest, from, to))
 }
 
 // Whether the range at r holds one.
+#[tactic(auto, unfolding(rules::specs::Finite::has_character))]
 fn has_character(g: &[u8], r: usize) -> bool
     requires { stream_length g.now ≡ none }
     ensures { result ≡ has_character g.now r }
 {
     let range = range_at(g, r);
-    if range.highest < range.lowest {
-        return false;
-    }
-    holds_xml(range.lowest, range.highest)
+    range.lowest <= range.highest && holds_xml(range.lowest, range.highest)
 }
 
 // Whether one of so many ranges from record first on does.
@@ -62,46 +54,30 @@ fn some_character(g: &[u8], first: usize, count: u16) -> bool
     requires { (stream_length g.now ≡ none) × (first ≤ 65536) }
     ensures { result ≡ some_character g.now (row count first) }
 {
-    let mut r = first;
-    let mut i = 0;
-    while i < count {
-        if has_character(g, r) {
-            return true;
-        }
-        r += 1;
-        i += 1;
-    }
-    false
+    let end = first + count as usize;
+    (first..end).any(|r| has_character(g, r))
 }
 
 // Whether the plain class at p has a lexeme: the empty one, or one of so many characters.
+#[tactic(auto, unfolding(rules::specs::Finite::plain_has_lexeme, rules::specs::Lexeme::ranges))]
 fn plain_has_lexeme(g: &[u8], p: u16) -> bool
     requires { stream_length g.now ≡ none }
     ensures { result ≡ plain_has_lexeme g.now p }
 {
     let head = fetch(g, p as usize);
-    if head.c < head.b {
-        return false;
-    }
-    if head.b == 0 {
-        return true;
-    }
-    some_character(g, p as usize + 1, head.d)
+    head.b <= head.c && (head.b == 0 || some_character(g, p as usize + 1, head.d))
 }
 
 // Whether class c has one, by what is noted of the classes.
-pub(crate) fn is_noted(lexemes: &[u8], c: u16) -> bool
+#[tactic(auto, unfolding(crate::specs::Found::is_noted))]
+pub(crate) fn is_noted(lexemes: &[bool], c: u16) -> bool
     ensures { result ≡ is_noted lexemes.now c }
 {
-    let at = c as usize;
-    if lexemes.len() <= at {
-        return false;
-    }
-    lexemes[at] == 1
+    lexemes.get(c as usize).copied().unwrap_or(false)
 }
 
 // Whether class n has one, whose head is at p. An escaped class has one if the plain class has that it names: an earlier one, which is noted.
-fn has_lexeme(g: &[u8], n: usize, p: u16, lexemes: &[u8]) -> bool
+fn has_lexeme(g: &[u8], n: usize, p: u16, lexemes: &[bool]) -> bool
     requires { ClassAsks g.now n p lexemes.now }
     ensures { result ≡ has_lexeme g.now n }
 {
@@ -112,23 +88,14 @@ fn has_lexeme(g: &[u8], n: usize, p: u16, lexemes: &[u8]) -> bool
     plain_has_lexeme(g, p)
 }
 
-// What is noted of a class.
-fn note(has: bool) -> u8
-    ensures { result ≡ cond has 1 0 }
-{
-    if has { 1 } else { 0 }
-}
-
-// 1 for each class that has a lexeme.
-pub(crate) fn class_lexemes(g: &[u8], classes: &[u16]) -> [u8; CLASSES]
+// Whether each class has a lexeme, by its number.
+pub(crate) fn class_lexemes(g: &[u8], classes: &[u16]) -> [bool; CLASSES]
     requires { ClassesAsk g.now classes.now }
     ensures { Noted g.now result }
 {
-    let mut lexemes = [0u8; CLASSES];
-    let mut n = 0;
-    while n < classes.len() {
-        lexemes[n] = note(has_lexeme(g, n, classes[n], &lexemes));
-        n += 1;
+    let mut lexemes = [false; CLASSES];
+    for (n, &p) in classes.iter().enumerate() {
+        lexemes[n] = has_lexeme(g, n, p, &lexemes);
     }
     lexemes
 }

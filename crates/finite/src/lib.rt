@@ -3,11 +3,11 @@
 // round. Where productions stand in another order, lists tell which of them to try next (`lists`): so the time grows with the records, whatever the order.
 #![tactic(auto)]
 
-ghost use Rattle.std.specs.Prelude.{◌≡◌, ◌||◌, ◌<◌};
+ghost use Rattle.std.specs.Prelude.{◌≡◌};
 ghost use Rattle.rules.specs.Finite.{grammar_finite};
 ghost use Rattle.stream.specs.Fault.{fault_of};
 ghost use Rattle.limits.specs.Tables.{ProductionTable};
-ghost use Rattle.finite.specs.Found.{FiniteAsks, SearchAsks, Rounded, AllFound, turned, unfound};
+ghost use Rattle.finite.specs.Found.{FiniteAsks, SearchAsks, Rounded, AllFound, unfound};
 
 mod lexemes;
 mod lists;
@@ -20,27 +20,10 @@ use productions::try_production;
 use stream::Fault;
 use stream::record::fetch;
 
-// The production to try in a turn.
-fn turned(count: usize, back: bool, turn: usize) -> usize
-    requires { turn < count }
-    ensures { result ≡ turned count back turn }
-{
-    if back { count - 1 - turn } else { turn }
-}
-
-fn either(a: bool, b: bool) -> bool
-    ensures { result ≡ (a || b) }
-{
-    if a {
-        return true;
-    }
-    b
-}
-
 // Tries every production, from the last to the first or the other way round. Whether one more nonterminal was found.
 fn round(
     g: &[u8],
-    lexemes: &[u8],
+    lexemes: &[bool],
     productions: &[u16],
     back: bool,
     found: &mut [u64; WORDS],
@@ -49,28 +32,28 @@ fn round(
     ensures { Rounded g.now found.old found.new result }
 {
     let mut more = false;
-    let mut turn = 0;
-    while turn < productions.len() {
-        let i = turned(productions.len(), back, turn);
-        more = either(try_production(g, lexemes, productions[i], found), more);
-        turn += 1;
+    for turn in 0..productions.len() {
+        let i = if back {
+            productions.len() - 1 - turn
+        } else {
+            turn
+        };
+        more |= try_production(g, lexemes, productions[i], found);
     }
     more
 }
 
 // Rounds until one finds nothing more, which is the first where the lists were right; and after each of the others the lists again. There are no more
 // than productions, as each of them finds one.
-fn rounds(g: &[u8], lexemes: &[u8], productions: &[u16], found: &mut [u64; WORDS])
+fn rounds(g: &[u8], lexemes: &[bool], productions: &[u16], found: &mut [u64; WORDS])
     requires { SearchAsks g.now lexemes.now productions.now found.old }
     ensures { AllFound g.now found.new }
 {
-    let mut left = productions.len();
-    while 0 < left {
+    for _ in 0..productions.len() {
         if !round(g, lexemes, productions, false, found) {
             return;
         }
         by_lists(g, lexemes, productions, found);
-        left -= 1;
     }
 }
 
@@ -92,7 +75,7 @@ fn first_unfound(g: &[u8], productions: &[u16], found: &[u64; WORDS]) -> Fault
 }
 
 // What one round from the last production to the first has left over: another the other way round, and then the lists.
-fn settle(g: &[u8], lexemes: &[u8], productions: &[u16], found: &mut [u64; WORDS]) -> Fault
+fn settle(g: &[u8], lexemes: &[bool], productions: &[u16], found: &mut [u64; WORDS]) -> Fault
     requires { SearchAsks g.now lexemes.now productions.now found.old }
     ensures { fault_of result ≡ grammar_finite g.now }
 {

@@ -9,144 +9,143 @@ use crate::productions::{try_production, waiting};
 use limits::nonterminals::WORDS;
 use stream::record::fetch;
 
-// The lists of all nonterminals: those with the same low bits share one, at most 8 of them. A list is the number of its first production plus 1, or 0
-// where nobody waits.
+// The lists of all nonterminals: those with the same low bits share one, at most 8 of them.
 const LISTS: usize = 8192;
 
 // One list more: of the productions that have found their nonterminal, while those that wait for it haven't gone on.
 const DUE: usize = 8192;
 
-// Behind them three numbers for each production: the next one in its list, the element at which it waits, and how many are left from there on.
-const ENTRIES: usize = 8193;
+// So many productions a grammar has at most.
+const PRODUCTIONS: usize = 8064;
 
-// 8,193 and three for each of 8,064 productions.
-const TABLE: usize = 32385;
-
-// The number at a place of the table, or 0 past its end; a number put there.
-fn get(table: &[u16], at: usize) -> u16 {
-    if at < table.len() { table[at] } else { 0 }
+// What is kept of a production: the next one in its list, the element at which it waits, and how many are left from there on.
+#[derive(Clone, Copy)]
+struct Entry {
+    next: u16,
+    at: u16,
+    left: u16,
 }
 
-fn put(table: &mut [u16], at: usize, x: usize) {
-    if at < table.len() {
-        table[at] = (x % 65536) as u16;
+// The first production of each list, and what is kept of all of them. In a list a production is its number plus 1, and 0 is none.
+#[derive(Drop)]
+struct Lists {
+    firsts: [u16; LISTS + 1],
+    entries: [Entry; PRODUCTIONS],
+}
+
+// The next production in the list of production k.
+fn after(lists: &Lists, k: usize) -> u16 {
+    lists.entries.get(k).map_or(0, |entry| entry.next)
+}
+
+// Production k goes to the front of a list.
+fn enlist(lists: &mut Lists, list: usize, k: usize) {
+    if list <= LISTS && k < PRODUCTIONS {
+        lists.entries[k].next = lists.firsts[list];
+        lists.firsts[list] = k as u16 + 1;
     }
-}
-
-// Production k, whose numbers are at entry, goes to the front of a list.
-fn enlist(table: &mut [u16], list: usize, entry: usize, k: usize) {
-    put(table, entry, get(table, list) as usize);
-    put(table, list, k % 65536 + 1);
 }
 
 // Production k goes on from the element at which it waits.
 fn advance(
     g: &[u8],
-    lexemes: &[u8],
+    lexemes: &[bool],
     productions: &[u16],
     k: usize,
     found: &mut [u64; WORDS],
-    table: &mut [u16],
+    lists: &mut Lists,
 )
     requires search_asks { SearchAsks g.now lexemes.now productions.now found.old }
     requires k_in_bounds { k < length productions.now }
     ensures { Grown g.now found.old found.new }
 {
-    let entry = ENTRIES + 3 * k;
-    let rest = waiting(
-        g,
-        lexemes,
-        get(table, entry + 1) as usize,
-        get(table, entry + 2),
-        found,
-    );
-    put(table, entry + 1, rest.at);
-    put(table, entry + 2, rest.left as usize);
+    let Some(entry) = lists.entries.get_mut(k) else {
+        return;
+    };
+    let rest = waiting(g, lexemes, entry.at as usize, entry.left, found);
+    entry.at = (rest.at % 65536) as u16;
+    entry.left = rest.left;
     if 0 < rest.left {
         let element = fetch(g, rest.at);
         if element.a == 2 {
-            enlist(table, element.b as usize % LISTS, entry, k);
+            enlist(lists, element.b as usize % LISTS, k);
         }
-        return;
-    }
-    if try_production(g, lexemes, productions[k], found) {
-        enlist(table, DUE, entry, k);
+    } else if try_production(g, lexemes, productions[k], found) {
+        enlist(lists, DUE, k);
     }
 }
 
-// All that wait in a list go on. (It is taken away before, as some may come back to it.)
+// All that wait for nonterminal n go on. (Their list is taken away before, as some may come back to it.)
 fn wake(
     g: &[u8],
-    lexemes: &[u8],
+    lexemes: &[bool],
     productions: &[u16],
-    list: usize,
+    n: u16,
     found: &mut [u64; WORDS],
-    table: &mut [u16],
+    lists: &mut Lists,
 )
     requires { SearchAsks g.now lexemes.now productions.now found.old }
     ensures { Grown g.now found.old found.new }
 {
-    let mut next = get(table, list);
-    put(table, list, 0);
-    let mut turn = 0;
-    while turn < productions.len() {
-        if next == 0 {
+    let list = n as usize % LISTS;
+    let mut next = lists.firsts[list];
+    lists.firsts[list] = 0;
+    for _ in 0..productions.len() {
+        let Some(k) = (next as usize).checked_sub(1) else {
             return;
-        }
-        let k = next as usize - 1;
+        };
         if productions.len() <= k {
             return;
         }
-        next = get(table, ENTRIES + 3 * k);
-        advance(g, lexemes, productions, k, found, table);
-        turn += 1;
+        next = after(lists, k);
+        advance(g, lexemes, productions, k, found, lists);
     }
 }
 
 // Every production begins to wait at its first element.
-fn begin(g: &[u8], lexemes: &[u8], productions: &[u16], found: &mut [u64; WORDS], table: &mut [u16])
+fn begin(
+    g: &[u8],
+    lexemes: &[bool],
+    productions: &[u16],
+    found: &mut [u64; WORDS],
+    lists: &mut Lists,
+)
     requires { SearchAsks g.now lexemes.now productions.now found.old }
     ensures { Grown g.now found.old found.new }
 {
-    let mut k = 0;
-    while k < productions.len() {
-        let p = productions[k] as usize;
-        let head = fetch(g, p);
-        put(table, ENTRIES + 3 * k + 1, p + 1);
-        put(table, ENTRIES + 3 * k + 2, head.d as usize);
-        advance(g, lexemes, productions, k, found, table);
-        k += 1;
+    for (k, &p) in productions.iter().enumerate() {
+        let head = fetch(g, p as usize);
+        if let Some(entry) = lists.entries.get_mut(k) {
+            entry.at = p.saturating_add(1);
+            entry.left = head.d;
+        }
+        advance(g, lexemes, productions, k, found, lists);
     }
 }
 
 // Tries productions as the lists tell. Each finds its nonterminal once at most.
-pub(crate) fn by_lists(g: &[u8], lexemes: &[u8], productions: &[u16], found: &mut [u64; WORDS])
+pub(crate) fn by_lists(g: &[u8], lexemes: &[bool], productions: &[u16], found: &mut [u64; WORDS])
     requires { SearchAsks g.now lexemes.now productions.now found.old }
     ensures { Grown g.now found.old found.new }
 {
-    let mut table = [0u16; TABLE];
-    begin(g, lexemes, productions, found, &mut table);
-    let mut turn = 0;
-    while turn < productions.len() {
-        let due = get(&table, DUE);
-        if due == 0 {
+    let mut lists = Lists {
+        firsts: [0; LISTS + 1],
+        entries: [Entry {
+            next: 0,
+            at: 0,
+            left: 0,
+        }; PRODUCTIONS],
+    };
+    begin(g, lexemes, productions, found, &mut lists);
+    for _ in 0..productions.len() {
+        let Some(k) = (lists.firsts[DUE] as usize).checked_sub(1) else {
             return;
-        }
-        let k = due as usize - 1;
-        if productions.len() <= k {
+        };
+        let Some(&p) = productions.get(k) else {
             return;
-        }
-        let behind = get(&table, ENTRIES + 3 * k);
-        put(&mut table, DUE, behind as usize);
-        let head = fetch(g, productions[k] as usize);
-        wake(
-            g,
-            lexemes,
-            productions,
-            head.b as usize % LISTS,
-            found,
-            &mut table,
-        );
-        turn += 1;
+        };
+        lists.firsts[DUE] = after(&lists, k);
+        let head = fetch(g, p as usize);
+        wake(g, lexemes, productions, head.b, found, &mut lists);
     }
 }

@@ -11,12 +11,11 @@ use records::element::size_of;
 use stream::record::{Record, fetch};
 
 // Whether the element at e derives a text. A repetition may be empty.
-fn is_derivable(g: &[u8], e: usize, element: Record, lexemes: &[u8], found: &[u64; WORDS]) -> bool
+fn is_derivable(g: &[u8], e: usize, element: Record, lexemes: &[bool], found: &[u64; WORDS]) -> bool
     requires { ElementAsks g.now lexemes.now e element }
     ensures { result ≡ derivable g.now (is_marked found.now) (element_at g.now e) }
 {
-    let a = element.a;
-    match a {
+    match element.a {
         0 => true,
         1 => is_noted(lexemes, element.b),
         2 => is_marked(found, element.b),
@@ -35,7 +34,7 @@ pub(crate) struct Rest {
 // Of so many elements from the one at first on. (Where the rest begins is for the lists: nothing is promised of it.)
 pub(crate) fn waiting(
     g: &[u8],
-    lexemes: &[u8],
+    lexemes: &[bool],
     first: usize,
     count: u16,
     found: &[u64; WORDS],
@@ -43,21 +42,22 @@ pub(crate) fn waiting(
     requires { Readable g.now lexemes.now × (first ≤ 65536) }
     ensures { eqb result.left 0 ≡ row_derivable g.now found.now count first }
 {
-    let mut e = first;
-    let mut left = count;
-    while 0 < left {
-        let element = fetch(g, e);
-        if !is_derivable(g, e, element, lexemes, found) {
-            return Rest { at: e, left: left };
+    let mut at = first;
+    for turn in 0..count {
+        let element = fetch(g, at);
+        if !is_derivable(g, at, element, lexemes, found) {
+            return Rest {
+                at,
+                left: count - turn,
+            };
         }
-        e += size_of(element);
-        left -= 1;
+        at += size_of(element);
     }
-    Rest { at: e, left: 0 }
+    Rest { at, left: 0 }
 }
 
 // The nonterminal of the production at p is found, if no element of it waits. Whether it wasn't before.
-pub(crate) fn try_production(g: &[u8], lexemes: &[u8], p: u16, found: &mut [u64; WORDS]) -> bool
+pub(crate) fn try_production(g: &[u8], lexemes: &[bool], p: u16, found: &mut [u64; WORDS]) -> bool
     requires { TryAsks g.now lexemes.now p found.old }
     ensures { Tried g.now p found.old found.new result }
 {

@@ -1,13 +1,14 @@
 -- So many rounds have found what so many rounds of the definition find.
+use mathlib.Core.Path.{refl}
 use native.Mathlib.Omega.{arith}
 use Rattle.finite.proofs.FoundLaws.{rounds_start, rounds_next, rounds_closed, rounds_all}
 use Rattle.finite.proofs.rounds.Goals as goal
 
-pub loop-left-init : goal.loop-left-init
-loop-left-init c = (omega arith, rounds_start _ _ _ (omega arith) c.requires.sound)
+pub loop-init : goal.loop-init
+loop-init c = rounds_start _ _ _ refl c.requires.sound
 
 pub round-requires : goal.round-requires
-round-requires c = record { readable = c.requires.readable; productions_are = c.requires.productions_are; sound = c.loop-left.invariant.1.sound }
+round-requires c = record { readable = c.requires.readable; productions_are = c.requires.productions_are; sound = c.loop.invariant.sound }
 
 pub returns-then-not-round : goal.returns-then-not-round
 returns-then-not-round c = rounds_closed _ _ _ _ c.round.ensures (c.if-not-round.true)
@@ -15,8 +16,8 @@ returns-then-not-round c = rounds_closed _ _ _ _ c.round.ensures (c.if-not-round
 pub by_lists-requires : goal.by_lists-requires
 by_lists-requires c = record { readable = c.requires.readable; productions_are = c.requires.productions_are; sound = c.round.ensures.sound }
 
-pub loop-left-preserved : goal.loop-left-preserved
-loop-left-preserved c = (omega arith, rounds_next _ _ _ _ _ _ _ c.loop-left.invariant.1 c.round.ensures c.by_lists.ensures (omega arith))
+pub loop-preserved : goal.loop-preserved
+loop-preserved c = rounds_next _ _ _ _ _ _ _ c.loop.invariant c.round.ensures c.by_lists.ensures (omega arith)
 
 pub returns : goal.returns
-returns c = rounds_all _ _ _ _ c.requires.productions_are c.loop-left.invariant.1 (omega arith)
+returns c = rounds_all _ _ _ _ c.requires.productions_are c.loop.invariant (omega arith)

@@ -1,21 +1,14 @@
--- Whether the ranges from the next on hold a character is whether all of them do.
-use mathlib.Core.Path.{refl, sym, ◌∙◌}
+-- `any` asks of one range after the other.
+use Prim.Native.Nat.{◌+◌}
+use mathlib.Core.Path.{refl, ◌∙◌}
 use native.Mathlib.Omega.{arith}
-use Rattle.rules.specs.Records.{row}
-use Rattle.rules.specs.Finite.{some_character}
-use Rattle.laws.specs.Rows.{heads_more, heads_done, heads_all}
-use Rattle.finite.proofs.LexemeLaws.{character_next, character_found, character_none}
+use borrow.Author.Rules.{rules}
+use Rattle.std.proofs.Common.{tests}
+use Rattle.std.proofs.lemmas.Iterator.{YieldsList-from_range}
+use Rattle.std.proofs.lemmas.Iterator.Search.{any_from_yields_List}
+use Rattle.rules.specs.Finite.{has_character}
+use Rattle.finite.proofs.LexemeLaws.{some_in_row}
 use Rattle.finite.proofs.lexemes.some_character.Goals as goal
 
-pub loop-i-init : goal.loop-i-init
-unfolding row
-loop-i-init c = (omega arith, omega arith, heads_all (some_character _) _ _ _ refl)
-
-pub returns-then-has_character : goal.returns-then-has_character
-returns-then-has_character c = character_found _ c.loop-i.invariant.2 (heads_more _ _ _ _ c.loop-i-test.true _ refl) (sym c.has_character.ensures ∙ c.if-has_character.true)
-
-pub loop-i-preserved : goal.loop-i-preserved
-loop-i-preserved c = (omega arith, omega arith, character_next _ c.loop-i.invariant.2 (heads_more _ _ _ _ c.loop-i-test.true _ refl) (sym c.has_character.ensures ∙ c.if-has_character.false))
-
 pub returns : goal.returns
-returns c = character_none _ c.loop-i.invariant.2 (heads_done _ _ _ _ c.loop-i-test.false)
+returns c = any_from_yields_List (has_character c.args.g.now) _ _ _ c.any.ensures.ran (YieldsList-from_range c.args.first (c.args.first + c.args.count) c.args.count refl (omega arith)) (λ x b q k. search (rules, tests)) ∙ some_in_row c.args.g.now c.args.count c.args.first

@@ -9,8 +9,5 @@ use Rattle.limits.specs.Bits.{is_marked}
 use Rattle.finite.specs.Found.{row_derivable}
 use Rattle.finite.proofs.productions.waiting.Given as goal
 
-abbrev pub invariant-loop-left : goal.invariant-loop-left
-invariant-loop-left l = (l.left ≤ l.count) × (l.e ≤ l.first + (l.count - l.left) * 8193) × (all_derivable l.g (is_marked l.found) (map (element_at l.g) (heads (element_size l.g) l.left l.e)) ≡ row_derivable l.g l.found l.count l.first)
-
-abbrev pub decreases-loop-left : goal.decreases-loop-left
-decreases-loop-left l = l.left
+abbrev pub invariant-loop-turn : goal.invariant-loop-turn
+invariant-loop-turn l = (l.at ≤ l.first + l.turn * 8193) × (all_derivable l.g (is_marked l.found) (map (element_at l.g) (heads (element_size l.g) (l.count - l.turn) l.at)) ≡ row_derivable l.g l.found l.count l.first)
