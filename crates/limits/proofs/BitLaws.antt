@@ -5,7 +5,7 @@ use mathlib.Core.List.{List}
 use mathlib.Core.Bool.{Bool, true, false, ◌||◌}
 use native.Mathlib.Omega.{arith}
 use native.Mathlib.Nat.{div-eq_of_lt, div_self, zero-div, one-mul, mod-eq_of_lt, pow-suc}
-use lib.ListN.{length, get_or, set, drop, replicate, length-set, get_or-replicate}
+use lib.ListN.{length, get_or, drop, replicate, length-set, get_or-replicate}
 use lib.Seq.{get_or-set_same, get_or-set_other}
 use lib.Dec.{eqb, ltb}
 use lib.Bits.{bit_or, or_step, or_shr}
@@ -98,11 +98,6 @@ has_more : (g ps : List ℕ) (i b n : ℕ) → i < length ps → b ≡ field_b g
     → has_production g n (drop i ps) ≡ (eqb b n || has_production g n (drop (i + 1) ps))
 unfolding has_production
 has_more g ps i b n more hb = rw (drop_more ps i more, hb)
-
--- the code's word in its place
-pub mark_is : (bits : List ℕ) (n w : ℕ) → w ≡ with_bit (get_or bits (n / 64) 0) (n % 64) → set bits (n / 64) w ≡ marked bits n
-unfolding marked
-mark_is bits n w e = ap (set bits (n / 64)) e
 
 pub marked_words : (bits : List ℕ) (n : ℕ) → length (marked bits n) ≡ length bits
 unfolding marked

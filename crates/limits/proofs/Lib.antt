@@ -3,3 +3,4 @@ pub mod TreeLaws
 pub mod NameLaws
 pub mod BitLaws
 pub mod RuleLaws
+pub mod TurnLaws

@@ -2,17 +2,17 @@
 use Prim.Native.Nat.{ℕ, zero, suc, ◌-◌, ◌≤◌, ◌<◌, zero-le}
 use mathlib.Core.Path.{◌≡◌, refl, sym, ap, ◌∙◌}
 use mathlib.Core.List.{List, [], ◌∷◌}
-use mathlib.Core.Bool.{Bool, true, false}
+use mathlib.Core.Bool.{true, false}
 use mathlib.Core.Option.{none, some}
 use native.Mathlib.Omega.{arith}
 use lib.ListN.{length, get_or}
 use lib.Dec.{eqb, ltb, leb-suc-suc}
 use borrow.Author.Tests.{lt-ltb, le-ltb}
 use Rattle.rules.specs.Faults.{on_found, exists}
-use Rattle.rules.specs.Records.{field_a, field_b, of_kind, nth}
+use Rattle.rules.specs.Records.{field_a, field_b, nth}
 use Rattle.rules.specs.Grammar.{class, classes, plain_class, production, productions, element_numbered, element_at, nonterminal_exists}
 use Rattle.rules.specs.Templates.{type, types, template, templates, type_numbered, type_at}
-use Rattle.rules.specs.Names.{class_named, element_named, type_named, form_named}
+use Rattle.rules.specs.Names.{element_named, type_named, form_named}
 use Rattle.rules.specs.declared.Form.{Form}
 use Rattle.rules.specs.declared.Form.TheVariants.{Build, Expand}
 use Rattle.stream.specs.declared.record.Record.{Record}
@@ -56,33 +56,13 @@ module _ (g cs : List ℕ) (c : ℕ) (h : cs ≡ classes g) where
       let e : nth (classes g) c ≡ some (get_or cs c 0) = rw (← h) (nth_some cs c l) in
       sym (ap exists (on_some none _ e) ∙ if_exists _ _ ∙ ap (λ (k : ℕ). eqb k 1) (sym f.kind))
 
--- class n: a plain one names nothing, an escaped one the class b, which is earlier and plain, or isn't
-module _ (g : List ℕ) (n p : ℕ) (escaped : Bool) (h : escaped ≡ of_kind g 5 p) where
-  pub class_plain : escaped ≡ false → true ≡ class_named g (n, p)
-  unfolding class_named
-  class_plain e = sym (rw (sym h ∙ e))
-
-  pub class_later : escaped ≡ true → (b : ℕ) → b ≡ field_b g p → n ≤ b → false ≡ class_named g (n, p)
-  unfolding class_named
-  class_later e b k l = sym (rw (sym h ∙ e, ← k, le-ltb b n l))
-
-  pub class_earlier : escaped ≡ true → (b : ℕ) → b ≡ field_b g p → b < n → exists (plain_class g b) ≡ class_named g (n, p)
-  unfolding class_named
-  class_earlier e b k l = sym (rw (sym h ∙ e, ← k, lt-ltb b n l))
-
--- a record of stream t names the type b: an earlier one, or none; one that there is, or none
+-- a record of stream t names the type b: one below n, or another
 module _ (t : List ℕ) (q b n : ℕ) (hb : b ≡ field_b t q) where
   pub field_later : n ≤ b → ltb (field_b t q) n ≡ false
   field_later l = rw (← hb) (le-ltb b n l)
 
   pub field_earlier : b < n → ltb (field_b t q) n ≡ true
   field_earlier l = rw (← hb) (lt-ltb b n l)
-
-  pub parameter_wrong : n ≡ length (types t) → n ≤ b → exists (type t (field_b t q)) ≡ false
-  parameter_wrong h l = sym (type_there t (field_b t q) n h) ∙ field_later l
-
-  pub parameter_right : n ≡ length (types t) → b < n → exists (type t (field_b t q)) ≡ true
-  parameter_right h l = sym (type_there t (field_b t q) n h) ∙ field_earlier l
 
 -- an element by its number a: a class, a nonterminal, or another, which names nothing
 named_nonterminal : (g : List ℕ) (a e : ℕ) → 2 ≤ a → a < 5 → nonterminal_exists g (field_b g e) ≡ element_named g (element_numbered g a e)

@@ -4,33 +4,22 @@ use mathlib.Core.Path.{◌≡◌, sym, ◌∙◌}
 use mathlib.Core.List.{List}
 use mathlib.Core.Bool.{Bool, true, false}
 use mathlib.Core.Option.{none, some}
-use lib.Dec.{leb}
+use lib.ListN.{length}
 use borrow.Author.Tests.{le-leb, lt-leb}
-use Rattle.rules.specs.Faults.{every}
-use Rattle.rules.specs.Records.{field_a, field_b, heads, of_kind}
+use Rattle.rules.specs.Faults.{need, every, exists}
+use Rattle.rules.specs.Records.{field_a, field_b, field_d, heads, row, of_kind}
 use Rattle.rules.specs.Lexeme.{ranges}
 use Rattle.rules.specs.Grammar.{classes, productions, nonterminal_exists}
-use Rattle.rules.specs.Templates.{types, templates, type_at, parameter_heads, body}
+use Rattle.rules.specs.Templates.{type, types, templates, type_at, field_heads, parameter_heads, body}
 use Rattle.rules.specs.Limits.{deepest, template_limits, value_limits}
 use Rattle.rules.specs.Names.{grammar_names, type_named, type_names, template_names, templates_names}
-use Rattle.rules.specs.Classes.{range_right, class_bounds, bounds_right}
+use Rattle.rules.specs.Classes.{class_bounds, bounds_right}
 use Rattle.stream.specs.declared.record.Record.{Record}
 use Rattle.stream.specs.Record.{Fetched}
 use Rattle.limits.specs.Bits.{is_marked, Nonterminals}
-use Rattle.limits.specs.Rows.{values_within, node_within, nodes_within, nodes_named, classes_named, elements_named, fields_earlier, types_named, parameters_named, templates_named, ranges_right}
-use Rattle.records.specs.Ranges.{RangeAt}
-use Rattle.records.specs.declared.range.Range.{Range}
+use Rattle.limits.specs.Rows.{values_within, node_within, nodes_within, nodes_named, classes_named, elements_named, types_below, types_named, templates_named, ranges_right}
+use Rattle.limits.proofs.NameLaws.{type_there}
 use Rattle.laws.specs.Faults.{every_one, need_right, need_wrong, both_right, both_wrong}
-
--- a range: its lowest, then its highest
-module _ (g : List ℕ) (r : ℕ) (x : Range) (h : RangeAt g r x) where
-  pub range_wrong : x.highest < x.lowest → false ≡ range_right g r
-  unfolding range_right
-  range_wrong l = sym (rw (← h.from, ← h.to, lt-leb _ _ l))
-
-  pub range_rest : x.lowest ≤ x.highest → leb x.highest 0x10ffff ≡ range_right g r
-  unfolding range_right
-  range_rest l = sym (rw (← h.from, ← h.to, le-leb _ _ l))
 
 -- a class: an escaped one has no bounds; a plain one has least and most, then the ranges
 module _ (g : List ℕ) (p : ℕ) (escaped : Bool) (k : escaped ≡ of_kind g 5 p) where
@@ -67,9 +56,9 @@ module _ (g t : List ℕ) (n p : ℕ) (named : Bool) (h : named ≡ type_named g
   unfolding type_names
   type_wrong e = sym (both_wrong _ (need_wrong p (sym h ∙ e)))
 
-  pub type_fields : named ≡ true → fields_earlier t n p ≡ type_names g t (n, p)
-  unfolding type_names fields_earlier
-  type_fields e = sym (both_right _ (need_right p (sym h ∙ e)))
+  pub type_fields : named ≡ true → (d : ℕ) → d ≡ field_d t p → types_below t n d p ≡ type_names g t (n, p)
+  unfolding type_names types_below field_heads
+  type_fields e d k = sym (both_right _ (need_right p (sym h ∙ e)) ∙ rw (← k))
 
 -- a template's limits: its parameters, then its body
 module _ (t : List ℕ) (p a : ℕ) (h : a ≡ field_a t p) where
@@ -85,6 +74,11 @@ pub value_within : (v : List ℕ) → values_within v 200 1 0 ≡ value_limits v
 unfolding values_within value_limits deepest heads
 value_within v = every_one _ _
 
+-- the types of parameters are those that there are
+parameters_are : (t : List ℕ) (n count p : ℕ) → n ≡ length (types t) → types_below t n count p ≡ every (λ a. need (exists (type t (field_b t a))) a) (row count (p + 1))
+unfolding types_below
+parameters_are t n count p h = λ i. every (λ a. need (type_there t (field_b t a) n h i) a) (row count (p + 1))
+
 -- what a template names: its nonterminal b, then the types of its parameters, then what is in its body
 module _ (g t : List ℕ) (p a b : ℕ) (ha : a ≡ field_a t p) (hb : b ≡ field_b t p) (bits : List ℕ) (small : b < 65536) (hn : Nonterminals g bits)
     (named : Bool) (h : named ≡ is_marked bits b) where
@@ -95,13 +89,17 @@ module _ (g t : List ℕ) (p a b : ℕ) (ha : a ≡ field_a t p) (hb : b ≡ fie
   unfolding template_names
   template_wrong e = sym (both_wrong _ (need_wrong p (sym exists_is ∙ e)))
 
-  pub template_parameters : named ≡ true → {q : ℕ} → parameters_named t a p ≡ some q → some q ≡ template_names g t p
-  unfolding template_names parameters_named parameter_heads
-  template_parameters e f = sym (both_right _ (need_right p (sym exists_is ∙ e)) ∙ both_wrong _ (rw (← ha) f))
+  module _ (count : ℕ) (hc : count ≡ length (types t)) (e : named ≡ true) where
+    pub template_parameters : {q : ℕ} → types_below t count a p ≡ some q → some q ≡ template_names g t p
+    unfolding template_names parameter_heads
+    template_parameters f =
+        sym (both_right _ (need_right p (sym exists_is ∙ e)) ∙ both_wrong _ (rw (← ha) (sym (parameters_are t count a p hc) ∙ f)))
 
-  pub template_body : named ≡ true → parameters_named t a p ≡ none → nodes_named g t 200 1 (p + 1 + a) ≡ template_names g t p
-  unfolding template_names parameters_named parameter_heads nodes_named deepest body heads
-  template_body e f = every_one _ _ ∙ sym (both_right _ (need_right p (sym exists_is ∙ e)) ∙ both_right _ (rw (← ha) f) ∙ rw (← ha))
+    pub template_body : types_below t count a p ≡ none → nodes_named g t 200 1 (p + 1 + a) ≡ template_names g t p
+    unfolding template_names parameter_heads nodes_named deepest body heads
+    template_body f =
+        every_one _ _
+        ∙ sym (both_right _ (need_right p (sym exists_is ∙ e)) ∙ both_right _ (rw (← ha) (sym (parameters_are t count a p hc) ∙ f)) ∙ rw (← ha))
 
 -- what a template set names: types, then templates
 module _ (g t us ts : List ℕ) (hu : us ≡ types t) (ht : ts ≡ templates t) where

@@ -2,11 +2,11 @@
 use Rattle.std.specs.Prelude.{ℕ, ◌+◌, ◌*◌, ◌^◌, ◌≤◌, ◌<◌, ◌≡◌, List, true, ltb}
 use Rattle.std.proofs.Math.Option.{Option, none}
 use Rattle.rules.specs.Blocks.{stream_length}
-use Rattle.rules.specs.Faults.{need, every, tree, at, exists}
+use Rattle.rules.specs.Faults.{need, every, tree, at}
 use Rattle.rules.specs.Records.{field_b, field_c, heads, row, numbered}
 use Rattle.rules.specs.Grammar.{element_at, element_heads}
 use Rattle.rules.specs.Value.{value_size, values_below}
-use Rattle.rules.specs.Templates.{form_of, nodes_below, field_heads, type}
+use Rattle.rules.specs.Templates.{form_of, nodes_below}
 use Rattle.rules.specs.Limits.{looped, looped_below, few_loops}
 use Rattle.rules.specs.Names.{class_named, element_named, type_names, node_named, template_names}
 use Rattle.rules.specs.Classes.{range_right}
@@ -49,22 +49,19 @@ nodes_within t left loops count first = every (node_within t left loops) (heads 
 unfoldable pub nodes_named : List ℕ → List ℕ → ℕ → ℕ → ℕ → Option ℕ
 nodes_named g t left count first = every (tree (node_named g t) (nodes_below t) left) (heads (field_c t) count first)
 
--- refusal 5 in classes by their numbers, in the elements of a production, in the fields of type n, in types by their numbers, in so many parameters
--- of a template, in templates
+-- refusal 5 in classes by their numbers, in the elements of a production, in so many fields or parameters behind a head, each of which names a type
+-- below a bound, in types by their numbers, in templates
 unfoldable pub classes_named : List ℕ → List ℕ → Option ℕ
 classes_named g cs = every (λ c. need (class_named g c) c.1) (numbered 0 cs)
 
 unfoldable pub elements_named : List ℕ → ℕ → Option ℕ
 elements_named g p = every (λ e. need (element_named g (element_at g e)) e) (element_heads g p)
 
-unfoldable pub fields_earlier : List ℕ → ℕ → ℕ → Option ℕ
-fields_earlier t n p = every (λ f. need (ltb (field_b t f) n) f) (field_heads t p)
+unfoldable pub types_below : List ℕ → ℕ → ℕ → ℕ → Option ℕ
+types_below t bound count p = every (λ r. need (ltb (field_b t r) bound) r) (row count (p + 1))
 
 unfoldable pub types_named : List ℕ → List ℕ → List ℕ → Option ℕ
 types_named g t us = every (type_names g t) (numbered 0 us)
-
-unfoldable pub parameters_named : List ℕ → ℕ → ℕ → Option ℕ
-parameters_named t count p = every (λ a. need (exists (type t (field_b t a))) a) (row count (p + 1))
 
 unfoldable pub templates_named : List ℕ → List ℕ → List ℕ → Option ℕ
 templates_named g t ts = every (template_names g t) ts

@@ -42,11 +42,7 @@ pub record Nameable (g : List ℕ) (count : ℕ) (bits : List ℕ) : Type 0 wher
   pub classes_are : count ≡ length (classes g)
   pub nonterminals_are : Nonterminals g bits
 
--- how many types there are; what a type may name: the plain ones among the classes, so many types
-pub record TypeCount (t : List ℕ) (count : ℕ) : Type 0 where
-  pub sized : stream_length t ≡ none
-  pub types_are : count ≡ length (types t)
-
+-- what a type may name: the plain ones among the classes, so many types
 pub record TypeCounts (g t cs : List ℕ) (us : ℕ) : Type 0 where
   pub grammar_sized : stream_length g ≡ none
   pub sized : stream_length t ≡ none

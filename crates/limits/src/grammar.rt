@@ -10,7 +10,6 @@ use crate::nonterminals::{WORDS, is_marked};
 use crate::plain::is_plain_class;
 use records::class::is_escaped;
 use records::element::size_of;
-use stream::Fault;
 use stream::record::{Record, fetch};
 
 // Whether what the element at e names exists: a class, or a nonterminal. A keyword names nothing, and neither does an element whose form there
@@ -25,8 +24,7 @@ fn is_named(
     requires { NamingElement g.now e element classes nonterminals.now }
     ensures { result ≡ element_named g.now (element_at g.now e) }
 {
-    let a = element.a;
-    match a {
+    match element.a {
         1 => (element.b as usize) < classes,
         2..=4 => is_marked(nonterminals, element.b),
         _ => true,
@@ -34,54 +32,48 @@ fn is_named(
 }
 
 // The elements of the production at p.
-fn elements_named(g: &[u8], p: u16, classes: usize, nonterminals: &[u64; WORDS]) -> Fault
+fn elements_named(
+    g: &[u8],
+    p: u16,
+    classes: usize,
+    nonterminals: &[u64; WORDS],
+) -> Result<(), usize>
     requires { Nameable g.now classes nonterminals.now }
     ensures { fault_of result ≡ elements_named g.now p }
 {
     let head = fetch(g, p as usize);
-    let count = head.d;
     let mut e = p as usize + 1;
-    let mut i = 0;
-    while i < count {
+    for _ in 0..head.d {
         let element = fetch(g, e);
         if !is_named(g, e, element, classes, nonterminals) {
-            return Fault::At(e);
+            return Err(e);
         }
         e += size_of(element);
-        i += 1;
     }
-    Fault::Nowhere
+    Ok(())
 }
 
 // Whether class n, whose head is at p, names an earlier plain class, if it is an escaped one.
+#[tactic(auto, unfolding(rules::specs::Names::class_named))]
 fn class_named(g: &[u8], classes: &[u16], n: usize, p: u16) -> bool
     requires { ClassTable g.now classes.now }
     ensures { result ≡ class_named g.now (n, p) }
 {
     let head = fetch(g, p as usize);
-    if !is_escaped(head) {
-        return true;
-    }
-    if n <= head.b as usize {
-        return false;
-    }
-    is_plain_class(g, classes, head.b)
+    !is_escaped(head) || ((head.b as usize) < n && is_plain_class(g, classes, head.b))
 }
 
 // The place of the first escaped class that names no earlier plain class.
-fn classes_named(g: &[u8], classes: &[u16]) -> Fault
+fn classes_named(g: &[u8], classes: &[u16]) -> Result<(), usize>
     requires { ClassTable g.now classes.now }
     ensures { fault_of result ≡ classes_named g.now classes.now }
 {
-    let mut n = 0;
-    while n < classes.len() {
-        let p = classes[n];
+    for (n, &p) in classes.iter().enumerate() {
         if !class_named(g, classes, n, p) {
-            return Fault::At(p as usize);
+            return Err(p as usize);
         }
-        n += 1;
     }
-    Fault::Nowhere
+    Ok(())
 }
 
 // The place of the first escaped class that names no earlier plain class, or element that names a class or a nonterminal that isn't there.
@@ -90,21 +82,13 @@ pub fn grammar_names(
     classes: &[u16],
     productions: &[u16],
     nonterminals: &[u64; WORDS],
-) -> Fault
+) -> Result<(), usize>
     requires { GrammarTables g.now classes.now productions.now nonterminals.now }
     ensures { fault_of result ≡ grammar_names g.now }
 {
-    let named = classes_named(g, classes);
-    if let Fault::At(p) = named {
-        return Fault::At(p);
+    classes_named(g, classes)?;
+    for &p in productions {
+        elements_named(g, p, classes.len(), nonterminals)?;
     }
-    let mut i = 0;
-    while i < productions.len() {
-        let fault = elements_named(g, productions[i], classes.len(), nonterminals);
-        if let Fault::At(e) = fault {
-            return Fault::At(e);
-        }
-        i += 1;
-    }
-    Fault::Nowhere
+    Ok(())
 }

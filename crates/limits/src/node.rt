@@ -60,9 +60,9 @@ pub(crate) fn node_at(t: &[u8], p: usize) -> Node
     let form = form_of(head);
     let below = nodes_below(t, p, head, form);
     Node {
-        form: form,
+        form,
         names: head.b as usize,
         size: head.c as usize,
-        below: below,
+        below,
     }
 }

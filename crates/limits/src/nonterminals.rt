@@ -1,7 +1,7 @@
 // Sets of nonterminals, such as those that exist: a bit for each of the 65,536 numbers, so that no name is looked for among the productions.
-ghost use Rattle.std.specs.Prelude.{◌≡◌, ◌<◌};
+ghost use Rattle.std.specs.Prelude.{◌≡◌};
 ghost use Rattle.limits.specs.Tables.{ProductionTable};
-ghost use Rattle.limits.specs.Bits.{is_marked, with_bit, marked, Nonterminals};
+ghost use Rattle.limits.specs.Bits.{is_marked, marked, Nonterminals};
 
 use stream::record::fetch;
 
@@ -9,6 +9,7 @@ use stream::record::fetch;
 pub const WORDS: usize = 1024;
 
 // Whether the bit of n is set.
+#[tactic(auto, unfolding(crate::specs::Bits::is_marked))]
 pub fn is_marked(bits: &[u64; WORDS], n: u16) -> bool
     ensures { result ≡ is_marked bits.now n }
 {
@@ -17,21 +18,12 @@ pub fn is_marked(bits: &[u64; WORDS], n: u16) -> bool
     (word >> (at % 64)) % 2 == 1
 }
 
-// A word with one more bit set.
-fn with_bit(word: u64, bit: usize) -> u64
-    requires { bit < 64 }
-    ensures { result ≡ with_bit word bit }
-{
-    word | (1 << bit)
-}
-
 // Sets the bit of n.
 pub fn mark(bits: &mut [u64; WORDS], n: u16)
     ensures { bits.new ≡ marked bits.old n }
 {
     let at = n as usize;
-    let word = bits[at / 64];
-    bits[at / 64] = with_bit(word, at % 64);
+    bits[at / 64] |= 1 << (at % 64);
 }
 
 // The nonterminals that the productions are of.
@@ -40,13 +32,9 @@ pub fn nonterminals(g: &[u8], productions: &[u16]) -> [u64; WORDS]
     ensures { Nonterminals g.now result }
 {
     let mut bits = [0u64; WORDS];
-    let mut i = 0;
-    while i < productions.len() {
-        let head = fetch(g, productions[i] as usize);
-        let n = head.b as usize;
-        let at = n / 64;
-        bits[at] = with_bit(bits[at], n % 64);
-        i += 1;
+    for &p in productions {
+        let head = fetch(g, p as usize);
+        mark(&mut bits, head.b);
     }
     bits
 }

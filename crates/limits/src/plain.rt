@@ -11,8 +11,5 @@ pub(crate) fn is_plain_class(g: &[u8], classes: &[u16], c: u16) -> bool
     ensures { result ≡ exists (plain_class g.now c) }
 {
     let n = c as usize;
-    if classes.len() <= n {
-        return false;
-    }
-    fetch(g, classes[n] as usize).kind == 1
+    n < classes.len() && fetch(g, classes[n] as usize).kind == 1
 }

@@ -10,7 +10,6 @@ ghost use Rattle.limits.specs.Tables.{TemplateTable};
 use crate::DEEPEST;
 use crate::node::node_at;
 use rules::Form;
-use stream::Fault;
 use stream::record::fetch;
 
 // So many parameters a template may have.
@@ -37,65 +36,55 @@ fn loops_inside(form: Form, loops: usize) -> usize
 }
 
 // A row of nodes and all below them, where left levels may follow each other and so many loops stand around the row.
-fn nodes_within(t: &[u8], first: usize, count: usize, left: usize, loops: usize) -> Fault
+fn nodes_within(
+    t: &[u8],
+    first: usize,
+    count: usize,
+    left: usize,
+    loops: usize,
+) -> Result<(), usize>
     requires { NodeRow t.now left first count }
     ensures { fault_of result ≡ nodes_within t.now left loops count first }
 {
     if count == 0 {
-        return Fault::Nowhere;
+        return Ok(());
     }
-    if left == 0 {
-        return Fault::At(first);
-    }
-    if LOOPS < loops {
-        return Fault::At(first);
+    if left == 0 || LOOPS < loops {
+        return Err(first);
     }
     let mut at = first;
-    let mut i = 0;
-    while i < count {
+    for _ in 0..count {
         let node = node_at(t, at);
-        let form = node.form;
         let below = node.below;
-        let after = at + node.size;
-        let turn = i + 1;
+        at += node.size;
         // Most nodes have none below them, and cost no call.
         if below.count != 0 {
-            let inside = loops_inside(form, loops);
-            let fault = nodes_within(t, below.first, below.count, left - 1, inside);
-            if let Fault::At(p) = fault {
-                return Fault::At(p);
-            }
+            let inside = loops_inside(node.form, loops);
+            nodes_within(t, below.first, below.count, left - 1, inside)?;
         }
-        at = after;
-        i = turn;
     }
-    Fault::Nowhere
+    Ok(())
 }
 
 // The limits of the template at p: its parameters, the depth of its body, the loops in it.
-fn template_limits(t: &[u8], p: u16) -> Fault
+fn template_limits(t: &[u8], p: u16) -> Result<(), usize>
     requires { stream_length t.now ≡ none }
     ensures { fault_of result ≡ template_limits t.now p }
 {
     let head = fetch(t, p as usize);
     if PARAMETERS < head.a {
-        return Fault::At(p as usize);
+        return Err(p as usize);
     }
     nodes_within(t, p as usize + 1 + head.a as usize, 1, DEEPEST, 0)
 }
 
 // The place of the first template with over 8 parameters, or node that is over 200 deep or has over 16 loops around it.
-pub fn templates_limits(t: &[u8], templates: &[u16]) -> Fault
+pub fn templates_limits(t: &[u8], templates: &[u16]) -> Result<(), usize>
     requires { TemplateTable t.now templates.now }
     ensures { fault_of result ≡ templates_limits t.now }
 {
-    let mut i = 0;
-    while i < templates.len() {
-        let fault = template_limits(t, templates[i]);
-        if let Fault::At(p) = fault {
-            return Fault::At(p);
-        }
-        i += 1;
+    for &p in templates {
+        template_limits(t, p)?;
     }
-    Fault::Nowhere
+    Ok(())
 }

@@ -8,47 +8,46 @@ ghost use Rattle.limits.specs.Rows.{ValueRow, values_within};
 
 use crate::DEEPEST;
 use records::value::{count_below, size_of};
-use stream::Fault;
 use stream::record::{Place, fetch_at, forward, place_of};
 
 // A row of values and all below them, where left levels may follow each other. Each head is read once, at a place that is carried on.
-fn values_within(v: &[u8], first: usize, from: Place, count: usize, left: usize) -> Fault
+fn values_within(
+    v: &[u8],
+    first: usize,
+    from: Place,
+    count: usize,
+    left: usize,
+) -> Result<(), usize>
     requires { ValueRow v.now left first from count }
     ensures { fault_of result ≡ values_within v.now left count first }
 {
     if count == 0 {
-        return Fault::Nowhere;
+        return Ok(());
     }
     if left == 0 {
-        return Fault::At(first);
+        return Err(first);
     }
     let mut at = first;
     let mut place = from;
-    let mut i = 0;
-    while i < count {
+    for _ in 0..count {
         let head = fetch_at(v, place);
         let size = size_of(head);
         let after = at + size;
         let next = forward(place, size);
-        let turn = i + 1;
         let below = count_below(head);
         // Most values have none below them, and cost no call.
         if below != 0 {
             let inside = forward(place, 1);
-            let fault = values_within(v, at + 1, inside, below, left - 1);
-            if let Fault::At(p) = fault {
-                return Fault::At(p);
-            }
+            values_within(v, at + 1, inside, below, left - 1)?;
         }
         at = after;
         place = next;
-        i = turn;
     }
-    Fault::Nowhere
+    Ok(())
 }
 
 // The place of the first value that is over 200 deep.
-pub fn value_limits(v: &[u8]) -> Fault
+pub fn value_limits(v: &[u8]) -> Result<(), usize>
     requires { stream_length v.now ≡ none }
     ensures { fault_of result ≡ value_limits v.now }
 {

@@ -8,8 +8,5 @@ use Rattle.rules.specs.Records.{heads}
 use Rattle.limits.specs.Rows.{elements_named}
 use Rattle.limits.proofs.grammar.elements_named.Given as goal
 
-abbrev pub invariant-loop-i : goal.invariant-loop-i
-invariant-loop-i l = (l.i ≤ l.count) × (l.e ≤ l.p + 1 + l.i * 65536) × (every (λ e. need (element_named l.g (element_at l.g e)) e) (heads (element_size l.g) (l.count - l.i) l.e) ≡ elements_named l.g l.p)
-
-abbrev pub decreases-loop-i : goal.decreases-loop-i
-decreases-loop-i l = l.count - l.i
+abbrev pub invariant-loop : goal.invariant-loop
+invariant-loop l = (l.e ≤ l.p + 1 + l.counter * 65536) × (every (λ e. need (element_named l.g (element_at l.g e)) e) (heads (element_size l.g) (l.end - l.counter) l.e) ≡ elements_named l.g l.p)

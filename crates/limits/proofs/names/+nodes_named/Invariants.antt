@@ -13,8 +13,5 @@ use Rattle.limits.proofs.names.+nodes_named.Given as goal
 abbrev pub decreases-nodes_named : goal.decreases-nodes_named
 decreases-nodes_named l = l.left
 
-abbrev pub invariant-loop-i : goal.invariant-loop-i
-invariant-loop-i l = (l.i ≤ l.count) × (l.at ≤ l.first + l.i * 65536) × ((g : List ℕ) → NodeCounts g l.t l.productions l.templates → every (tree (node_named g l.t) (nodes_below l.t) l.left) (heads (field_c l.t) (l.count - l.i) l.at) ≡ nodes_named g l.t l.left l.count l.first)
-
-abbrev pub decreases-loop-i : goal.decreases-loop-i
-decreases-loop-i l = l.count - l.i
+abbrev pub invariant-loop : goal.invariant-loop
+invariant-loop l = (l.at ≤ l.first + l.counter * 65536) × ((g : List ℕ) → NodeCounts g l.t l.productions l.templates → every (tree (node_named g l.t) (nodes_below l.t) l.left) (heads (field_c l.t) (l.count - l.counter) l.at) ≡ nodes_named g l.t l.left l.count l.first)

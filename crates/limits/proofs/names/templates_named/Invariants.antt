@@ -1,14 +1,10 @@
--- What is wrong in the templates from i on is what is wrong in all of them.
-use Prim.Native.Nat.{◌-◌, ◌≤◌}
+-- What is wrong in the templates from the next on is what is wrong in all of them.
 use mathlib.Core.Path.{◌≡◌}
-use lib.ListN.{length, drop}
+use lib.ListN.{drop}
 use Rattle.rules.specs.Faults.{every}
 use Rattle.rules.specs.Names.{template_names}
 use Rattle.limits.specs.Rows.{templates_named}
 use Rattle.limits.proofs.names.templates_named.Given as goal
 
-abbrev pub invariant-loop-i : goal.invariant-loop-i
-invariant-loop-i l = (l.i ≤ length l.templates) × (every (template_names l.g l.t) (drop l.i l.templates) ≡ templates_named l.g l.t l.templates)
-
-abbrev pub decreases-loop-i : goal.decreases-loop-i
-decreases-loop-i l = length l.templates - l.i
+abbrev pub invariant-loop-p : goal.invariant-loop-p
+invariant-loop-p l = every (template_names l.g l.t) (drop l.p-index l.templates) ≡ templates_named l.g l.t l.templates

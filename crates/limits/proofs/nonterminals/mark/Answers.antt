@@ -1,6 +1,10 @@
 -- One bit more.
-use Rattle.limits.proofs.BitLaws.{mark_is}
+use Prim.Native.Nat.{◌%◌}
+use native.Mathlib.Omega.{arith}
+use Rattle.limits.specs.Bits.{marked}
+use Rattle.limits.proofs.BitLaws.{with_bit_lem}
 use Rattle.limits.proofs.nonterminals.mark.Goals as goal
 
 pub returns : goal.returns
-returns c = mark_is _ _ _ c.with_bit.ensures
+unfolding marked
+returns c = rw (with_bit_lem _ (c.args.n % 64) (omega arith))

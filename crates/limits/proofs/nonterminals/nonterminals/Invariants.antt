@@ -1,11 +1,6 @@
--- The bits so far and the productions from i on make up the nonterminals that exist.
-use Prim.Native.Nat.{◌-◌, ◌≤◌}
-use lib.ListN.{length}
+-- The bits so far and the productions from the next on make up the nonterminals that exist.
 use Rattle.limits.proofs.BitLaws.{Marking}
 use Rattle.limits.proofs.nonterminals.nonterminals.Given as goal
 
-abbrev pub invariant-loop-i : goal.invariant-loop-i
-invariant-loop-i l = (l.i ≤ length l.productions) × (Marking l.g l.productions l.bits l.i)
-
-abbrev pub decreases-loop-i : goal.decreases-loop-i
-decreases-loop-i l = length l.productions - l.i
+abbrev pub invariant-loop-p : goal.invariant-loop-p
+invariant-loop-p l = Marking l.g l.productions l.bits l.p-index

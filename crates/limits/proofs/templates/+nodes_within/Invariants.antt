@@ -9,8 +9,5 @@ use Rattle.limits.proofs.templates.+nodes_within.Given as goal
 abbrev pub decreases-nodes_within : goal.decreases-nodes_within
 decreases-nodes_within l = l.left
 
-abbrev pub invariant-loop-i : goal.invariant-loop-i
-invariant-loop-i l = (l.i ≤ l.count) × (l.at ≤ l.first + l.i * 65536) × (every (node_within l.t l.left l.loops) (heads (field_c l.t) (l.count - l.i) l.at) ≡ nodes_within l.t l.left l.loops l.count l.first)
-
-abbrev pub decreases-loop-i : goal.decreases-loop-i
-decreases-loop-i l = l.count - l.i
+abbrev pub invariant-loop : goal.invariant-loop
+invariant-loop l = (l.at ≤ l.first + l.counter * 65536) × (every (node_within l.t l.left l.loops) (heads (field_c l.t) (l.count - l.counter) l.at) ≡ nodes_within l.t l.left l.loops l.count l.first)

@@ -13,8 +13,5 @@ use Rattle.limits.proofs.value.+values_within.Given as goal
 abbrev pub decreases-values_within : goal.decreases-values_within
 decreases-values_within l = l.left
 
-abbrev pub invariant-loop-i : goal.invariant-loop-i
-invariant-loop-i l = (l.i ≤ l.count) × (l.at ≤ l.first + l.i * 65536) × (every (tree (λ w. true) (values_below l.v) l.left) (heads (value_size l.v) (l.count - l.i) l.at) ≡ values_within l.v l.left l.count l.first) × (l.place ≡ place_of l.at)
-
-abbrev pub decreases-loop-i : goal.decreases-loop-i
-decreases-loop-i l = l.count - l.i
+abbrev pub invariant-loop : goal.invariant-loop
+invariant-loop l = (l.at ≤ l.first + l.counter * 65536) × (every (tree (λ w. true) (values_below l.v) l.left) (heads (value_size l.v) (l.count - l.counter) l.at) ≡ values_within l.v l.left l.count l.first) × (l.place ≡ place_of l.at)
