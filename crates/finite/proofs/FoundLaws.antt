@@ -10,6 +10,9 @@ use native.Mathlib.Nat.{zero-div}
 use lib.ListN.{length, get_or, replicate, drop, get_or-eq_default, get_or-replicate, length-replicate}
 use lib.Dec.{eqb, ltb}
 use borrow.Author.Tests.{eqb-true, eqb-false, ltb-true, ltb-false}
+use Rattle.std.specs.Prelude.{Result, Ok, Err}
+use Rattle.std.specs.Result.{is_ok}
+use Rattle.stream.specs.Fault.{fault_of}
 use Rattle.rules.specs.Faults.{need, every}
 use Rattle.rules.specs.Records.{field_b, nth}
 use Rattle.rules.specs.Grammar.{productions, element_heads, elements}
@@ -186,9 +189,16 @@ pub all_found : (g found : List ℕ) → AllFound g found → unfound g found �
 unfolding unfound grammar_finite all_among
 all_found g found h = λ j. every (λ p. need (both_same (is_marked found (field_b g p)) (is_one_of (finite g) (field_b g p)) (h.sound.derives _) (h.all _) j) p) (productions g)
 
-pub none_unfound : (g found : List ℕ) → Sound g found → unfound g found ≡ none → none ≡ grammar_finite g
+none_found : {T : Type 0} (r : Result T ℕ) → is_ok r ≡ true → none ≡ fault_of r
+none_found (Ok _) e = refl
+none_found (Err _) e = absurd (false≢true e)
+
+none_unfound : (g found : List ℕ) → Sound g found → unfound g found ≡ none → none ≡ grammar_finite g
 unfolding unfound grammar_finite all_among
 none_unfound g found s e = sym (in_every _ _ λ p i. (need_iff _ p).1 (s.derives (field_b g p) (need_none _ p (every_in _ e i))))
+
+pub first_is_ok : (g found : List ℕ) {T : Type 0} (r : Result T ℕ) → Sound g found → fault_of r ≡ unfound g found → is_ok r ≡ true → none ≡ grammar_finite g
+first_is_ok g found r s e k = none_unfound g found s (sym (none_found r k ∙ e))
 
 pub unfound_all : (g ps found : List ℕ) → ps ≡ productions g → every (λ p. need (is_marked found (field_b g p)) p) (drop 0 ps) ≡ unfound g found
 unfolding unfound

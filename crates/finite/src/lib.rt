@@ -17,7 +17,6 @@ use lexemes::class_lexemes;
 use limits::nonterminals::{WORDS, is_marked};
 use lists::by_lists;
 use productions::try_production;
-use stream::Fault;
 use stream::record::fetch;
 
 // Tries every production, from the last to the first or the other way round. Whether one more nonterminal was found.
@@ -58,48 +57,48 @@ fn rounds(g: &[u8], lexemes: &[bool], productions: &[u16], found: &mut [u64; WOR
 }
 
 // The place of the first production whose nonterminal isn't found.
-fn first_unfound(g: &[u8], productions: &[u16], found: &[u64; WORDS]) -> Fault
+fn first_unfound(g: &[u8], productions: &[u16], found: &[u64; WORDS]) -> Result<(), usize>
     requires { ProductionTable g.now productions.now }
     ensures { fault_of result ≡ unfound g.now found.now }
 {
-    let mut i = 0;
-    while i < productions.len() {
-        let p = productions[i] as usize;
-        let head = fetch(g, p);
+    for &p in productions {
+        let head = fetch(g, p as usize);
         if !is_marked(found, head.b) {
-            return Fault::At(p);
+            return Err(p as usize);
         }
-        i += 1;
     }
-    Fault::Nowhere
+    Ok(())
 }
 
 // What one round from the last production to the first has left over: another the other way round, and then the lists.
-fn settle(g: &[u8], lexemes: &[bool], productions: &[u16], found: &mut [u64; WORDS]) -> Fault
+fn settle(
+    g: &[u8],
+    lexemes: &[bool],
+    productions: &[u16],
+    found: &mut [u64; WORDS],
+) -> Result<(), usize>
     requires { SearchAsks g.now lexemes.now productions.now found.old }
     ensures { fault_of result ≡ grammar_finite g.now }
 {
     round(g, lexemes, productions, false, found);
-    let first = first_unfound(g, productions, found);
-    let Fault::At(p) = first else {
-        return Fault::Nowhere;
-    };
+    if first_unfound(g, productions, found).is_ok() {
+        return Ok(());
+    }
     by_lists(g, lexemes, productions, found);
     rounds(g, lexemes, productions, found);
     first_unfound(g, productions, found)
 }
 
 // The place of the first production whose nonterminal derives no text, of a grammar that 5 let through.
-pub fn grammar_finite(g: &[u8], classes: &[u16], productions: &[u16]) -> Fault
+pub fn grammar_finite(g: &[u8], classes: &[u16], productions: &[u16]) -> Result<(), usize>
     requires { FiniteAsks g.now classes.now productions.now }
     ensures { fault_of result ≡ grammar_finite g.now }
 {
     let lexemes = class_lexemes(g, classes);
     let mut found = [0u64; WORDS];
     round(g, &lexemes, productions, true, &mut found);
-    let first = first_unfound(g, productions, &found);
-    let Fault::At(p) = first else {
-        return Fault::Nowhere;
-    };
+    if first_unfound(g, productions, &found).is_ok() {
+        return Ok(());
+    }
     settle(g, &lexemes, productions, &mut found)
 }

@@ -1,15 +1,11 @@
--- What isn't found of the productions from i on is what isn't found of all of them.
-use Prim.Native.Nat.{◌-◌, ◌≤◌}
+-- What isn't found of the productions from the next on is what isn't found of all of them.
 use mathlib.Core.Path.{◌≡◌}
-use lib.ListN.{length, drop}
+use lib.ListN.{drop}
 use Rattle.rules.specs.Faults.{need, every}
 use Rattle.rules.specs.Records.{field_b}
 use Rattle.limits.specs.Bits.{is_marked}
 use Rattle.finite.specs.Found.{unfound}
 use Rattle.finite.proofs.first_unfound.Given as goal
 
-abbrev pub invariant-loop-i : goal.invariant-loop-i
-invariant-loop-i l = (l.i ≤ length l.productions) × (every (λ p. need (is_marked l.found (field_b l.g p)) p) (drop l.i l.productions) ≡ unfound l.g l.found)
-
-abbrev pub decreases-loop-i : goal.decreases-loop-i
-decreases-loop-i l = length l.productions - l.i
+abbrev pub invariant-loop-p : goal.invariant-loop-p
+invariant-loop-p l = every (λ p. need (is_marked l.found (field_b l.g p)) p) (drop l.p-index l.productions) ≡ unfound l.g l.found
