@@ -2,28 +2,28 @@
 use Prim.Native.Nat.{ℕ, ◌+◌, ◌<◌}
 use mathlib.Core.Path.{◌≡◌, sym, ap, ◌∙◌}
 use mathlib.Core.List.{List, [], ◌∷◌, ◌++◌}
+use mathlib.Core.Bool.{true, false}
 use mathlib.Core.Option.{Option, none, some}
 use native.Mathlib.Numerals.{add-one}
 use lib.ListN.{length, take, set}
 use lib.Seq.{take-suc-set}
-use Rattle.rules.specs.declared.Position.{Position}
+use Rattle.std.specs.Prelude.{Option as Maybe, Some, None, is_some, Result, Ok, Err}
 use Rattle.typing.specs.Answers.{found, judged, Offence}
-use Rattle.typing.specs.declared.Sought.{Sought}
-use Rattle.typing.specs.declared.Sought.TheVariants.{Number, Nothing}
-use Rattle.typing.specs.declared.Judged.{Judged}
-use Rattle.typing.specs.declared.Judged.TheVariants.{Suits, Offends}
+use Rattle.typing.specs.declared.Misfit.{Misfit}
 
--- what an answer says, once its variant is known
-pub got : {X : Option ℕ} {r : Sought} {n : ℕ} → found r ≡ X → r ≡ Number n → X ≡ some n
-got e h = sym e ∙ ap found h
+-- what an answer says, once it is known whether it has a number
+pub there : {X : Option ℕ} (r : Maybe ℕ) → found r ≡ X → is_some r ≡ true → (n : ℕ) × (X ≡ some n)
+there (Some n) e h = (n, sym e)
+there None e h = cc
 
-pub lost : {X : Option ℕ} {r : Sought} → found r ≡ X → r ≡ Nothing → X ≡ none
-lost e h = sym e ∙ ap found h
+pub missing : {X : Option ℕ} (r : Maybe ℕ) → found r ≡ X → is_some r ≡ false → X ≡ none
+missing (Some n) e h = cc
+missing None e h = sym e
 
-pub fine : {X : Option Offence} {r : Judged} → judged r ≡ X → r ≡ Suits → X ≡ none
+pub fine : {X : Option Offence} {r : Result Unit Misfit} {u : Unit} → judged r ≡ X → r ≡ Ok u → X ≡ none
 fine e h = sym e ∙ ap judged h
 
-pub wrong : {X : Option Offence} {r : Judged} {p : ℕ} {position : Position} → judged r ≡ X → r ≡ Offends p position → X ≡ some (p, position)
+pub wrong : {X : Option Offence} {r : Result Unit Misfit} {m : Misfit} → judged r ≡ X → r ≡ Err m → X ≡ some (m.node, m.position)
 wrong e h = sym e ∙ ap judged h
 
 pub one_more : (xs : List ℕ) (n v : ℕ) → n < length xs → take (n + 1) (set xs n v) ≡ take n xs ++ v ∷ []

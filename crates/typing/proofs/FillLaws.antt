@@ -42,7 +42,6 @@ head_inside g q s k = stands_in g q 0 s (omega arith) (λ z. let w : ◌≡◌ {
 
 pub record Filling (g : List ℕ) (q n : ℕ) (before table : List ℕ) (e i count : ℕ) : Type 0 where
   pub far : e ≤ q + 1 + i * 8194
-  pub turns : i ≤ n
   pub behind : q + 1 + count ≤ e
   pub inside : q + 1 + count ≤ 8064
   pub full : length table ≡ 8064
@@ -56,7 +55,6 @@ filling_start g q n table s k e h =
     let l = head_inside g q s k in
     record {
       far = omega arith;
-      turns = omega arith;
       behind = omega arith;
       inside = omega arith;
       full = h;
@@ -77,7 +75,6 @@ module _ {g : List ℕ} {q n : ℕ} {before table : List ℕ} {e i count : ℕ} 
     unfolding asked_among
     filling_keyword h = record {
       far = omega (arith, F.far);
-      turns = omega arith;
       behind = omega (arith, F.behind);
       inside = F.inside;
       full = F.full;
@@ -95,7 +92,6 @@ module _ {g : List ℕ} {q n : ℕ} {before table : List ℕ} {e i count : ℕ} 
         let m = size_some g e in
         record {
           far = omega (arith, F.far);
-          turns = omega arith;
           behind = omega (arith, F.behind, size, m);
           inside = omega (arith, F.behind);
           full = length-set table _ _ ∙ F.full;

@@ -2,22 +2,34 @@
 use Prim.Native.Nat.{ℕ, zero, suc, ◌+◌, ◌≤◌, ◌<◌}
 use mathlib.Core.Path.{◌≡◌, refl, sym, ap, ◌∙◌}
 use mathlib.Core.List.{List}
+use mathlib.Core.Bool.{false}
 use mathlib.Core.Option.{Option, none, some}
+use native.Mathlib.Omega.{arith}
 use lib.ListN.{length, drop}
+use Rattle.std.specs.Prelude.{Option as Maybe, Some, None, option_copied}
+use Rattle.std.specs.Borrow.{Bor}
+use Rattle.std.specs.Slice.{IsItemAt}
 use Rattle.rules.specs.Faults.{on_found}
 use Rattle.rules.specs.Blocks.{stream_length}
 use Rattle.rules.specs.Records.{field_a, field_b, nth}
-use Rattle.rules.specs.Templates.{TypeForm, no_type, types, type, type_numbered, type_at, type_of, variable}
-use Rattle.rules.specs.Typing.{field_types, type_along, path_type}
+use Rattle.rules.specs.Templates.{no_type, types, type, type_numbered, type_at, type_of, variable}
+use Rattle.rules.specs.Typing.{text_class, is_yes_no, item_type, field_types, case_types, type_along, path_type}
 use Rattle.laws.specs.Faults.{on_some, on_none}
+use Rattle.laws.specs.Lists.{nth_some, nth_none}
 use Rattle.laws.specs.Rows.{row_some, row_none}
 use Rattle.stream.specs.Record.{Fetched}
 use Rattle.stream.specs.declared.record.Record.{Record}
 use Rattle.records.specs.Paths.{steps_in, StepIn}
 use Rattle.records.proofs.PathLaws.{steps_are, steps_done, steps_more}
-use Rattle.typing.specs.Answers.{kind_form}
+use Rattle.typing.specs.Answers.{found, kind_form}
 use Rattle.typing.specs.declared.Kind.{Kind}
-use Rattle.typing.specs.declared.Kind.TheVariants.{Fields}
+use Rattle.typing.specs.declared.Kind.TheVariants.{Text, YesNo, Items, Fields, Cases, Missing}
+
+-- an entry of a table, as it was lent
+
+pub entry_lent : (xs : List ℕ) (i : ℕ) (r : Maybe (Bor ℕ)) → IsItemAt xs i r → found (option_copied r) ≡ nth xs i
+entry_lent xs i None h = sym (nth_none xs i h.3)
+entry_lent xs i (Some x) h = ap some (h.4 (omega arith) 0) ∙ sym (nth_some xs i h.3.0)
 
 -- types
 
@@ -39,9 +51,52 @@ module _ (t tys : List ℕ) (n : ℕ) (he : tys ≡ types t) where
   unfolding type_of type
   type_found p h = sym (on_some no_type (type_at t) (rw (← he) h))
 
--- the type's form, from the kind that the code has found
-pub kind_is : (t : List ℕ) {F : TypeForm} {K L : Kind} → kind_form t K ≡ F → K ≡ L → F ≡ kind_form t L
-kind_is t e h = sym e ∙ ap (kind_form t) h
+-- a kind that is not the one that is looked for
+
+pub no_text : (t : List ℕ) (K : Kind) → ((c : ℕ) → K ≡ Text c → ⊥) → text_class (kind_form t K) ≡ none
+unfolding text_class
+no_text t (Text c) h = absurd (h c refl)
+no_text t YesNo h = refl
+no_text t (Items ty) h = refl
+no_text t (Fields p d) h = refl
+no_text t (Cases p d) h = refl
+no_text t Missing h = refl
+
+pub no_yes_no : (t : List ℕ) (K : Kind) → (K ≡ YesNo → ⊥) → is_yes_no (kind_form t K) ≡ false
+unfolding is_yes_no
+no_yes_no t (Text c) h = refl
+no_yes_no t YesNo h = absurd (h refl)
+no_yes_no t (Items ty) h = refl
+no_yes_no t (Fields p d) h = refl
+no_yes_no t (Cases p d) h = refl
+no_yes_no t Missing h = refl
+
+pub no_items : (t : List ℕ) (K : Kind) → ((ty : ℕ) → K ≡ Items ty → ⊥) → item_type (kind_form t K) ≡ none
+unfolding item_type
+no_items t (Text c) h = refl
+no_items t YesNo h = refl
+no_items t (Items ty) h = absurd (h ty refl)
+no_items t (Fields p d) h = refl
+no_items t (Cases p d) h = refl
+no_items t Missing h = refl
+
+pub no_fields : (t : List ℕ) (K : Kind) → ((p d : ℕ) → K ≡ Fields p d → ⊥) → field_types (kind_form t K) ≡ none
+unfolding field_types
+no_fields t (Text c) h = refl
+no_fields t YesNo h = refl
+no_fields t (Items ty) h = refl
+no_fields t (Fields p d) h = absurd (h p d refl)
+no_fields t (Cases p d) h = refl
+no_fields t Missing h = refl
+
+pub no_cases : (t : List ℕ) (K : Kind) → ((p d : ℕ) → K ≡ Cases p d → ⊥) → case_types (kind_form t K) ≡ none
+unfolding case_types
+no_cases t (Text c) h = refl
+no_cases t YesNo h = refl
+no_cases t (Items ty) h = refl
+no_cases t (Fields p d) h = refl
+no_cases t (Cases p d) h = absurd (h p d refl)
+no_cases t Missing h = refl
 
 module _ (t : List ℕ) (n p d j : ℕ) (is : type_of t n ≡ kind_form t (Fields p d)) where
   pub field_some : j < d → (b : ℕ) → b ≡ field_b t (p + 1 + j) → some b ≡ on_found (field_types (type_of t n)) none (λ tys. nth tys j)

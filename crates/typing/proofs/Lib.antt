@@ -6,6 +6,7 @@ pub mod KindLaws
 pub mod LimitLaws
 pub mod MatchLaws
 pub mod NodeLaws
+pub mod PositionLaws
 pub mod RowLaws
 pub mod SuitsLaws
 pub mod TemplateLaws

@@ -8,6 +8,7 @@ use native.Mathlib.Omega.{arith}
 use native.Mathlib.Nat.{add-zero}
 use lib.ListN.{length, get_or, take, set, length-set}
 use lib.Seq.{length-take-le, take-append-le, take-take}
+use Rattle.std.specs.Prelude.{Result, Ok, Err}
 use Rattle.rules.specs.Faults.{every}
 use Rattle.rules.specs.Records.{field_b, field_c}
 use Rattle.rules.specs.Templates.{form_of}
@@ -23,8 +24,7 @@ use Rattle.typing.specs.declared.Brings.{Brings}
 use Rattle.typing.specs.declared.Brings.TheVariants.{Nothing, Item, Contents}
 use Rattle.typing.specs.declared.Positions.{Positions}
 use Rattle.typing.specs.declared.Positions.TheVariants.{Alike, Asked}
-use Rattle.typing.specs.declared.Judged.{Judged}
-use Rattle.typing.specs.declared.Judged.TheVariants.{Suits, Offends}
+use Rattle.typing.specs.declared.Misfit.{Misfit}
 use Rattle.typing.proofs.AnswerLaws.{fine, wrong, one_more}
 use Rattle.typing.proofs.LimitLaws.{limits_start, row_ready, row_next, row_room}
 use Rattle.typing.proofs.RowLaws.{turns_start, turns_done, turns_more}
@@ -138,7 +138,6 @@ kept_back scope scope' n count bs l e k =
 
 pub record Turn (g t asked : List ℕ) (left : ℕ) (b : Below) (count : ℕ) (scope₀ scope : List ℕ) (i at : ℕ) : Type 0 where
   pub here : at ≤ b.first + i * 65535
-  pub within : i ≤ b.count
   pub kept : take count scope ≡ take count scope₀
   pub full : length scope ≡ 24
   pub limits : RowLimits left t (count + brought (brings_of b.positions)) (b.count - i) at
@@ -148,7 +147,6 @@ pub record Turn (g t asked : List ℕ) (left : ℕ) (b : Below) (count : ℕ) (s
 pub turn_start : (g t asked : List ℕ) {left : ℕ} {b : Below} {count : ℕ} {scope : List ℕ} → RowReady left t b count → length scope ≡ 24 → Turn g t asked left b count scope scope 0 b.first
 turn_start g t asked {left} R full = record {
   here = omega arith;
-  within = omega arith;
   kept = refl;
   full = full;
   limits = limits_start R.limits;
@@ -156,7 +154,7 @@ turn_start g t asked {left} R full = record {
 }
 
 module _ {g t asked : List ℕ} {left : ℕ} {b : Below} {count : ℕ} {scope₀ scope : List ℕ} {i at : ℕ} (T : Turn g t asked left b count scope₀ scope i at) where
-  pub turn_end : b.count ≤ i → Checked (every (misfit g t left) (sites_in g t asked (take count scope₀) b)) count scope₀ scope Suits
+  pub turn_end : b.count ≤ i → Checked (every (misfit g t left) (sites_in g t asked (take count scope₀) b)) count scope₀ scope (Ok tt)
   unfolding offence
   turn_end h = record { says = ap offence (every_end _ T.rest (turns_done _ _ _ _ _ h)); kept = T.kept; full = T.full }
 
@@ -170,7 +168,7 @@ module _ {g t asked : List ℕ} {left : ℕ} {b : Below} {count : ℕ} {scope₀
     pub turn_ready : RowReady left t b count → FrameReady left t f
     turn_ready R = row_ready more T.limits framed.node_is seen_is (omega (arith, R.near, T.here, more))
 
-    module _ {scope' : List ℕ} (one : Judged) (checked : Checked (misfit g t left (site_of scope₁ f)) f.count scope₁ scope' one) where
+    module _ {scope' : List ℕ} (one : Result Unit Misfit) (checked : Checked (misfit g t left (site_of scope₁ f)) f.count scope₁ scope' one) where
       vars_here : take f.count scope₁ ≡ take count scope₀ ++ bindings t (brings_of b.positions) i
       vars_here = framed.bound.vars_are ∙ ap (λ (vars : List ℕ). vars ++ bindings t (brings_of b.positions) i) T.kept
 
@@ -182,8 +180,7 @@ module _ {g t asked : List ℕ} {left : ℕ} {b : Below} {count : ℕ} {scope₀
       kept_here =
           kept_back scope scope' count f.count _ (let r = turn_room more in omega (arith, r.few, r.full)) framed.bound.count_is (checked.kept ∙ framed.bound.vars_are) ∙ T.kept
 
-      pub turn_stop : {p : ℕ} {unsuited : Position} → one ≡ Offends p unsuited
-          → Checked (every (misfit g t left) (sites_in g t asked (take count scope₀) b)) count scope₀ scope' (Offends p unsuited)
+      pub turn_stop : {m : Misfit} → one ≡ Err m → Checked (every (misfit g t left) (sites_in g t asked (take count scope₀) b)) count scope₀ scope' (Err m)
       turn_stop h =
           let w = wrong checked_here h in
           let x = offence_some _ _ w in
@@ -193,10 +190,9 @@ module _ {g t asked : List ℕ} {left : ℕ} {b : Below} {count : ℕ} {scope₀
             full = checked.full;
           }
 
-      pub turn_next : one ≡ Suits → (c : ℕ) → c ≡ field_c t f.node → c < 65536 → Turn g t asked left b count scope₀ scope' (i + 1) (at + c)
+      pub turn_next : {u : Unit} → one ≡ Ok u → (c : ℕ) → c ≡ field_c t f.node → c < 65536 → Turn g t asked left b count scope₀ scope' (i + 1) (at + c)
       turn_next h c e small = let size : c ≡ field_c t at = e ∙ ap (field_c t) framed.node_is in record {
         here = omega (arith, T.here, small);
-        within = omega (arith, more);
         kept = kept_here;
         full = checked.full;
         limits = row_next more T.limits c size;
@@ -205,10 +201,10 @@ module _ {g t asked : List ℕ} {left : ℕ} {b : Below} {count : ℕ} {scope₀
 
 -- the check of a node
 
-pub checked_own : {o : Option Site} {count : ℕ} {scope : List ℕ} (r : Judged) → length scope ≡ 24 → judged r ≡ offence o → Checked o count scope scope r
+pub checked_own : {o : Option Site} {count : ℕ} {scope : List ℕ} (r : Result Unit Misfit) → length scope ≡ 24 → judged r ≡ offence o → Checked o count scope scope r
 checked_own r full e = record { says = e; kept = refl; full = full }
 
-pub checked_below : (g t asked : List ℕ) {left : ℕ} {f : Frame} {scope scope' : List ℕ} {b : Below} {r : Judged} → (left ≡ 0 → ⊥)
+pub checked_below : (g t asked : List ℕ) {left : ℕ} {f : Frame} {scope scope' : List ℕ} {b : Below} {r : Result Unit Misfit} → (left ≡ 0 → ⊥)
     → Suited g t asked (site_of scope f) (form_of t f.node) b
     → Checked (every (misfit g t (left - 1)) (sites_in g t asked (take f.count scope) b)) f.count scope scope' r
     → Checked (misfit g t left (site_of scope f)) f.count scope scope' r

@@ -3,13 +3,15 @@ use Prim.Native.Nat.{ℕ, suc, ◌+◌, ◌<◌}
 use mathlib.Core.Path.{◌≡◌, refl, sym, ap, subst, ◌∙◌}
 use mathlib.Core.List.{List, [], ◌∷◌, ◌++◌, map, append-nil}
 use mathlib.Core.Bool.{Bool, true, false, ◌&&◌}
-use mathlib.Core.Option.{Option, none, some, some-ne-none, some-injective}
+use mathlib.Core.Option.{Option, none, some}
 use native.Mathlib.Omega.{arith}
 use native.Mathlib.Nat.{add-zero, not-suc-le-zero}
 use native.Mathlib.Numerals.{add-one}
 use lib.ListN.{length, get_or}
 use lib.Dec.{eqb}
 use borrow.Author.Tests.{eq-eqb, ne_eqb}
+use Rattle.std.specs.Prelude.{Option as Maybe, Some, None}
+use Rattle.std.specs.Bool.{then_some}
 use Rattle.rules.specs.Faults.{on_found, exists}
 use Rattle.rules.specs.Records.{field_b, field_c, field_d, text_of, heads, row, nth}
 use Rattle.rules.specs.Lexeme.{is_lexeme}
@@ -28,29 +30,23 @@ use Rattle.typing.specs.declared.Below.{Below}
 use Rattle.typing.specs.declared.Brings.TheVariants as brings
 use Rattle.typing.specs.declared.Brings.TheVariants.{Nothing}
 use Rattle.typing.specs.declared.Positions.TheVariants.{Alike, Asked}
-use Rattle.typing.specs.declared.Tested.{Tested}
-use Rattle.typing.specs.declared.Tested.TheVariants.{Unsuited, Above}
 use Rattle.typing.proofs.AskedLaws.{positions_are, positions_count}
 use Rattle.typing.proofs.RowLaws.{map_row}
 
 -- the two answers
 
-abbrev below_in : Tested → Option Below
-below_in Unsuited = none
-below_in (Above b) = some b
-
 module _ {g t asked : List ℕ} {x : Site} {F : Form} where
-  pub unsuited : suits_form g t F x ≡ false → Tests g t asked x F Unsuited
-  unsuited e = record { fails = λ h. e; stands = λ b h. absurd (some-ne-none b (sym (ap below_in h))) }
+  pub unsuited : suits_form g t F x ≡ false → Tests g t asked x F None
+  unsuited e = record { fails = λ h. e; stands = λ b h. cc }
 
-  pub suited : {b : Below} → Suited g t asked x F b → Tests g t asked x F (Above b)
+  pub suited : {b : Below} → Suited g t asked x F b → Tests g t asked x F (Some b)
   suited {b} s = record {
-    fails = λ h. absurd (some-ne-none b (ap below_in h));
-    stands = λ c h. subst (Suited g t asked x F) (some-injective b c (ap below_in h)) s;
+    fails = λ h. cc;
+    stands = λ c h. let e : b ≡ c = cc in subst (Suited g t asked x F) e s;
   }
 
 -- the test by the form that was read
-pub by_form : {g t asked : List ℕ} {x : Site} {r : Tested} {F G : Form} → F ≡ form_of t x.node → F ≡ G → Tests g t asked x G r → Tests g t asked x (form_of t x.node) r
+pub by_form : {g t asked : List ℕ} {x : Site} {r : Maybe Below} {F G : Form} → F ≡ form_of t x.node → F ≡ G → Tests g t asked x G r → Tests g t asked x (form_of t x.node) r
 by_form {g} {t} {asked} {x} {r} e h k = subst (λ (F : Form). Tests g t asked x F r) (sym h ∙ e) k
 
 -- a node that has nothing below it
@@ -69,15 +65,12 @@ leaf_of_lem g t asked x F s n l true e = suited (record {
 })
 leaf_of_lem g t asked x F s n l false e = unsuited (sym e)
 
-pub leaf_yes : (b : Bool) → b ≡ true → Above (record { first = 0; count = 0; positions = Asked 0 }) ≡ leaf_of b
+pub leaf_is : (b : Bool) → then_some b (record { first = 0; count = 0; positions = Asked 0 }) ≡ leaf_of b
 unfolding leaf_of
-leaf_yes b e = sym (rw e)
+leaf_is true = refl
+leaf_is false = refl
 
-pub leaf_no : (b : Bool) → b ≡ false → Unsuited ≡ leaf_of b
-unfolding leaf_of
-leaf_no b e = sym (rw e)
-
-module _ {g t asked : List ℕ} {x : Site} {b : Bool} {r : Tested} (is : r ≡ leaf_of b) where
+module _ {g t asked : List ℕ} {x : Site} {b : Bool} {r : Maybe Below} (is : r ≡ leaf_of b) where
   pub literal_leaf : b ≡ suits_form g t Literal x → Tests g t asked x Literal r
   unfolding sites_of nodes_of loops_below
   literal_leaf e = subst (Tests g t asked x Literal) (sym is) (leaf_of_lem g t asked x Literal refl refl (λ n. refl) b e)

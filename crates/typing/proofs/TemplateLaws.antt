@@ -6,6 +6,7 @@ use mathlib.Core.Option.{Option, none, some, some-ne-none, none-ne-some}
 use native.Mathlib.Omega.{arith}
 use lib.ListN.{length, get_or, take, set}
 use borrow.Author.Tests.{leb-true}
+use Rattle.std.specs.Prelude.{Result, Ok, Err}
 use Rattle.rules.specs.Faults.{need, both, every, tree, exists, at}
 use Rattle.rules.specs.Records.{field_a, field_b, heads, row, nth}
 use Rattle.rules.specs.Templates.{templates, template, parameter_heads, parameters, body}
@@ -19,8 +20,7 @@ use Rattle.laws.specs.Rows.{row_all, row_more, row_done}
 use Rattle.typing.specs.Answers.{site_of, judged, Offence, offence}
 use Rattle.typing.specs.Asks.{FrameReady, BodyOf}
 use Rattle.typing.specs.declared.Frame.{Frame}
-use Rattle.typing.specs.declared.Judged.{Judged}
-use Rattle.typing.specs.declared.Judged.TheVariants.{Suits, Offends}
+use Rattle.typing.specs.declared.Misfit.{Misfit}
 use Rattle.typing.proofs.AnswerLaws.{one_more, fine, wrong}
 
 -- the types of the parameters: what is in the slots, and what is left after i of them
@@ -103,14 +103,14 @@ place_some none p position e = absurd (none-ne-some _ e)
 place_some (some x) p position e = ap (at (λ (o : Offence). o.0)) e
 
 module _ (g t : List ℕ) (q : ℕ) (f : Frame) (b : BodyOf t q f) (scope : List ℕ) (types : take f.count scope ≡ map (field_b t) (row f.count (q + 1)))
-    (one : Judged) (checked : judged one ≡ offence (misfit g t 200 (site_of scope f))) where
+    (one : Result Unit Misfit) (checked : judged one ≡ offence (misfit g t 200 (site_of scope f))) where
   body_checked : judged one ≡ offence (misfit g t 200 (body_site t q))
   body_checked = checked ∙ ap (λ (s : Site). offence (misfit g t 200 s)) (body_site_lem t q f scope b types)
 
-  pub body_right : one ≡ Suits → wrong_in g t q ≡ none
+  pub body_right : {u : Unit} → one ≡ Ok u → wrong_in g t q ≡ none
   body_right h = place_none _ (fine body_checked h)
 
-  pub body_wrong : {p : ℕ} {position : Position} → one ≡ Offends p position → wrong_in g t q ≡ some p
+  pub body_wrong : {m : Misfit} → one ≡ Err m → wrong_in g t q ≡ some m.node
   body_wrong h = place_some _ _ _ (wrong body_checked h)
 
 -- refusal 4: at most 8 parameters, and no limit is met in a body

@@ -9,6 +9,7 @@ use native.Mathlib.Nat.{add-zero}
 use lib.ListN.{length}
 use lib.Dec.{eqb, ltb}
 use borrow.Author.Tests.{eq-eqb, ne_eqb, eqb-true, eqb-false, ltb-true, ltb-false}
+use Rattle.std.specs.Prelude.{Result, Ok, Err}
 use Rattle.rules.specs.Faults.{every, on_found, only_if, exists, at}
 use Rattle.rules.specs.Records.{kind_of, field_a, field_b, field_d, text_of, heads, row, nth}
 use Rattle.rules.specs.Lexeme.{is_plain_lexeme}
@@ -21,8 +22,6 @@ use Rattle.laws.specs.Lists.{length_map}
 use Rattle.laws.specs.Rows.{length_heads, row_some, row_none}
 use Rattle.stream.specs.Fault.{fault_of}
 use Rattle.stream.specs.Record.{Fetched}
-use Rattle.stream.specs.declared.Fault.{Fault}
-use Rattle.stream.specs.declared.Fault.TheVariants.{At, Nowhere}
 use Rattle.stream.specs.Text.{text_in, Begins}
 use Rattle.stream.proofs.BlockLaws.{found, unfound}
 use Rattle.stream.specs.declared.record.Record.{Record}
@@ -103,6 +102,35 @@ fields_from t v h m (suc n) i p =
     let e : h + 1 + i + 1 ≡ h + 1 + (i + 1) = omega arith in
     ap (λ (l : List Typed). typed (field_b t (h + 1 + i)) p ∷ l) (rw e (fields_from t v h m n (i + 1) (p + value_size v p)))
 
+-- by the kinds of the values that have nothing of the sort below them
+
+pub no_children : (K : Kind) (d : ℕ) → ((ty : ℕ) → K ≡ Items ty → ⊥) → ((p n : ℕ) → K ≡ Fields p n → ⊥) → ((p n : ℕ) → K ≡ Cases p n → ⊥) → 0 ≡ child_count K d
+unfolding child_count
+no_children (Text c) d h k l = refl
+no_children YesNo d h k l = refl
+no_children (Items ty) d h k l = absurd (h ty refl)
+no_children (Fields p n) d h k l = absurd (k p n refl)
+no_children (Cases p n) d h k l = absurd (l p n refl)
+no_children Missing d h k l = refl
+
+pub same_below : (t : List ℕ) (K : Kind) (a : ℕ) → ((p n : ℕ) → K ≡ Cases p n → ⊥) → K ≡ kind_below t K a
+unfolding kind_below
+same_below t (Text c) a h = refl
+same_below t YesNo a h = refl
+same_below t (Items ty) a h = refl
+same_below t (Fields p n) a h = refl
+same_below t (Cases p n) a h = absurd (h p n refl)
+same_below t Missing a h = refl
+
+pub no_child_type : (t : List ℕ) (K : Kind) (i : ℕ) → ((ty : ℕ) → K ≡ Items ty → ⊥) → ((p n : ℕ) → K ≡ Fields p n → ⊥) → 0 ≡ child_type t K i
+unfolding child_type
+no_child_type t (Text c) i h k = refl
+no_child_type t YesNo i h k = refl
+no_child_type t (Items ty) i h k = absurd (h ty refl)
+no_child_type t (Fields p n) i h k = absurd (k p n refl)
+no_child_type t (Cases p n) i h k = refl
+no_child_type t Missing i h k = refl
+
 -- a value that has its kind's form has these below it
 
 fields_count : (t v : List ℕ) (h n w : ℕ) → length (children v w) ≡ length (map (field_b t) (row n (h + 1))) → field_d v w ≡ n
@@ -154,11 +182,10 @@ mistyped_row g t v left K n i p = every (mistyped g t v left) (row_of (typed_in 
 
 pub record ValueTurn (g t v : List ℕ) (left : ℕ) (K : Kind) (first n next i : ℕ) : Type 0 where
   pub here : next ≤ first + i * 65535
-  pub within : i ≤ n
   pub rest : mistyped_row g t v left K (n - i) i next ≡ mistyped_row g t v left K n 0 first
 
 pub turn_start : (g t v : List ℕ) (left : ℕ) (K : Kind) (first n : ℕ) → ValueTurn g t v left K first n first 0
-turn_start g t v left K first n = record { here = omega arith; within = omega arith; rest = turns_start _ _ (every (mistyped g t v left)) n first }
+turn_start g t v left K first n = record { here = omega arith; rest = turns_start _ _ (every (mistyped g t v left)) n first }
 
 module _ {g t v : List ℕ} {left : ℕ} {K : Kind} {first n next i : ℕ} (T : ValueTurn g t v left K first n next i) where
   pub turn_end : n ≤ i → none ≡ at (λ x. x.value) (mistyped_row g t v left K n 0 first)
@@ -173,7 +200,6 @@ module _ {g t v : List ℕ} {left : ℕ} {K : Kind} {first n next i : ℕ} (T : 
     turn_next : mistyped g t v left (typed_in t K i next) ≡ none → {r : Record} → Fetched v next r → {c : ℕ} → ValueSize r c → ValueTurn g t v left K first n (next + c) (i + 1)
     turn_next e f s = record {
       here = omega (arith, T.here, s.small);
-      within = omega (arith, more);
       rest = every_next _ T.rest (turns_more _ _ _ _ _ more _ (s.is v next f)) e;
     }
 
@@ -202,15 +228,15 @@ module _ {g t v : List ℕ} {left : ℕ} {K : Kind} {first n next i : ℕ} (T : 
         turn_leaf z s = turn_next (value_below ∙ rw z) f s
 
         -- by what the check of the row below has answered
-        module _ {M : Kind} (below : M ≡ kind_below t L r.a) (one : Fault)
+        module _ {M : Kind} (below : M ≡ kind_below t L r.a) (one : Result Unit ℕ)
             (says : fault_of one ≡ at (λ x. x.value) (mistyped_row g t v (left - 1) M m 0 (next + 1))) where
           says_so : fault_of one ≡ at (λ x. x.value) (mistyped_row g t v (left - 1) (kind_below t L r.a) m 0 (next + 1))
           says_so = says ∙ rw below
 
-          pub turn_right : one ≡ Nowhere → {c : ℕ} → ValueSize r c → ValueTurn g t v left K first n (next + c) (i + 1)
-          turn_right h s = turn_next (value_below ∙ (at_none _ _).0 (unfound _ _ says_so h)) f s
+          pub turn_right : {u : Unit} → one ≡ Ok u → {c : ℕ} → ValueSize r c → ValueTurn g t v left K first n (next + c) (i + 1)
+          turn_right h s = turn_next (value_below ∙ (at_none _ _).0 (unfound _ _ _ says_so h)) f s
 
-          pub turn_wrong : {q : ℕ} → one ≡ At q → some q ≡ at (λ x. x.value) (mistyped_row g t v left K n 0 first)
+          pub turn_wrong : {q : ℕ} → one ≡ Err q → some q ≡ at (λ x. x.value) (mistyped_row g t v left K n 0 first)
           turn_wrong h =
               let x = at_some _ _ _ (found _ _ _ says_so h) in
               ap some (sym x.2) ∙ turn_stop x.0 (value_below ∙ x.1)

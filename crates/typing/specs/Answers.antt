@@ -1,5 +1,5 @@
 -- What the answers of the checker's functions say, in the terms of crate rules.
-use Rattle.std.specs.Prelude.{ℕ, zero, suc, ◌+◌, ◌≤◌, ◌<◌, ◌≡◌, List, [], ◌∷◌, ◌++◌, map, Bool, true, false, length, get_or, take}
+use Rattle.std.specs.Prelude.{ℕ, zero, suc, ◌+◌, ◌≤◌, ◌<◌, ◌≡◌, List, [], ◌∷◌, ◌++◌, map, Bool, true, false, length, get_or, take, Option as Maybe, Some, None, Result, Ok, Err}
 use Rattle.std.proofs.Math.Option.{Option, none, some}
 use Rattle.rules.specs.Records.{field_b, field_c, heads, row}
 use Rattle.rules.specs.Templates.{TypeForm, text, yes_no, list, fields, cases, no_type, nodes_of}
@@ -8,8 +8,6 @@ use Rattle.rules.specs.Limits.{loops_below}
 use Rattle.rules.specs.declared.Form.{Form}
 use Rattle.rules.specs.declared.Position.{Position}
 use Rattle.typing.specs.Asked.{position_at}
-use Rattle.typing.specs.declared.Sought.{Sought}
-use Rattle.typing.specs.declared.Sought.TheVariants.{Number, Nothing}
 use Rattle.typing.specs.declared.Kind.{Kind}
 use Rattle.typing.specs.declared.Kind.TheVariants.{Text, YesNo, Items, Fields, Cases, Missing}
 use Rattle.typing.specs.declared.Frame.{Frame}
@@ -18,14 +16,11 @@ use Rattle.typing.specs.declared.Positions.TheVariants.{Alike, Asked}
 use Rattle.typing.specs.declared.Brings.{Brings}
 use Rattle.typing.specs.declared.Brings.TheVariants as brings
 use Rattle.typing.specs.declared.Below.{Below}
-use Rattle.typing.specs.declared.Tested.{Tested}
-use Rattle.typing.specs.declared.Tested.TheVariants.{Unsuited, Above}
-use Rattle.typing.specs.declared.Judged.{Judged}
-use Rattle.typing.specs.declared.Judged.TheVariants.{Suits, Offends}
+use Rattle.typing.specs.declared.Misfit.{Misfit}
 
-abbrev pub found : Sought → Option ℕ
-found (Number n) = some n
-found Nothing = none
+abbrev pub found : Maybe ℕ → Option ℕ
+found (Some n) = some n
+found None = none
 
 abbrev pub kind_form : List ℕ → Kind → TypeForm
 kind_form t (Text c) = text c
@@ -97,29 +92,29 @@ pub record Suited (g t asked : List ℕ) (x : Site) (form : Form) (b : Below) : 
   pub few : b.count < 65536
   pub inside : (i : ℕ) → i < b.count → entry_of b.positions i < 8064
 
-pub record Tests (g t asked : List ℕ) (x : Site) (form : Form) (r : Tested) : Type 0 where
-  pub fails : r ≡ Unsuited → suits_form g t form x ≡ false
-  pub stands : (b : Below) → r ≡ Above b → Suited g t asked x form b
+pub record Tests (g t asked : List ℕ) (x : Site) (form : Form) (r : Maybe Below) : Type 0 where
+  pub fails : r ≡ None → suits_form g t form x ≡ false
+  pub stands : (b : Below) → r ≡ Some b → Suited g t asked x form b
 
 -- of a node that has nothing below it
-unfoldable pub leaf_of : Bool → Tested
-leaf_of true = Above (record { first = 0; count = 0; positions = Asked 0 })
-leaf_of false = Unsuited
+unfoldable pub leaf_of : Bool → Maybe Below
+leaf_of true = Some (record { first = 0; count = 0; positions = Asked 0 })
+leaf_of false = None
 
 -- a node's place, and the position that it does not suit
 abbrev pub Offence : Type 0
 Offence = ℕ × Position
 
-abbrev pub judged : Judged → Option Offence
-judged Suits = none
-judged (Offends p position) = some (p, position)
+abbrev pub judged : Result Unit Misfit → Option Offence
+judged (Ok fine) = none
+judged (Err m) = some (m.node, m.position)
 
 unfoldable pub offence : Option Site → Option Offence
 offence none = none
 offence (some x) = some (x.node, x.position)
 
 -- what a check says, and that the types of the first `count` variables are as they were
-pub record Checked (o : Option Site) (count : ℕ) (before after : List ℕ) (r : Judged) : Type 0 where
+pub record Checked (o : Option Site) (count : ℕ) (before after : List ℕ) (r : Result Unit Misfit) : Type 0 where
   pub says : judged r ≡ offence o
   pub kept : take count after ≡ take count before
   pub full : length after ≡ 24

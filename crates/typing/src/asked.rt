@@ -16,9 +16,8 @@ pub fn position_at(g: &[u8], e: u16) -> Position
     requires { stream_length g.now ≡ none }
     ensures { result ≡ position_at g.now e }
 {
-    let r = fetch(g, e as usize);
-    let a = r.a;
-    match a {
+    let r = fetch(g, usize::from(e));
+    match r.a {
         1 => Position::Class(r.b),
         2 => Position::Nonterminal(r.b),
         3 | 4 => Position::Repetition(r.b),
@@ -31,22 +30,17 @@ fn put_row(g: &[u8], h: u16, asked: &mut [u16; RECORDS])
     requires { (stream_length g.now ≡ none) × (kind_of g.now h ≡ 3) × (length asked.old ≡ 8064) }
     ensures { RowPut g.now h asked.old asked.new }
 {
-    let q = h as usize;
-    let p = fetch(g, q);
-    let n = p.d as usize;
+    let q = usize::from(h);
+    let n = fetch(g, q).d;
     let mut e = q + 1;
-    let mut i = 0;
     let mut count = 0;
-    while i < n {
+    for _i in 0..n {
         let r = fetch(g, e);
-        let next = e + size_of(r);
-        let turn = i + 1;
         if r.a != 0 {
             asked[q + 1 + count] = e as u16;
             count += 1;
         }
-        e = next;
-        i = turn;
+        e += size_of(r);
     }
     asked[q] = count as u16;
 }
@@ -56,9 +50,7 @@ pub fn fill(g: &[u8], productions: &[u16], asked: &mut [u16; RECORDS])
     requires { (stream_length g.now ≡ none) × (productions.now ≡ productionHeads g.now) × (length asked.old ≡ 8064) }
     ensures { AskedFilled g.now asked.new }
 {
-    let mut k = 0;
-    while k < productions.len() {
-        put_row(g, productions[k], asked);
-        k += 1;
+    for h in productions {
+        put_row(g, *h, asked);
     }
 }

@@ -19,13 +19,6 @@ pub const VARIABLES: usize = 24;
 // Nodes and values stand at most so deep.
 pub const LEVELS: usize = 200;
 
-// A number that was looked for.
-#[derive(Clone, Copy)]
-pub enum Sought {
-    Number(u16),
-    Nothing,
-}
-
 // What a type is: a text of a class, a yes/no, a list of items of a type, or a record or a variant, by the place of its head and its number of
 // fields or cases.
 #[derive(Clone, Copy)]
@@ -71,16 +64,9 @@ pub struct Below {
     pub positions: Positions,
 }
 
-// The answer of a node's own test.
+// A node that does not suit its position: its place, and that position.
 #[derive(Clone, Copy)]
-pub enum Tested {
-    Unsuited,
-    Above(Below),
-}
-
-// The answer of a check: the place of the first node that does not suit its position, and that position.
-#[derive(Clone, Copy)]
-pub enum Judged {
-    Suits,
-    Offends(usize, Position),
+pub struct Misfit {
+    pub node: usize,
+    pub position: Position,
 }

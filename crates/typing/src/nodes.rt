@@ -10,7 +10,7 @@ ghost use Rattle.typing.specs.Asks.{CheckerTables, FrameReady, RowReady, Scope};
 
 use crate::asked::position_at;
 use crate::suits::own_test;
-use crate::{Below, Brings, Frame, Judged, Positions, RECORDS, Tested, VARIABLES};
+use crate::{Below, Brings, Frame, Misfit, Positions, RECORDS, VARIABLES};
 use records::node::size_in;
 use stream::record::{Record, fetch};
 
@@ -26,7 +26,7 @@ fn bind(t: &[u8], scope: &mut [u16; VARIABLES], count: usize, brings: Brings, i:
             count + 1
         }
         Brings::Contents(h) => {
-            scope[count] = fetch(t, h as usize + 1 + i).b;
+            scope[count] = fetch(t, usize::from(h) + 1 + i).b;
             count + 1
         }
     }
@@ -48,22 +48,16 @@ fn frame_in(
     ensures { FrameIn g.now t.now asked.now scope.old count positions at i scope.new result }
 {
     match positions {
-        Positions::Alike(position, brings) => {
-            let seen = bind(t, scope, count, brings, i);
-            Frame {
-                node: at,
-                position: position,
-                count: seen,
-            }
-        }
-        Positions::Asked(q) => {
-            let position = position_at(g, asked[q as usize + 1 + i]);
-            Frame {
-                node: at,
-                position: position,
-                count: count,
-            }
-        }
+        Positions::Alike(position, brings) => Frame {
+            node: at,
+            position,
+            count: bind(t, scope, count, brings, i),
+        },
+        Positions::Asked(q) => Frame {
+            node: at,
+            position: position_at(g, asked[usize::from(q) + 1 + i]),
+            count,
+        },
     }
 }
 
@@ -83,17 +77,15 @@ fn row(
     below: Below,
     count: usize,
     left: usize,
-) -> Judged
+) -> Result<(), Misfit>
     requires { (CheckerTables g.now t.now classes.now sets.now productions.now asked.now types.now templates.now) × (RowReady left t.now below count) × (length scope.old ≡ 24) }
     ensures { Checked (every (misfit g.now t.now left) (sites_in g.now t.now asked.now (take count scope.old) below)) count scope.old scope.new result }
 {
-    let positions = below.positions;
     let mut at = below.first;
-    let mut i = 0;
-    while i < below.count {
-        let f = frame_in(g, t, asked, scope, count, positions, at, i);
+    for i in 0..below.count {
+        let f = frame_in(g, t, asked, scope, count, below.positions, at, i);
         let head = fetch(t, f.node);
-        let one = check(
+        check(
             g,
             t,
             classes,
@@ -106,14 +98,10 @@ fn row(
             f,
             head,
             left,
-        );
-        if let Judged::Offends(p, unsuited) = one {
-            return Judged::Offends(p, unsuited);
-        }
+        )?;
         at += size_in(head);
-        i += 1;
     }
-    Judged::Suits
+    Ok(())
 }
 
 // The first node from the frame's on that does not suit its position, where `left` levels are left. A build, an if, a for, a sequence and a match
@@ -132,13 +120,16 @@ pub fn check(
     f: Frame,
     head: Record,
     left: usize,
-) -> Judged
+) -> Result<(), Misfit>
     requires { (CheckerTables g.now t.now classes.now sets.now productions.now asked.now types.now templates.now) × (FrameReady left t.now f) × (length scope.old ≡ 24) × (Fetched t.now f.node head) }
     ensures { Checked (misfit g.now t.now left (site_of scope.old f)) f.count scope.old scope.new result }
 {
-    let position = f.position;
+    let misfit = Misfit {
+        node: f.node,
+        position: f.position,
+    };
     if left == 0 {
-        return Judged::Offends(f.node, position);
+        return Err(misfit);
     }
     let own = own_test(
         g,
@@ -153,8 +144,8 @@ pub fn check(
         f,
         head,
     );
-    let Tested::Above(below) = own else {
-        return Judged::Offends(f.node, position);
+    let Some(below) = own else {
+        return Err(misfit);
     };
     row(
         g,

@@ -12,9 +12,8 @@ ghost use Rattle.typing.specs.Asks.{TemplatesAsk, BodyOf};
 use crate::asked::fill;
 use crate::kinds::head;
 use crate::nodes::check;
-use crate::{Frame, Judged, LEVELS, RECORDS, Sought, VARIABLES};
+use crate::{Frame, LEVELS, RECORDS, VARIABLES};
 use rules::Position;
-use stream::Fault;
 use stream::record::fetch;
 
 // The types that n parameters of the template at q name.
@@ -22,13 +21,10 @@ fn parameter_types(t: &[u8], q: u16, n: usize) -> [u16; VARIABLES]
     requires { (stream_length t.now ≡ none) × (n ≤ 8) }
     ensures { (take n result ≡ map (field_b t.now) (row n (q + 1))) × (length result ≡ 24) }
 {
-    let p = q as usize + 1;
+    let p = usize::from(q) + 1;
     let mut slots = [0u16; VARIABLES];
-    let mut i = 0;
-    while i < n {
-        let r = fetch(t, p + i);
-        slots[i] = r.b;
-        i += 1;
+    for i in 0..n {
+        slots[i] = fetch(t, p + i).b;
     }
     slots
 }
@@ -38,35 +34,29 @@ fn body_frame(t: &[u8], q: u16) -> Frame
     requires { (stream_length t.now ≡ none) × (field_a t.now q ≤ 8) }
     ensures { BodyOf t.now q result }
 {
-    let at = q as usize;
+    let at = usize::from(q);
     let r = fetch(t, at);
-    let n = r.a as usize;
-    let position = Position::Nonterminal(r.b);
+    let count = usize::from(r.a);
     Frame {
-        node: at + 1 + n,
-        position: position,
-        count: n,
+        node: at + 1 + count,
+        position: Position::Nonterminal(r.b),
+        count,
     }
 }
 
 // The declared type: that of the one parameter of template 0.
-pub fn declared_type(t: &[u8], templates: &[u16]) -> Sought
+pub fn declared_type(t: &[u8], templates: &[u16]) -> Option<u16>
     requires { (stream_length t.now ≡ none) × (templates.now ≡ templateHeads t.now) }
     ensures { found result ≡ declared_type t.now }
 {
-    let Sought::Number(q) = head(templates, 0) else {
-        return Sought::Nothing;
-    };
-    let at = q as usize;
-    let r = fetch(t, at);
-    if r.a != 1 {
-        return Sought::Nothing;
+    let q = usize::from(head(templates, 0)?);
+    if fetch(t, q).a != 1 {
+        return None;
     }
-    let p = fetch(t, at + 1);
-    Sought::Number(p.b)
+    Some(fetch(t, q + 1).b)
 }
 
-// The place of the first node, in any template, that does not suit its position; 0 if there is no declared type.
+// Offends at the place of the first node, in any template, that does not suit its position; at 0 if there is no declared type.
 pub fn templates_typing(
     g: &[u8],
     t: &[u8],
@@ -75,20 +65,18 @@ pub fn templates_typing(
     productions: &[u16],
     types: &[u16],
     templates: &[u16],
-) -> Fault
+) -> Result<(), usize>
     requires { TemplatesAsk g.now t.now classes.now sets.now productions.now types.now templates.now }
     ensures { fault_of result ≡ templates_typing g.now t.now }
 {
-    let Sought::Number(_) = declared_type(t, templates) else {
-        return Fault::At(0);
-    };
+    if declared_type(t, templates).is_none() {
+        return Err(0);
+    }
     let mut asked = [0u16; RECORDS];
     fill(g, productions, &mut asked);
-    let mut k = 0;
-    while k < templates.len() {
-        let q = templates[k];
-        let f = body_frame(t, q);
-        let mut scope = parameter_types(t, q, f.count);
+    for q in templates {
+        let f = body_frame(t, *q);
+        let mut scope = parameter_types(t, *q, f.count);
         let one = check(
             g,
             t,
@@ -103,10 +91,9 @@ pub fn templates_typing(
             fetch(t, f.node),
             LEVELS,
         );
-        if let Judged::Offends(p, _) = one {
-            return Fault::At(p);
+        if let Err(misfit) = one {
+            return Err(misfit.node);
         }
-        k += 1;
     }
-    Fault::Nowhere
+    Ok(())
 }

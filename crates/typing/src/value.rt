@@ -13,10 +13,9 @@ ghost use Rattle.typing.specs.Asks.{TypeTable, ValueRow, ValueAsks};
 
 use crate::kinds::type_of;
 use crate::templates::declared_type;
-use crate::{Kind, LEVELS, Sought};
+use crate::{Kind, LEVELS};
 use lexeme::{Source, admits};
 use records::value::size_of;
-use stream::Fault;
 use stream::record::{Record, fetch};
 use stream::text::text_after;
 
@@ -35,20 +34,24 @@ fn has_form(
 {
     match kind {
         Kind::Text(c) => {
-            if r.kind == 1 {
-                let source = Source {
-                    plain: c,
-                    escaped: false,
-                };
-                admits(g, classes, sets, source, v, text_after(v, w, r.b as usize))
-            } else {
-                false
-            }
+            let source = Source {
+                plain: c,
+                escaped: false,
+            };
+            r.kind == 1
+                && admits(
+                    g,
+                    classes,
+                    sets,
+                    source,
+                    v,
+                    text_after(v, w, usize::from(r.b)),
+                )
         }
         Kind::YesNo => r.kind == 2,
         Kind::Items(_) => r.kind == 3,
-        Kind::Fields(_, n) => { if r.kind == 4 { r.d == n } else { false } }
-        Kind::Cases(_, n) => { if r.kind == 5 { (r.a as u16) < n } else { false } }
+        Kind::Fields(_, n) => r.kind == 4 && r.d == n,
+        Kind::Cases(_, n) => r.kind == 5 && u16::from(r.a) < n,
         Kind::Missing => false,
     }
 }
@@ -58,12 +61,9 @@ fn child_count(kind: Kind, r: Record) -> usize
     ensures { (result ≡ child_count kind r.d) × (result < 65536) }
 {
     match kind {
-        Kind::Text(_) => 0,
-        Kind::YesNo => 0,
-        Kind::Items(_) => r.d as usize,
-        Kind::Fields(_, _) => r.d as usize,
+        Kind::Items(_) | Kind::Fields(_, _) => usize::from(r.d),
         Kind::Cases(_, _) => 1,
-        Kind::Missing => 0,
+        _ => 0,
     }
 }
 
@@ -74,15 +74,8 @@ fn kind_below(t: &[u8], kind: Kind, number: u8) -> Kind
     ensures { result ≡ kind_below t.now kind number }
 {
     match kind {
-        Kind::Cases(h, _) => {
-            let case = fetch(t, h as usize + 1 + number as usize);
-            Kind::Items(case.b)
-        }
-        Kind::Text(_) => kind,
-        Kind::YesNo => kind,
-        Kind::Items(_) => kind,
-        Kind::Fields(_, _) => kind,
-        Kind::Missing => kind,
+        Kind::Cases(h, _) => Kind::Items(fetch(t, usize::from(h) + 1 + usize::from(number)).b),
+        _ => kind,
     }
 }
 
@@ -92,15 +85,9 @@ fn child_type(t: &[u8], kind: Kind, i: usize) -> u16
     ensures { result ≡ child_type t.now kind i }
 {
     match kind {
-        Kind::Text(_) => 0,
-        Kind::YesNo => 0,
         Kind::Items(ty) => ty,
-        Kind::Fields(h, _) => {
-            let r = fetch(t, h as usize + 1 + i);
-            r.b
-        }
-        Kind::Cases(_, _) => 0,
-        Kind::Missing => 0,
+        Kind::Fields(h, _) => fetch(t, usize::from(h) + 1 + i).b,
+        _ => 0,
     }
 }
 
@@ -117,37 +104,29 @@ fn values_typed(
     first: usize,
     n: usize,
     left: usize,
-) -> Fault
+) -> Result<(), usize>
     requires { (LexemesReady g.now classes.now sets.now) × (TypeTable t.now types.now) × (stream_length v.now ≡ none) × (ValueRow first n left) }
     ensures { fault_of result ≡ at (λ x. x.value) (every (mistyped g.now t.now v.now left) (row_of (typed_in t.now kind) (value_size v.now) n 0 first)) }
 {
     let mut next = first;
-    let mut i = 0;
-    while i < n {
+    for i in 0..n {
         let w = next;
-        if left == 0 {
-            return Fault::At(w);
-        }
         let r = fetch(v, w);
         let own = type_of(t, types, child_type(t, kind, i));
-        if !has_form(g, v, classes, sets, own, w, r) {
-            return Fault::At(w);
+        if left == 0 || !has_form(g, v, classes, sets, own, w, r) {
+            return Err(w);
         }
         let count = child_count(own, r);
         let number = r.a;
         // All that the next turn needs of this value's record is read here, so that no frame keeps a record over its call.
         next += size_of(r);
-        i += 1;
         // Most values are texts, which have nothing below them and cost no call.
         if count != 0 {
             let below = kind_below(t, own, number);
-            let one = values_typed(g, t, v, classes, sets, types, below, w + 1, count, left - 1);
-            if let Fault::At(p) = one {
-                return Fault::At(p);
-            }
+            values_typed(g, t, v, classes, sets, types, below, w + 1, count, left - 1)?;
         }
     }
-    Fault::Nowhere
+    Ok(())
 }
 
 // The place of the first value that is not of its type: the whole value is to be of the declared type, as a row of one.
@@ -159,12 +138,12 @@ pub fn value_typing(
     sets: &[u16],
     types: &[u16],
     templates: &[u16],
-) -> Fault
+) -> Result<(), usize>
     requires { ValueAsks g.now t.now v.now classes.now sets.now types.now templates.now }
     ensures { fault_of result ≡ value_typing g.now t.now v.now }
 {
-    let Sought::Number(ty) = declared_type(t, templates) else {
-        return Fault::At(0);
+    let Some(ty) = declared_type(t, templates) else {
+        return Err(0);
     };
     values_typed(g, t, v, classes, sets, types, Kind::Items(ty), 0, 1, LEVELS)
 }

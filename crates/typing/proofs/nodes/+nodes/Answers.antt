@@ -1,8 +1,9 @@
 -- What is wrong in the nodes that are left is what is wrong in the whole row. The measure is twice the levels left, and one more for a row. Assumes nothing.
 use mathlib.Core.Path.{◌∙◌}
 use native.Mathlib.Omega.{arith}
+use Rattle.std.proofs.lemmas.Result.{err_from_is_err_and}
 use Rattle.typing.proofs.LimitLaws.{ready_few, below_ready}
-use Rattle.typing.proofs.NodeLaws.{misfit_deep, misfit_own, turn_start, turn_room, turn_ready, turn_stop, turn_next, turn_end, checked_own, checked_below}
+use Rattle.typing.proofs.NodeLaws.{misfit_deep, misfit_own, turn_room, turn_ready, turn_stop, turn_next, turn_end, checked_own, checked_below}
 use Rattle.typing.proofs.nodes.+nodes.Goals as goal
 
 pub check-returns-then-left-eq0 : goal.check-returns-then-left-eq0
@@ -14,41 +15,23 @@ check-own_test-own-requires t c = (c.requires.0, omega (arith, c.requires.1.near
 pub check-returns-in_default : goal.check-returns-in_default
 check-returns-in_default t c = checked_own _ c.requires.2 (misfit_own _ _ _ _ c.if-left-eq0.false (c.own_test-own.ensures.fails c.in_default.is))
 
-pub check-overflow_sub-left : goal.check-overflow_sub-left
-check-overflow_sub-left t c = omega (arith, c.if-left-eq0.false)
-
 pub check-row-requires : goal.check-row-requires
-check-row-requires t c = (omega (arith, c.decreases, c.if-left-eq0.false), (c.requires.0, below_ready c.if-left-eq0.false c.requires.1 _ _ _ (c.own_test-own.ensures.stands _ c.in-Above.is), c.requires.2))
+check-row-requires t c = (omega (arith, c.decreases, c.if-left-eq0.false), (c.requires.0, below_ready c.if-left-eq0.false c.requires.1 _ _ _ (c.own_test-own.ensures.stands _ c.in-Some.is), c.requires.2))
 
 pub check-returns : goal.check-returns
-check-returns t c = checked_below _ _ _ c.if-left-eq0.false (c.own_test-own.ensures.stands _ c.in-Above.is) c.row.ensures
-
-pub row-loop-i-init : goal.row-loop-i-init
-row-loop-i-init t c = turn_start _ _ _ c.requires.1 c.requires.2
+check-returns t c = checked_below _ _ _ c.if-left-eq0.false (c.own_test-own.ensures.stands _ c.in-Some.is) c.row.ensures
 
 pub row-frame_in-f-requires : goal.row-frame_in-f-requires
 row-frame_in-f-requires t c = (c.requires.0.builds.sized, c.requires.0.types.sized, omega (arith, c.requires.1.many, c.loop-i-test.true), c.requires.1.inside _ c.loop-i-test.true, turn_room c.loop-i.invariant c.loop-i-test.true)
 
-pub row-fetch-head-requires : goal.row-fetch-head-requires
-row-fetch-head-requires t c = c.requires.0.types.sized
+pub row-check-requires : goal.row-check-requires
+row-check-requires t c = (omega (arith, c.decreases), (c.requires.0, turn_ready c.loop-i.invariant c.loop-i-test.true c.frame_in-f.ensures c.requires.1, c.frame_in-f.ensures.bound.full, c.fetch-head.ensures))
 
-pub row-check-one-requires : goal.row-check-one-requires
-row-check-one-requires t c = (omega (arith, c.decreases), (c.requires.0, turn_ready c.loop-i.invariant c.loop-i-test.true c.frame_in-f.ensures c.requires.1, c.frame_in-f.ensures.bound.full, c.fetch-head.ensures))
-
-pub row-returns-in-Offends : goal.row-returns-in-Offends
-row-returns-in-Offends t c = turn_stop c.loop-i.invariant c.loop-i-test.true c.frame_in-f.ensures _ c.check-one.ensures c.in-Offends.is
-
-pub row-overflow_add-at : goal.row-overflow_add-at
-row-overflow_add-at t c = record { fits = omega (arith, c.requires.1.near, c.requires.1.many, c.loop-i.invariant.here, c.loop-i-test.true, c.size_in-at.ensures.1) }
-
-pub row-overflow_add-i : goal.row-overflow_add-i
-row-overflow_add-i t c = record { fits = omega (arith, c.requires.1.many, c.loop-i-test.true) }
-
-pub row-loop-i-smaller : goal.row-loop-i-smaller
-row-loop-i-smaller t c = omega (arith, c.loop-i-test.true)
+pub row-returns-in_err-check : goal.row-returns-in_err-check
+row-returns-in_err-check t c = let p = err_from_is_err_and c.from_residual.result c.from_residual.ensures.1 in rw (p.1, p.2) (turn_stop c.loop-i.invariant c.loop-i-test.true c.frame_in-f.ensures _ c.check.ensures c.in_err-check.was)
 
 pub row-loop-i-preserved : goal.row-loop-i-preserved
-row-loop-i-preserved t c = turn_next c.loop-i.invariant c.loop-i-test.true c.frame_in-f.ensures _ c.check-one.ensures c.in_default.is _ (c.size_in-at.ensures.0 ∙ c.fetch-head.ensures.c) c.size_in-at.ensures.1
+row-loop-i-preserved t c = turn_next c.loop-i.invariant c.loop-i-test.true c.frame_in-f.ensures _ c.check.ensures c.in_ok-check.was _ (c.size_in-at.ensures.0 ∙ c.fetch-head.ensures.c) c.size_in-at.ensures.1
 
 pub row-returns : goal.row-returns
 row-returns t c = turn_end c.loop-i.invariant c.loop-i-test.false

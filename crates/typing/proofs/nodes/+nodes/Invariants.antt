@@ -1,5 +1,5 @@
 -- What is wrong in the nodes that are left is what is wrong in the whole row. The measure is twice the levels left, and one more for a row. Assumes nothing.
-use Prim.Native.Nat.{◌+◌, ◌-◌, ◌*◌}
+use Prim.Native.Nat.{◌+◌, ◌*◌}
 use Rattle.typing.proofs.NodeLaws.{Turn}
 use Rattle.typing.proofs.nodes.+nodes.Given as goal
 
@@ -11,6 +11,3 @@ decreases-row l = 2 * l.left + 1
 
 abbrev pub invariant-row-loop-i : goal.invariant-row-loop-i
 invariant-row-loop-i l = Turn l.g l.t l.asked l.left l.below l.count l.initial.scope l.scope l.i l.at
-
-abbrev pub decreases-row-loop-i : goal.decreases-row-loop-i
-decreases-row-loop-i l = l.below.count - l.i

@@ -4,9 +4,6 @@ use Rattle.typing.proofs.nodes.bind.Goals as goal
 pub bounds-scope-count : goal.bounds-scope-count
 bounds-scope-count c = item_room _ _ _ c.requires.2 c.in-Item.is
 
-pub fetch-requires : goal.fetch-requires
-fetch-requires c = c.requires.0
-
 pub bounds-scope-count-in-Contents : goal.bounds-scope-count-in-Contents
 bounds-scope-count-in-Contents c = content_room _ _ _ c.requires.2 c.in-Contents.is
 
@@ -17,4 +14,4 @@ pub returns-in-Item : goal.returns-in-Item
 returns-in-Item c = bound_item _ _ _ _ _ c.requires.2 c.in-Item.is
 
 pub returns-in-Contents : goal.returns-in-Contents
-returns-in-Contents c = bound_content _ _ _ _ _ c.requires.2 c.in-Contents.is c.fetch.ensures.b
+returns-in-Contents c = bound_content _ _ _ _ _ c.requires.2 c.in-Contents.is (rw c.from.ensures at c.fetch.ensures.b)

@@ -1,12 +1,8 @@
 -- Whether the arguments that are left fit is whether all of them do. Assumes nothing.
 use mathlib.Core.Path.{◌≡◌}
-use Prim.Native.Nat.{◌-◌, ◌≤◌}
 use lib.ListN.{take}
 use Rattle.typing.proofs.ExpandLaws.{fits}
 use Rattle.typing.proofs.suits.arguments_fit.Given as goal
 
 abbrev pub invariant-loop-i : goal.invariant-loop-i
-invariant-loop-i l = (l.i ≤ l.n) × (fits l.t (take l.f.count l.scope) l.n l.f.node l.q l.i ≡ fits l.t (take l.f.count l.scope) l.n l.f.node l.q 0)
-
-abbrev pub decreases-loop-i : goal.decreases-loop-i
-decreases-loop-i l = l.n - l.i
+invariant-loop-i l = fits l.t (take l.f.count l.scope) l.n l.f.node l.q l.i ≡ fits l.t (take l.f.count l.scope) l.n l.f.node l.q 0

@@ -1,8 +1,6 @@
-use Rattle.typing.proofs.SuitsLaws.{leaf_yes, leaf_no}
+use mathlib.Core.Path.{◌∙◌}
+use Rattle.typing.proofs.SuitsLaws.{leaf_is}
 use Rattle.typing.proofs.suits.leaf.Goals as goal
 
-pub returns-then-not-ok : goal.returns-then-not-ok
-returns-then-not-ok c = leaf_no _ (c.if-not-ok.true)
-
 pub returns : goal.returns
-returns c = leaf_yes _ (c.if-not-ok.false)
+returns c = c.then_some.ensures ∙ leaf_is _

@@ -2,32 +2,7 @@ use mathlib.Core.Path.{refl}
 use Rattle.records.proofs.NodeLaws.{form_is}
 use Rattle.typing.proofs.SuitsLaws.{unsuited, by_form, literal_leaf, place_leaf, expand_leaf}
 use Rattle.rules.specs.Typing.{suits_form}
-use Rattle.lexeme.proofs.SourceLaws.{lent}
 use Rattle.typing.proofs.suits.own_test.Goals as goal
-
-pub suits_build-requires : goal.suits_build-requires
-suits_build-requires c = (c.requires.1, c.requires.0.builds)
-
-pub suits_literal-requires : goal.suits_literal-requires
-suits_literal-requires c = (c.requires.0.lexemes, c.requires.0.types.sized)
-
-pub suits_place-requires : goal.suits_place-requires
-suits_place-requires c = (lent _ _ _ c.requires.0.lexemes, c.requires.1, c.requires.0.types, c.requires.2)
-
-pub suits_expand-requires : goal.suits_expand-requires
-suits_expand-requires c = (c.requires.1, c.requires.0.templates_are, c.requires.0.types, c.requires.2, c.requires.3)
-
-pub suits_if-requires : goal.suits_if-requires
-suits_if-requires c = (c.requires.1, c.requires.0.types, c.requires.2)
-
-pub suits_for-requires : goal.suits_for-requires
-suits_for-requires c = (c.requires.1, c.requires.0.types, c.requires.2)
-
-pub suits_sequence-requires : goal.suits_sequence-requires
-suits_sequence-requires c = c.requires.1
-
-pub suits_match-requires : goal.suits_match-requires
-suits_match-requires c = (c.requires.1, c.requires.0.types, c.requires.2, c.requires.3)
 
 pub returns-in-Build : goal.returns-in-Build
 returns-in-Build c = by_form (form_is _ _ _ c.requires.3 _ c.form_of.ensures) c.in-Build.is (c.suits_build.ensures _ _ c.requires.3)

@@ -1,29 +1,24 @@
+use mathlib.Core.Path.{sym, ◌∙◌}
 use native.Mathlib.Omega.{arith}
-use Rattle.typing.proofs.AnswerLaws.{got, lost}
 use Rattle.typing.proofs.AskedLaws.{row_of}
 use Rattle.typing.proofs.SuitsLaws.{unsuited, suited, build_nothing, build_missing, build_other, build_counts, build_is}
 use Rattle.typing.proofs.suits.suits_build.Goals as goal
+use Rattle.typing.proofs.suits.suits_build.Goals.{then-fetch-n-via-then-fetch-n, then-fetch-n-via-else-fetch-n+then-asked-at}
 
-pub returns-in_default : goal.returns-in_default
-returns-in_default c = λ t scope f. unsuited (build_nothing _ _ _ (lost c.asks_nonterminal.ensures c.in_default.is))
+pub returns-in_err-n : goal.returns-in_err-n
+returns-in_err-n c = λ t scope f. rw c.from_residual.ensures (unsuited (build_nothing _ _ _ (sym c.in_err-n.ensures)))
 
-pub returns-in_default-head : goal.returns-in_default-head
-returns-in_default-head c = λ t scope f. unsuited (build_missing _ _ _ _ (got c.asks_nonterminal.ensures c.in-Number.is) _ c.requires.1.productions_are _ f.b (lost c.head.ensures c.in_default-head.is))
-
-pub fetch-p-requires : goal.fetch-p-requires
-fetch-p-requires c = c.requires.1.sized
-
-pub returns-then-p-n : goal.returns-then-p-n
-returns-then-p-n c = λ t scope f. unsuited (build_other _ _ _ _ (got c.asks_nonterminal.ensures c.in-Number.is) _ c.requires.1.productions_are _ f.b _ (got c.head.ensures c.in-Number-head.is) _ c.fetch-p.ensures.b (λ e. omega (arith, e, c.if-p-n.true)))
+pub returns-in_err-q : goal.returns-in_err-q
+returns-in_err-q c = λ t scope f. rw c.from_residual-in_err-q.ensures (unsuited (build_missing _ _ _ _ (sym c.in_ok-n.ensures) _ c.requires.1.productions_are _ f.b (sym c.in_err-q.ensures)))
 
 pub bounds-asked-at : goal.bounds-asked-at
-bounds-asked-at c = omega (arith, (row_of _ _ _ c.requires.1.productions_are c.requires.1.filled _ _ (got c.head.ensures c.in-Number-head.is)).inside)
+bounds-asked-at c = omega (arith, c.from-at.ensures, (row_of _ _ _ c.requires.1.productions_are c.requires.1.filled _ _ (sym c.in_ok-q.ensures)).inside)
 
-pub returns-then-asked-at : goal.returns-then-asked-at
-returns-then-asked-at c = λ t scope f. unsuited (build_counts _ _ _ _ (got c.asks_nonterminal.ensures c.in-Number.is) _ c.requires.1.productions_are _ f.b _ (got c.head.ensures c.in-Number-head.is) _ c.fetch-p.ensures.b c.if-p-n.false (row_of _ _ _ c.requires.1.productions_are c.requires.1.filled _ _ (got c.head.ensures c.in-Number-head.is)) _ f.d (λ e. omega (arith, e, c.if-asked-at.true)))
-
-pub overflow_add-result : goal.overflow_add-result
-overflow_add-result c = record { fits = omega (arith, c.requires.0) }
+pub returns-then-fetch-n : goal.returns-then-fetch-n
+returns-then-fetch-n c = λ t scope f. elim c.then-fetch-n.branch [
+  | then-fetch-n-via-then-fetch-n w ↦ unsuited (build_other _ _ _ _ (sym c.in_ok-n.ensures) _ c.requires.1.productions_are _ f.b _ (sym c.in_ok-q.ensures) _ (rw c.from-at.ensures at c.fetch.ensures.b) w.if-fetch-n.true)
+  | then-fetch-n-via-else-fetch-n+then-asked-at w ↦ unsuited (build_counts _ _ _ _ (sym c.in_ok-n.ensures) _ c.requires.1.productions_are _ f.b _ (sym c.in_ok-q.ensures) _ (rw c.from-at.ensures at c.fetch.ensures.b) w.if-fetch-n.false (row_of _ _ _ c.requires.1.productions_are c.requires.1.filled _ _ (sym c.in_ok-q.ensures)) _ f.d (rw c.from-at.ensures at w.if-asked-at.true))
+]
 
 pub returns : goal.returns
-returns c = λ t scope f. suited (build_is _ _ _ _ (got c.asks_nonterminal.ensures c.in-Number.is) _ c.requires.1.productions_are _ f.b _ (got c.head.ensures c.in-Number-head.is) _ c.fetch-p.ensures.b c.if-p-n.false (row_of _ _ _ c.requires.1.productions_are c.requires.1.filled _ _ (got c.head.ensures c.in-Number-head.is)) _ f.d c.if-asked-at.false (omega arith))
+returns c = λ t scope f. suited (build_is _ _ _ _ (sym c.in_ok-n.ensures) _ c.requires.1.productions_are _ f.b _ (sym c.in_ok-q.ensures) _ (rw c.from-at.ensures at c.fetch.ensures.b) c.if-fetch-n.false (row_of _ _ _ c.requires.1.productions_are c.requires.1.filled _ _ (sym c.in_ok-q.ensures)) _ (c.from.ensures ∙ f.d) (rw c.from-at.ensures at c.if-asked-at.false ∙ sym c.from.ensures) (omega (arith, c.from.ensures)))

@@ -1,18 +1,12 @@
-use Rattle.typing.proofs.AnswerLaws.{got, lost}
+use mathlib.Core.Path.{sym}
 use Rattle.typing.proofs.TemplateLaws.{declared_missing, declared_other, declared_is}
 use Rattle.typing.proofs.templates.declared_type.Goals as goal
 
-pub returns-in_default : goal.returns-in_default
-returns-in_default c = declared_missing _ _ c.requires.1 (lost c.head.ensures c.in_default.is)
+pub returns-in_err-head : goal.returns-in_err-head
+returns-in_err-head c = rw c.from_residual.ensures (declared_missing _ _ c.requires.1 (sym c.in_err-head.ensures))
 
-pub fetch-r-requires : goal.fetch-r-requires
-fetch-r-requires c = c.requires.0
-
-pub returns-then-r-ne1 : goal.returns-then-r-ne1
-returns-then-r-ne1 c = declared_other _ _ c.requires.1 _ _ (got c.head.ensures c.in-Number.is) c.fetch-r.ensures.a c.if-r-ne1.true
-
-pub fetch-p-requires : goal.fetch-p-requires
-fetch-p-requires c = c.requires.0
+pub returns-then-fetch-ne1 : goal.returns-then-fetch-ne1
+returns-then-fetch-ne1 c = declared_other _ _ c.requires.1 _ _ (sym c.in_ok-head.ensures) (rw c.from-q.ensures at c.fetch.ensures.a) c.if-fetch-ne1.true
 
 pub returns : goal.returns
-returns c = declared_is _ _ c.requires.1 _ _ (got c.head.ensures c.in-Number.is) c.fetch-r.ensures.a c.if-r-ne1.false _ c.fetch-p.ensures.b
+returns c = declared_is _ _ c.requires.1 _ _ (sym c.in_ok-head.ensures) (rw c.from-q.ensures at c.fetch.ensures.a) c.if-fetch-ne1.false _ (rw c.from-q.ensures at c.fetch-2.ensures.b)

@@ -1,5 +1,4 @@
 -- What is wrong in the values that are left is what is wrong in the whole row. The measure is the levels left. Assumes nothing.
-use Prim.Native.Nat.{◌-◌}
 use Rattle.typing.proofs.ValueLaws.{ValueTurn}
 use Rattle.typing.proofs.value.+values_typed.Given as goal
 
@@ -8,6 +7,3 @@ decreases-values_typed l = l.left
 
 abbrev pub invariant-loop-i : goal.invariant-loop-i
 invariant-loop-i l = ValueTurn l.g l.t l.v l.left l.kind l.first l.n l.next l.i
-
-abbrev pub decreases-loop-i : goal.decreases-loop-i
-decreases-loop-i l = l.n - l.i

@@ -1,15 +1,13 @@
 use mathlib.Core.Path.{◌∙◌}
+use borrow.Author.Tests.{ne_eqb}
 use Rattle.typing.proofs.ValueLaws.{by_kind, text_read, text_other, yes_no_is, items_is, fields_is, fields_other, cases_is, cases_other, missing_is}
 use Rattle.typing.proofs.value.has_form.Goals as goal
 
-pub admits-requires : goal.admits-requires
-admits-requires c = c.requires.0
-
 pub returns-then-r-eq1 : goal.returns-then-r-eq1
-returns-then-r-eq1 c = λ t. c.admits.ensures ∙ text_read _ _ t _ _ c.requires.1 _ _ c.text_after.ensures c.if-r-eq1.true ∙ by_kind _ _ t _ c.in-Text.is
+returns-then-r-eq1 c = λ t. c.admits.ensures ∙ text_read _ _ t _ _ c.requires.1 _ _ (rw c.from.ensures at c.text_after.ensures) c.if-r-eq1.true ∙ by_kind _ _ t _ c.in-Text.is
 
 pub returns-else-r-eq1 : goal.returns-else-r-eq1
-returns-else-r-eq1 c = λ t. text_other _ _ t _ _ c.requires.1 _ c.if-r-eq1.false ∙ by_kind _ _ t _ c.in-Text.is
+returns-else-r-eq1 c = λ t. ne_eqb _ _ c.if-r-eq1.false ∙ text_other _ _ t _ _ c.requires.1 _ c.if-r-eq1.false ∙ by_kind _ _ t _ c.in-Text.is
 
 pub returns-in-YesNo : goal.returns-in-YesNo
 returns-in-YesNo c = λ t. yes_no_is _ _ t _ _ c.requires.1 ∙ by_kind _ _ t _ c.in-YesNo.is
@@ -21,13 +19,13 @@ pub returns-then-r-eq4 : goal.returns-then-r-eq4
 returns-then-r-eq4 c = λ t. fields_is _ _ t _ _ c.requires.1 _ _ c.if-r-eq4.true ∙ by_kind _ _ t _ c.in-Fields.is
 
 pub returns-else-r-eq4 : goal.returns-else-r-eq4
-returns-else-r-eq4 c = λ t. fields_other _ _ t _ _ c.requires.1 _ _ c.if-r-eq4.false ∙ by_kind _ _ t _ c.in-Fields.is
+returns-else-r-eq4 c = λ t. ne_eqb _ _ c.if-r-eq4.false ∙ fields_other _ _ t _ _ c.requires.1 _ _ c.if-r-eq4.false ∙ by_kind _ _ t _ c.in-Fields.is
 
 pub returns-then-r-eq5 : goal.returns-then-r-eq5
-returns-then-r-eq5 c = λ t. cases_is _ _ t _ _ c.requires.1 _ _ c.if-r-eq5.true ∙ by_kind _ _ t _ c.in-Cases.is
+returns-then-r-eq5 c = λ t. rw c.from-then-r-eq5.ensures (cases_is _ _ t _ _ c.requires.1 _ _ c.if-r-eq5.true ∙ by_kind _ _ t _ c.in-Cases.is)
 
 pub returns-else-r-eq5 : goal.returns-else-r-eq5
-returns-else-r-eq5 c = λ t. cases_other _ _ t _ _ c.requires.1 _ _ c.if-r-eq5.false ∙ by_kind _ _ t _ c.in-Cases.is
+returns-else-r-eq5 c = λ t. ne_eqb _ _ c.if-r-eq5.false ∙ cases_other _ _ t _ _ c.requires.1 _ _ c.if-r-eq5.false ∙ by_kind _ _ t _ c.in-Cases.is
 
 pub returns-in-Missing : goal.returns-in-Missing
 returns-in-Missing c = λ t. missing_is _ _ t _ ∙ by_kind _ _ t _ c.in-Missing.is
