@@ -11,8 +11,7 @@ use borrow.Author.Tests.{eqb-true}
 use Rattle.rules.specs.Limits.{templates_limits}
 use Rattle.rules.specs.Typing.{templates_typing}
 use Rattle.rules.specs.Walk.{fuel_spent, too_deep, output_full, done, ended, stuck}
-use Rattle.rules.specs.Answers.{answer, evaluate_refusal, limit_number, Outcome, left, walked, unless_refused, input, evaluate}
-use Rattle.rules.specs.declared.Answer.{Answer}
+use Rattle.rules.specs.Answers.{answer, evaluate_refusal, limit_number, left, walked, unless_refused, input, evaluate}
 use Rattle.theorems.proofs.Few.{paths_few}
 use Rattle.theorems.proofs.Sound.{never_stuck}
 use Rattle.theorems.specs.Kept.{admitted_typed}
@@ -58,7 +57,3 @@ unfolding evaluate unless_refused
 evaluate_walks g t v fuel out scratch out' scratch' r e same w =
     rw (e, w.cleared, ← w.meets)
     (end_is out scratch out' r.bytes w.inside same w.output r refl (λ z. never_stuck (input g t v fuel out) (admitted_typed g t v fuel out scratch e) (sym w.meets ∙ z)))
-
--- an answer made by a function of its own
-pub answered : (a b : Answer) (out scratch : List ℕ) (o : Outcome) → a ≡ b → outcome b out scratch ≡ o → outcome a out scratch ≡ o
-answered a b out scratch o e h = ap (λ (x : Answer). outcome x out scratch) e ∙ h

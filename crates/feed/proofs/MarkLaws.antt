@@ -17,8 +17,8 @@ use Rattle.laws.specs.Lists.{nth_some, nth_none}
 use Rattle.layout.specs.Heads.{part}
 use Rattle.walk.proofs.MarkLaws.{mark_at}
 use Rattle.walk.specs.Marks.{mark_of, Marked}
-use Rattle.feed.specs.declared.set.Judged.{Judged}
-use Rattle.feed.specs.Asks.{HeadsJudged, MarkAsks, HeadsMarked}
+use Rattle.feed.specs.declared.set.Heads.{Heads}
+use Rattle.feed.specs.Asks.{HeadsFilled, MarkAsks, HeadsMarked}
 
 -- a mark tells whether its class is escaped
 
@@ -133,13 +133,12 @@ module _ {g heads : List ℕ} {cs ps : ℕ} (a : MarkAsks g heads cs ps) {after 
           }
 
 -- what it asks, of a table that has an entry to spare
-pub mark_asks : {g t v : List ℕ} {valued : Bool} {of-g of-t : List ℕ} {r : Judged} → HeadsJudged g t v valued of-g of-t r → record_count g < length of-g
-    → MarkAsks g of-g r.classes r.productions
-mark_asks {of-g = of-g} {r = r} h l = record {
-  grammar_sized = h.tabled.grammar_sized;
-  few = omega (arith, h.tabled.few_classes, length-take (r.classes - 0) (drop 0 of-g), h.productions_behind, h.in_grammar);
-  behind = h.productions_behind;
-  inside = omega (arith, h.in_grammar);
-  classes_are = h.tabled.classes_are;
-  productions_are = h.tabled.productions_are;
+pub mark_asks : {g t of-g of-t : List ℕ} {h : Heads} → HeadsFilled g t of-g of-t h → record_count g < length of-g → MarkAsks g of-g h.classes h.productions
+mark_asks {of-g = of-g} {h = h} f l = record {
+  grammar_sized = f.tabled.grammar_sized;
+  few = omega (arith, f.tabled.few_classes, length-take (h.classes - 0) (drop 0 of-g), f.productions_behind, f.in_grammar);
+  behind = f.productions_behind;
+  inside = omega (arith, f.in_grammar);
+  classes_are = f.tabled.classes_are;
+  productions_are = f.tabled.productions_are;
 }

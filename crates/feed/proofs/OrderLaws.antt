@@ -2,7 +2,7 @@
 use Prim.Native.Nat.{ℕ, ◌≤◌, ◌<◌}
 use mathlib.Core.Path.{◌≡◌, refl, sym, ap, ◌∙◌}
 use mathlib.Core.List.{List, [], ◌∷◌}
-use mathlib.Core.Bool.{Bool, true, false, cond}
+use mathlib.Core.Bool.{Bool, true}
 use mathlib.Core.Option.{Option, none, some, some-ne-none}
 use lib.ListN.{length}
 use lib.Dec.{leb}
@@ -14,40 +14,52 @@ use Rattle.rules.specs.Limits.{deepest, templates_limits, value_limits}
 use Rattle.rules.specs.Names.{grammar_names, templates_names}
 use Rattle.rules.specs.Typing.{templates_typing, value_typing}
 use Rattle.rules.specs.Answers
-use Rattle.rules.specs.Answers.{answer, Stream, stream_kind, bytes_of, layout_of, limits_of, placed, over, try, accept, set_refusal, check_refusal, scratch_needed, evaluate_refusal, check, kept, unless_refused, evaluate}
+use Rattle.rules.specs.Answers.{answer, Stream, stream_kind, bytes_of, layout_of, limits_of, placed, over, try, accept, set_refusal, check_refusal, scratch_needed, evaluate_refusal, check, kept, unless_refused, evaluate, Outcome}
 use Rattle.rules.specs.declared.Answer.{Answer}
-use Rattle.laws.specs.Faults.{need_none, both_nil, both_iff, on_some, on_none, placed_iff, try_iff}
+use Rattle.laws.specs.Faults.{need_none, both_nil, both_iff, placed_iff, try_iff}
 use Rattle.records.specs.Children.{Children}
 use Rattle.layout.specs.Heads.{LaidGrammar, LaidTemplates}
-use Rattle.feed.specs.declared.verdict.Offence.{Offence}
-use Rattle.feed.specs.declared.verdict.Offence.TheVariants.{In, Nowhere}
-use Rattle.feed.specs.declared.verdict.Verdict.{Verdict}
-use Rattle.feed.specs.declared.verdict.Verdict.TheVariants.{Refused, Passed}
-use Rattle.feed.specs.Asks.{AllJudged}
-use Rattle.feed.specs.Verdict.{offence_of, verdict_of, first_of, streams_refusal, set_judgement, judgement, outcome}
+use Rattle.std.specs.Prelude.{Option as Maybe, Some, None, Result, Ok, Err}
+use Rattle.std.specs.Result.{IsErrAnd}
+use Rattle.std.proofs.lemmas.Result.{err_from_is_err_and}
+use Rattle.walk.specs.declared.state.Run.{Run}
+use Rattle.feed.specs.declared.verdict.Refusal.{Refusal}
+use Rattle.lexeme.specs.Sets.{LexemesReady}
+use Rattle.feed.specs.declared.set.Heads.{Heads}
+use Rattle.feed.specs.Asks.{AllJudged, SetJudged, HeadsJudged}
+use Rattle.feed.specs.Verdict.{refusal_answer, verdict_of, first_of, streams_refusal, set_judgement, depth_of, typing_of, judgement, evaluate_answer, outcome}
 
--- What an offence and a verdict say
-pub offends : (o : Offence) (x : Option (ℕ × ℕ)) (kind place : ℕ) → offence_of o ≡ x → o ≡ In kind place → x ≡ some (kind, place)
-offends o x kind place e h = sym e ∙ ap offence_of h
+-- what a `?` hands on
+pub handed : {T : Type 0} (r : Result T Refusal) (x : Refusal) {o : Option Answer} → IsErrAnd r (λ y. y ≡ x) → some (refusal_answer x) ≡ o → verdict_of r ≡ o
+handed r x h e = let p = err_from_is_err_and r h in rw (p.1, p.2) e
 
-pub offends_not : (o : Offence) (x : Option (ℕ × ℕ)) → offence_of o ≡ x → o ≡ Nowhere → x ≡ none
-offends_not o x e h = sym e ∙ ap offence_of h
+-- One rule, and then others against the same
+pub first_refuses : (number : ℕ) (x y : Option (ℕ × ℕ)) {a : Answer} → some a ≡ try number x accept → some a ≡ try number (both x y) accept
+unfolding try accept both
+first_refuses number none y e = absurd (some-ne-none _ e)
+first_refuses number (some p) y e = e
 
-pub refuses : (r : Verdict) (x : Option Answer) (number kind place : ℕ) → verdict_of r ≡ x → r ≡ Refused number kind place → x ≡ some (answer number kind place 0 0)
-refuses r x number kind place e h = sym e ∙ ap verdict_of h
+pub first_passes : (number : ℕ) (x y : Option (ℕ × ℕ)) {o : Option Answer} → none ≡ try number x accept → o ≡ try number y accept → o ≡ try number (both x y) accept
+unfolding try accept both
+first_passes number none y e h = h
+first_passes number (some (kind, place)) y e h = absurd (some-ne-none _ (sym e))
 
-pub passes : (r : Verdict) (x : Option Answer) → verdict_of r ≡ x → r ≡ Passed → x ≡ none
-passes r x e h = sym e ∙ ap verdict_of h
+-- One rule: it refuses, or leaves the word to what is tried next
+pub tried : (number : ℕ) (x y : Option (ℕ × ℕ)) (next : Unit {0} → Option Answer) {a : Answer} → some a ≡ try number x accept → x ≡ y → some a ≡ try number y next
+unfolding try accept
+tried number none y next e h = absurd (some-ne-none _ e)
+tried number (some (kind, place)) y next e h = e ∙ rw (← h)
 
--- one rule
-pub tried : (number : ℕ) (o : Option (ℕ × ℕ)) (kind place : ℕ) (next : Unit {0} → Option Answer) → o ≡ some (kind, place)
-    → some (answer number kind place 0 0) ≡ try number o next
-unfolding try
-tried number o kind place next e = rw e
+pub went_on : (number : ℕ) (x y : Option (ℕ × ℕ)) (next : Unit {0} → Option Answer) → none ≡ try number x accept → x ≡ y → next tt ≡ try number y next
+unfolding try accept
+went_on number none y next e h = rw (← h)
+went_on number (some (kind, place)) y next e h = absurd (some-ne-none _ (sym e))
 
-pub went_on : (number : ℕ) (o : Option (ℕ × ℕ)) (next : Unit {0} → Option Answer) → o ≡ none → next tt ≡ try number o next
-unfolding try
-went_on number o next e = rw e
+pub last_said : (number : ℕ) (x y : Option (ℕ × ℕ)) {o : Option Answer} → o ≡ try number x accept → x ≡ y → o ≡ try number y accept
+last_said number x y e h = e ∙ ap (λ (z : Option (ℕ × ℕ)). try number z accept) h
+
+pub passed : (number : ℕ) (x y : Option (ℕ × ℕ)) → none ≡ try number x accept → x ≡ y → y ≡ none
+passed number x y e h = sym h ∙ ((try_iff number x accept).0 (sym e)).0
 
 -- "each over grammar, templates, value before the next"
 abbrev pub two : List ℕ → List ℕ → List Stream
@@ -193,20 +205,14 @@ three_laid g t v e =
     (record { length_right = l.0; laid_out = m.0 }, record { length_right = l.1; laid_out = m.1 }, l.2, m.2)
 
 -- 1 to 3 of all three streams, with the table of the value's children
-pub all_refused : (g t v firsts places : List ℕ) (number kind place : ℕ) → some (answer number kind place 0 0) ≡ streams_refusal (three g t v) accept
-    → AllJudged g t v firsts places (Refused number kind place)
-all_refused g t v firsts places number kind place e =
-    record { is = e; children = λ h. absurd (some-ne-none (answer number kind place 0 0) (ap verdict_of h)) }
+pub all_refused : (g t v firsts places : List ℕ) (r : Result (Unit {0}) Refusal) (x : Refusal) → IsErrAnd r (λ y. y ≡ x)
+    → some (refusal_answer x) ≡ streams_refusal (three g t v) accept → AllJudged g t v firsts places r
+all_refused g t v firsts places r x h e = let p = err_from_is_err_and r h in rw (p.1, p.2) (record { is = e; children = tt })
 
-pub all_passed : (g t v firsts places : List ℕ) → none ≡ streams_refusal (three g t v) accept → Children v firsts places → AllJudged g t v firsts places Passed
-all_passed g t v firsts places e r = record { is = e; children = λ h. r }
-
-pub laid_children : (g t v firsts places : List ℕ) → over layout_of (three g t v) ≡ none → {right : Bool}
-    → (need {A = ℕ} right 0 ≡ value_layout v) × (right ≡ true → Children v firsts places) → Children v firsts places
-unfolding layout_of
-laid_children g t v firsts places e {right} h =
-    let m = first_none _ _ _ (over_three layout_of g t v ∙ e) in
-    h.1 (need_none right 0 (h.0 ∙ m.2))
+pub all_judged : (g t v firsts places : List ℕ) (r : Result (Unit {0}) Refusal) → verdict_of r ≡ streams_refusal (three g t v) accept → {right : Bool}
+    → (need {A = ℕ} right 0 ≡ value_layout v) × (right ≡ true → Children v firsts places) → AllJudged g t v firsts places r
+all_judged g t v firsts places (Ok x) e {right} h = record { is = e; children = h.1 (need_none right 0 (h.0 ∙ (three_laid g t v (sym e)).3)) }
+all_judged g t v firsts places (Err x) e h = record { is = e; children = tt }
 
 pub set_passed : (g t : List ℕ) (value : Option ℕ) → set_judgement g t value accept ≡ none → (templates_limits t ≡ none) × (templates_typing g t ≡ none)
 unfolding set_judgement
@@ -217,61 +223,66 @@ set_passed g t value e =
     let d = (try_iff 7 _ _).0 c.1 in
     ((first_none _ _ _ a.0).1, (placed_iff 2 _).0 d.0)
 
+-- with the sets of the grammar's classes
+pub set_refused : (g t : List ℕ) (value : Option ℕ) (cs sets : List ℕ) (r : Result (Unit {0}) Refusal) (x : Refusal) → IsErrAnd r (λ y. y ≡ x)
+    → some (refusal_answer x) ≡ set_judgement g t value accept → SetJudged g t value cs sets r
+set_refused g t value cs sets r x h e = let p = err_from_is_err_and r h in rw (p.1, p.2) (record { is = e; compiled = tt })
+
+pub set_judged : (g t : List ℕ) (value : Option ℕ) (cs sets : List ℕ) (r : Result (Unit {0}) Refusal) → verdict_of r ≡ set_judgement g t value accept
+    → LexemesReady g cs sets → SetJudged g t value cs sets r
+set_judged g t value cs sets (Ok x) e l = record { is = e; compiled = l }
+set_judged g t value cs sets (Err x) e l = record { is = e; compiled = tt }
+
 -- 4 to 8, with a value or without
-module _ (g t v : List ℕ) where
-  judgement_is : (valued : Bool) → judgement g t v valued
-      ≡ on_found (set_judgement g t (cond valued (value_limits v) none) accept) (cond valued (try 8 (placed 3 (value_typing g t v)) accept) none) some
+module _ (g t : List ℕ) where
+  judgement_is : (value : Maybe (List ℕ)) → judgement g t value ≡ on_found (set_judgement g t (depth_of value) accept) (typing_of g t value) some
   unfolding judgement
-  judgement_is valued = judgement_then g t (cond valued (value_limits v) none) _
+  judgement_is value = judgement_then g t (depth_of value) _
 
-  pub set_refuses : (valued : Bool) (a : Answer) → set_judgement g t (cond valued (value_limits v) none) accept ≡ some a → judgement g t v valued ≡ some a
+  -- the set is refused, or it passed and its value is judged, if one came
+  pub set_refuses : (value : Maybe (List ℕ)) {deep : Option ℕ} {a : Answer} → deep ≡ depth_of value → some a ≡ set_judgement g t deep accept → some a ≡ judgement g t value
   unfolding on_found
-  set_refuses valued a e = rw (judgement_is valued, e)
+  set_refuses value h e = rw (judgement_is value, ← h, ← e)
 
-  pub set_alone : set_judgement g t none accept ≡ none → judgement g t v false ≡ none
+  pub set_passes : (value : Maybe (List ℕ)) {deep : Option ℕ} {o : Option Answer} → deep ≡ depth_of value → none ≡ set_judgement g t deep accept → o ≡ typing_of g t value
+      → o ≡ judgement g t value
   unfolding on_found
-  set_alone e = rw (judgement_is false, e)
+  set_passes value h e l = rw (judgement_is value, ← h, ← e) l
 
-  pub value_refused : (place : ℕ) → set_judgement g t (value_limits v) accept ≡ none → value_typing g t v ≡ some place → judgement g t v true ≡ some (answer 8 3 place 0 0)
-  unfolding on_found placed try
-  value_refused place e h = rw (judgement_is true, e, h)
-
-  pub value_passed : set_judgement g t (value_limits v) accept ≡ none → value_typing g t v ≡ none → judgement g t v true ≡ none
-  unfolding on_found placed try accept
-  value_passed e h = rw (judgement_is true, e, h)
-
-  set_within : (o last : Option Answer) → on_found o last some ≡ none → (o ≡ none) × (last ≡ none)
+  set_within : (o last : Option Answer) → none ≡ on_found o last some → (o ≡ none) × (last ≡ none)
   unfolding on_found
-  set_within none last e = (refl, e)
-  set_within (some a) last e = absurd (some-ne-none a e)
+  set_within none last e = (refl, sym e)
+  set_within (some a) last e = absurd (some-ne-none a (sym e))
 
-  pub judged_set : judgement g t v true ≡ none → (templates_limits t ≡ none) × (templates_typing g t ≡ none)
-  judged_set e = set_passed g t (value_limits v) (set_within _ _ (sym (judgement_is true) ∙ e)).0
+  pub judged_set : (value : Maybe (List ℕ)) → none ≡ judgement g t value → (templates_limits t ≡ none) × (templates_typing g t ≡ none)
+  judged_set value e = set_passed g t (depth_of value) (set_within _ _ (e ∙ judgement_is value)).0
+
+-- with the tables of heads
+pub heads_refused : (g t : List ℕ) (value : Maybe (List ℕ)) (of-g of-t : List ℕ) (r : Result Heads Refusal) (x : Refusal) → IsErrAnd r (λ y. y ≡ x)
+    → some (refusal_answer x) ≡ judgement g t value → HeadsJudged g t value of-g of-t r
+heads_refused g t value of-g of-t r x h e = let p = err_from_is_err_and r h in rw (p.1, p.2) (record { is = e; filled = tt })
 
 -- the check call
 module _ (g t : List ℕ) where
-  check_is : check g t ≡ on_found (on_found (streams_refusal (two g t) accept) (set_judgement g t none accept) some) (answer 0 0 0 0 0) (λ a. a)
-  unfolding check check_refusal
-  check_is = rw (split_two g t accept, streams_then (two g t) (λ _. set_judgement g t none accept))
+  refusal_of_check : check_refusal g t ≡ on_found (streams_refusal (two g t) accept) (judgement g t None) some
+  unfolding check_refusal judgement accept
+  refusal_of_check = split_two g t accept ∙ streams_then (two g t) (λ _. set_judgement g t none accept)
 
-  alone : (v : List ℕ) → judgement g t v false ≡ set_judgement g t none accept
-  alone v = judgement_is g t v false ∙ go (set_judgement g t none accept)
-    where
-      go : (o : Option Answer) → on_found o none some ≡ o
-      go none = on_none none some refl
-      go (some a) = on_some none some refl
-
-  pub check_streams : (a : Answer) → streams_refusal (two g t) accept ≡ some a → a ≡ check g t
+  pub check_streams : {a : Answer} → some a ≡ streams_refusal (two g t) accept → some a ≡ check_refusal g t
   unfolding on_found
-  check_streams a e = rw (check_is, e)
+  check_streams e = rw (refusal_of_check, ← e)
 
-  pub check_refused : (v : List ℕ) (a : Answer) → streams_refusal (two g t) accept ≡ none → judgement g t v false ≡ some a → a ≡ check g t
+  pub check_judged : {o : Option Answer} → none ≡ streams_refusal (two g t) accept → o ≡ judgement g t None → o ≡ check_refusal g t
   unfolding on_found
-  check_refused v a e h = rw (check_is, e, ← alone v, h)
+  check_judged e h = rw (refusal_of_check, ← e) h
 
-  pub check_accepts : (v : List ℕ) → streams_refusal (two g t) accept ≡ none → judgement g t v false ≡ none → answer 0 0 0 0 0 ≡ check g t
-  unfolding on_found
-  check_accepts v e h = rw (check_is, e, ← alone v, h)
+  pub check_refused : {a : Answer} → some a ≡ check_refusal g t → a ≡ check g t
+  unfolding on_found check
+  check_refused e = rw (← e)
+
+  pub check_accepts : none ≡ check_refusal g t → answer 0 0 0 0 0 ≡ check g t
+  unfolding on_found check
+  check_accepts e = rw (← e)
 
 -- the evaluate call
 module _ (g t v scratch : List ℕ) where
@@ -279,33 +290,37 @@ module _ (g t v scratch : List ℕ) where
   last = try 9 (placed 0 (need (leb scratch_needed (length scratch)) 0)) accept
 
   value_then : (next : Unit {0} → Option Answer) → set_judgement g t (value_limits v) (λ _. try 8 (placed 3 (value_typing g t v)) next)
-      ≡ on_found (judgement g t v true) (next tt) some
+      ≡ on_found (judgement g t (Some v)) (next tt) some
   unfolding judgement
   value_then next = judgement_then_then g t (value_limits v) (try 8 (placed 3 (value_typing g t v))) (try_last 8 _) next
 
-  refusal_is : evaluate_refusal g t v scratch ≡ on_found (streams_refusal (three g t v) accept) (on_found (judgement g t v true) last some) some
+  refusal_is : evaluate_refusal g t v scratch ≡ on_found (streams_refusal (three g t v) accept) (on_found (judgement g t (Some v)) last some) some
   unfolding evaluate_refusal last
   refusal_is = split_three g t v _ ∙ streams_then (three g t v) _ ∙ ap (λ (x : Option Answer). on_found (streams_refusal (three g t v) accept) x some) (value_then _)
 
-  pub none_refuses : streams_refusal (three g t v) accept ≡ none → judgement g t v true ≡ none → 4800 ≤ length scratch → evaluate_refusal g t v scratch ≡ none
+  pub none_refuses : streams_refusal (three g t v) accept ≡ none → none ≡ judgement g t (Some v) → 4800 ≤ length scratch → evaluate_refusal g t v scratch ≡ none
   unfolding on_found last placed try need scratch_needed deepest accept
-  none_refuses e h l = rw (refusal_is, e, h, le-leb 4800 (length scratch) l)
+  none_refuses e h l = rw (refusal_is, e, ← h, le-leb 4800 (length scratch) l)
+
+pub evaluate_handed : (out scratch : List ℕ) (r : Result Run Refusal) (x : Refusal) {o : Outcome} → IsErrAnd r (λ y. y ≡ x) → outcome (refusal_answer x) out scratch ≡ o
+    → outcome (evaluate_answer r) out scratch ≡ o
+evaluate_handed out scratch r x h e = let p = err_from_is_err_and r h in rw (p.1, p.2) e
 
 module _ (g t v : List ℕ) (fuel : ℕ) (out scratch : List ℕ) where
   keeps : (a : Answer) → evaluate_refusal g t v scratch ≡ some a → outcome a out scratch ≡ evaluate g t v fuel out scratch
   unfolding evaluate unless_refused kept
   keeps a e = rw e
 
-  pub evaluate_streams : (a : Answer) → streams_refusal (three g t v) accept ≡ some a → outcome a out scratch ≡ evaluate g t v fuel out scratch
+  pub evaluate_streams : {a : Answer} → some a ≡ streams_refusal (three g t v) accept → outcome a out scratch ≡ evaluate g t v fuel out scratch
   unfolding on_found
-  evaluate_streams a e = keeps a (rw (refusal_is g t v scratch, e))
+  evaluate_streams {a} e = keeps a (rw (refusal_is g t v scratch, ← e))
 
-  pub evaluate_refused : (a : Answer) → streams_refusal (three g t v) accept ≡ none → judgement g t v true ≡ some a
+  pub evaluate_refused : {a : Answer} → streams_refusal (three g t v) accept ≡ none → some a ≡ judgement g t (Some v)
       → outcome a out scratch ≡ evaluate g t v fuel out scratch
   unfolding on_found
-  evaluate_refused a e h = keeps a (rw (refusal_is g t v scratch, e, h))
+  evaluate_refused {a} e h = keeps a (rw (refusal_is g t v scratch, e, ← h))
 
-  pub evaluate_scratch : streams_refusal (three g t v) accept ≡ none → judgement g t v true ≡ none → length scratch < 4800
+  pub evaluate_scratch : streams_refusal (three g t v) accept ≡ none → none ≡ judgement g t (Some v) → length scratch < 4800
       → outcome (answer 9 0 0 0 0) out scratch ≡ evaluate g t v fuel out scratch
   unfolding on_found last placed try need scratch_needed deepest
-  evaluate_scratch e h l = keeps (answer 9 0 0 0 0) (rw (refusal_is g t v scratch, e, h, lt-leb 4800 (length scratch) l))
+  evaluate_scratch e h l = keeps (answer 9 0 0 0 0) (rw (refusal_is g t v scratch, e, ← h, lt-leb 4800 (length scratch) l))

@@ -1,5 +1,5 @@
 -- What the parts of a call are lent, and what they promise.
-use Rattle.std.specs.Prelude.{ℕ, ◌+◌, ◌*◌, ◌≤◌, ◌<◌, ◌≡◌, Bool, List, [], ◌∷◌, length}
+use Rattle.std.specs.Prelude.{ℕ, ◌+◌, ◌*◌, ◌≤◌, ◌<◌, ◌≡◌, List, [], ◌∷◌, length, Result, OnOk, IfOk, Option as Maybe, Some}
 use Rattle.std.proofs.Math.Option.{Option, none}
 use Rattle.rules.specs.Blocks.{stream_length}
 use Rattle.rules.specs.Records.{record_count}
@@ -11,9 +11,8 @@ use Rattle.records.specs.Children.{Children}
 use Rattle.lexeme.specs.Sets.{LexemesReady}
 use Rattle.layout.specs.Heads.{part, LaidGrammar, LaidTemplates}
 use Rattle.walk.specs.Marks.{ProductionHeads}
-use Rattle.feed.specs.declared.set.Judged.{Judged}
-use Rattle.feed.specs.declared.verdict.Verdict.{Verdict}
-use Rattle.feed.specs.declared.verdict.Verdict.TheVariants.{Passed}
+use Rattle.feed.specs.declared.set.Heads.{Heads}
+use Rattle.feed.specs.declared.verdict.Refusal.{Refusal}
 use Rattle.feed.specs.Verdict.{verdict_of, streams_refusal, set_judgement, judgement}
 
 -- the two rows of a table have room for the children of a value of right length
@@ -22,9 +21,9 @@ pub record ChildRoom (v firsts places : List ℕ) : Type 0 where
   pub in_places : stream_length v ≡ none → record_count v ≤ length places
 
 -- the verdict is that of 1 to 3; if all passed, the table is that of the value's children
-pub record AllJudged (g t v firsts places : List ℕ) (r : Verdict) : Type 0 where
+pub record AllJudged (g t v firsts places : List ℕ) (r : Result (Unit {0}) Refusal) : Type 0 where
   pub is : verdict_of r ≡ streams_refusal (grammar g ∷ Answers.templates t ∷ value v ∷ []) accept
-  pub children : r ≡ Passed → Children v firsts places
+  pub children : OnOk r (Children v firsts places)
 
 -- streams of right lengths, and the heads of all four kinds by their numbers
 pub record Tabled (g t cs ps us ts : List ℕ) : Type 0 where
@@ -36,60 +35,60 @@ pub record Tabled (g t cs ps us ts : List ℕ) : Type 0 where
   pub templates_are : ts ≡ templates t
   pub few_classes : length cs ≤ 256
 
--- and a value of right length
-pub record Judgeable (g t v cs ps us ts : List ℕ) : Type 0 where
-  pub tabled : Tabled g t cs ps us ts
-  pub value_sized : stream_length v ≡ none
+-- a value has a right length, if one comes with the set
+pub record Sized (value : Maybe (List ℕ)) : Type 0 where
+  pub sized : (v : List ℕ) → value ≡ Some v → stream_length v ≡ none
 
--- and room for a set of each class
-pub record SetAsks (g t cs ps us ts sets : List ℕ) : Type 0 where
-  pub tabled : Tabled g t cs ps us ts
-  pub room : 128 * length cs ≤ length sets
-
-pub record JudgeAsks (g t v cs ps us ts sets : List ℕ) : Type 0 where
-  pub set : SetAsks g t cs ps us ts sets
-  pub value_sized : stream_length v ≡ none
+-- an array of n numbers has room for a set of each class
+pub record SetsRoom (cs : List ℕ) (n : ℕ) : Type 0 where
+  pub room : 128 * length cs ≤ n
+  pub few : n ≤ 65536
 
 -- the verdict is that of 4 to 7; if all passed, the sets are those of the classes
-pub record SetJudged (g t : List ℕ) (value : Option ℕ) (cs sets : List ℕ) (r : Verdict) : Type 0 where
+pub record SetJudged (g t : List ℕ) (value : Option ℕ) (cs sets : List ℕ) (r : Result (Unit {0}) Refusal) : Type 0 where
   pub is : verdict_of r ≡ set_judgement g t value accept
-  pub compiled : r ≡ Passed → LexemesReady g cs sets
+  pub compiled : OnOk r (LexemesReady g cs sets)
 
--- streams that are laid out, with a value of right length, and tables with room for the heads of all four kinds
-pub record HeadsAsk (g t v of-g of-t : List ℕ) : Type 0 where
+-- streams that are laid out, with a value of right length if one comes with them, and tables with room for the heads of all four kinds
+pub record HeadsAsk (g t : List ℕ) (value : Maybe (List ℕ)) (of-g of-t : List ℕ) : Type 0 where
   pub grammar_laid : LaidGrammar g
   pub templates_laid : LaidTemplates t
-  pub value_sized : stream_length v ≡ none
+  pub value_sized : Sized value
   pub grammar_room : record_count g ≤ length of-g
   pub templates_room : record_count t ≤ length of-t
 
--- the verdict is that of 4 to 8, and the heads of each kind stand in their table, up to its end
-pub record HeadsJudged (g t v : List ℕ) (valued : Bool) (of-g of-t : List ℕ) (r : Judged) : Type 0 where
-  pub is : verdict_of r.verdict ≡ judgement g t v valued
-  pub tabled : Tabled g t (part 0 r.classes of-g) (part r.classes r.productions of-g) (part 0 r.types of-t) (part r.types r.templates of-t)
-  pub productions_behind : r.classes ≤ r.productions
-  pub templates_behind : r.types ≤ r.templates
-  pub in_grammar : r.productions ≤ record_count g
-  pub in_templates : r.templates ≤ record_count t
+-- the heads of each kind stand in their table, up to its end
+pub record HeadsFilled (g t of-g of-t : List ℕ) (h : Heads) : Type 0 where
+  pub tabled : Tabled g t (part 0 h.classes of-g) (part h.classes h.productions of-g) (part 0 h.types of-t) (part h.types h.templates of-t)
+  pub productions_behind : h.classes ≤ h.productions
+  pub templates_behind : h.types ≤ h.templates
+  pub in_grammar : h.productions ≤ record_count g
+  pub in_templates : h.templates ≤ record_count t
 
--- a table has room for the heads of a grammar, and an entry to spare, as the walk has a number behind them
-pub record GrammarRoom (g of-g : List ℕ) : Type 0 where
-  pub room : record_count g < length of-g
+-- the verdict is that of 4 to 8; if all passed, the tables are filled
+pub record HeadsJudged (g t : List ℕ) (value : Maybe (List ℕ)) (of-g of-t : List ℕ) (r : Result Heads Refusal) : Type 0 where
+  pub is : verdict_of r ≡ judgement g t value
+  pub filled : IfOk r (HeadsFilled g t of-g of-t)
 
--- 1 to 3 let the streams through, and there is room for the heads of the templates' stream
-pub record CheckAsks (g t of-t : List ℕ) : Type 0 where
-  pub passed : streams_refusal (grammar g ∷ Answers.templates t ∷ []) accept ≡ none
-  pub room : record_count t ≤ length of-t
+-- an array of n numbers has room for the heads of a stream
+pub record Room (s : List ℕ) (n : ℕ) : Type 0 where
+  pub room : record_count s ≤ n
+  pub few : n ≤ 65536
+
+-- for the children of a value, if it has a right length
+pub record ChildrenRoom (v : List ℕ) (n : ℕ) : Type 0 where
+  pub room : stream_length v ≡ none → record_count v ≤ n
+  pub few : n ≤ 65536
+
+-- for the heads of a grammar, and an entry to spare, as the walk has a number behind them
+pub record GrammarRoom (g : List ℕ) (n : ℕ) : Type 0 where
+  pub room : record_count g < n
+  pub few : n ≤ 65536
 
 -- 1 to 3 let all three streams through, and the value's children are in their table
 pub record StreamsLaid (g t v firsts places : List ℕ) : Type 0 where
   pub passed : streams_refusal (grammar g ∷ Answers.templates t ∷ value v ∷ []) accept ≡ none
   pub children : Children v firsts places
-
--- and there is room for the heads of the templates' stream
-pub record EvaluateAsks (g t v firsts places of-t : List ℕ) : Type 0 where
-  pub laid : StreamsLaid g t v firsts places
-  pub room : record_count t ≤ length of-t
 
 -- the table of a grammar's heads, with an entry to spare; what it becomes for the walk, from r on
 pub record MarkAsks (g heads : List ℕ) (cs ps : ℕ) : Type 0 where

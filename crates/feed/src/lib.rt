@@ -2,10 +2,11 @@
 // stated order of the checks; the exports for other languages are crate feed_c.
 #![tactic(auto)]
 
-ghost use Rattle.std.specs.Prelude.{◌≡◌};
-ghost use Rattle.rules.specs.Answers.{check, evaluate};
-ghost use Rattle.feed.specs.Asks.{GrammarRoom, CheckAsks, StreamsLaid, EvaluateAsks, MarkAsks, HeadsMarked};
-ghost use Rattle.feed.specs.Verdict.{outcome};
+ghost use Rattle.std.specs.Prelude.{◌≡◌, ◌≤◌, length};
+ghost use Rattle.rules.specs.Answers.{check_refusal, check, evaluate};
+ghost use Rattle.rules.specs.Records.{record_count};
+ghost use Rattle.feed.specs.Asks.{Room, ChildrenRoom, GrammarRoom, StreamsLaid, MarkAsks, HeadsMarked};
+ghost use Rattle.feed.specs.Verdict.{verdict_of, SetLaid, judgement, evaluate_answer, outcome};
 
 mod set;
 mod streams;
@@ -18,7 +19,8 @@ pub use stream::block::block_payload;
 pub use stream::fnv::START;
 pub use stream::pack::{pack, unpack};
 use streams::{judge_all, judge_two};
-use verdict::{Verdict, accepted, ended, refused};
+use verdict::{Kind, Refusal, Rule, accepted, ended};
+use walk::state::Run;
 use walk::{mark, run};
 
 // The records of a whole stream, and of one of at most 8 blocks. Each head takes a record of its own: a table of either length has room for the
@@ -37,47 +39,64 @@ const SMALL_GRAMMAR_HEADS: usize = 505;
 // Refusal 9: "fewer than 4,800 16-bit numbers, 24 for each depth".
 const SCRATCH: usize = 4800;
 
-// 4 to 7 of a grammar and a template set that 1 to 3 let through. Their heads go into tables that are lent.
-fn check_set(g: &[u8], t: &[u8], gheads: &mut [u16], theads: &mut [u16]) -> Answer
-    requires check_asks { CheckAsks g.now t.now theads.old }
-    requires grammar_room { GrammarRoom g.now gheads.old }
-    ensures { result ≡ check g.now t.now }
-{
-    let judged = judge(g, t, g, false, gheads, theads);
-    let verdict = judged.verdict;
-    if let Verdict::Refused(number, kind, place) = verdict {
-        return refused(number, kind, place);
-    }
-    accepted()
+// A set and a value that 1 to 3 let through, and the table of the value's children.
+#[derive(Clone, Copy)]
+struct Laid<'a> {
+    g: &'a [u8],
+    t: &'a [u8],
+    v: &'a [u8],
+    firsts: &'a [u16],
+    places: &'a [u16],
+    ghost laid: { StreamsLaid g.now t.now v.now firsts.now places.now },
 }
 
-// The same with a table of the grammar's heads of its own.
-fn check_tabled(g: &[u8], t: &[u8], theads: &mut [u16]) -> Answer
-    requires { CheckAsks g.now t.now theads.old }
-    ensures { result ≡ check g.now t.now }
+// 4 to 7 of a grammar and a template set that 1 to 3 let through, with a table of N numbers for the grammar's heads. The templates' go into one
+// that is lent.
+fn check_tabled<const N: usize>(g: &[u8], t: &[u8], theads: &mut [u16]) -> Result<(), Refusal>
+    requires laid { SetLaid g.now t.now }
+    requires grammar_room { GrammarRoom g.now N }
+    requires templates_room { record_count t.now ≤ length theads.old }
+    ensures { verdict_of result ≡ judgement g.now t.now None }
 {
+    let mut gheads = [0u16; N];
+    judge(g, t, None, &mut gheads, theads)?;
+    Ok(())
+}
+
+// The same with a table of N numbers for the templates' heads too.
+fn check_laid<const N: usize>(g: &[u8], t: &[u8]) -> Result<(), Refusal>
+    requires laid { SetLaid g.now t.now }
+    requires templates_room { Room t.now N }
+    ensures { verdict_of result ≡ judgement g.now t.now None }
+{
+    let mut theads = [0u16; N];
     if g.len() <= SMALL_STREAM {
-        let mut gheads = [0u16; SMALL_GRAMMAR_HEADS];
-        return check_set(g, t, &mut gheads, theads);
+        check_tabled::<SMALL_GRAMMAR_HEADS>(g, t, &mut theads)
+    } else {
+        check_tabled::<GRAMMAR_HEADS>(g, t, &mut theads)
     }
-    let mut gheads = [0u16; GRAMMAR_HEADS];
-    check_set(g, t, &mut gheads, theads)
 }
 
-// The check call: 1 to 7 of a grammar and a template set. Five zeros mean accepted. Small streams, which are most, take small tables of heads,
-// which are sooner cleared.
+// 1 to 7 of a grammar and a template set. Small streams, which are most, take small tables of heads, which are sooner cleared.
+fn check_set(g: &[u8], t: &[u8]) -> Result<(), Refusal>
+    ensures { verdict_of result ≡ check_refusal g.now t.now }
+{
+    judge_two(g, t)?;
+    if t.len() <= SMALL_STREAM {
+        check_laid::<SMALL_RECORDS>(g, t)
+    } else {
+        check_laid::<RECORDS>(g, t)
+    }
+}
+
+// The check call: 1 to 7 of a grammar and a template set. Five zeros mean accepted.
 pub fn check(g: &[u8], t: &[u8]) -> Answer
     ensures { result ≡ check g.now t.now }
 {
-    if let Verdict::Refused(number, kind, place) = judge_two(g, t) {
-        return refused(number, kind, place);
+    match check_set(g, t) {
+        Ok(()) => accepted(),
+        Err(refusal) => Answer::from(refusal),
     }
-    if t.len() <= SMALL_STREAM {
-        let mut theads = [0u16; SMALL_RECORDS];
-        return check_tabled(g, t, &mut theads);
-    }
-    let mut theads = [0u16; RECORDS];
-    check_tabled(g, t, &mut theads)
 }
 
 // Makes the table of the grammar's heads that of the walk: marks in the place of the classes' heads, for which it has no use, then the productions,
@@ -91,111 +110,96 @@ fn mark_heads(g: &[u8], heads: &mut [u16], classes: usize, productions: usize) -
     classes - marks
 }
 
-// 4 to 9 of a set and a value that 1 to 3 let through, and the walk. The heads go into tables that are lent.
-fn evaluate_set(
-    g: &[u8],
-    t: &[u8],
-    v: &[u8],
-    firsts: &[u16],
-    places: &[u16],
-    gheads: &mut [u16],
+// 4 to 9 of a set and a value that 1 to 3 let through, and the walk, with a table of N numbers for the grammar's heads. The templates' go into one
+// that is lent.
+fn evaluate_tabled<const N: usize>(
+    laid: &Laid,
     theads: &mut [u16],
     fuel: u32,
     out: &mut [u8],
     scratch: &mut [u16],
-) -> Answer
-    requires evaluate_asks { EvaluateAsks g.now t.now v.now firsts.now places.now theads.old }
-    requires grammar_room { GrammarRoom g.now gheads.old }
-    ensures { outcome result out.new scratch.new ≡ evaluate g.now t.now v.now fuel out.old scratch.old }
+) -> Result<Run, Refusal>
+    requires grammar_room { GrammarRoom laid.now.g.now N }
+    requires templates_room { record_count laid.now.t.now ≤ length theads.old }
+    ensures { outcome (evaluate_answer result) out.new scratch.new ≡ evaluate laid.now.g.now laid.now.t.now laid.now.v.now fuel out.old scratch.old }
 {
-    let judged = judge(g, t, v, true, gheads, theads);
-    let verdict = judged.verdict;
-    if let Verdict::Refused(number, kind, place) = verdict {
-        return refused(number, kind, place);
-    }
+    let mut table = [0u16; N];
+    let gheads = &mut table[..];
+    let heads = judge(laid.g, laid.t, Some(laid.v), gheads, theads)?;
     if scratch.len() < SCRATCH {
-        return refused(9, 0, 0);
+        return Err(Refusal {
+            rule: Rule::Scratch,
+            kind: Kind::NoStream,
+            place: 0,
+        });
     }
-    let classes = judged.classes;
-    let productions = judged.productions;
-    let types = judged.types;
-    let templates = judged.templates;
-    let ts = &theads[types..templates];
-    let from = mark_heads(g, gheads, classes, productions);
-    let ps = &gheads[from..productions + 1];
-    ended(run(g, t, v, ps, ts, firsts, places, fuel, out, scratch))
-}
-
-// The same with a table of the grammar's heads of its own.
-fn evaluate_tabled(
-    g: &[u8],
-    t: &[u8],
-    v: &[u8],
-    firsts: &[u16],
-    places: &[u16],
-    theads: &mut [u16],
-    fuel: u32,
-    out: &mut [u8],
-    scratch: &mut [u16],
-) -> Answer
-    requires { EvaluateAsks g.now t.now v.now firsts.now places.now theads.old }
-    ensures { outcome result out.new scratch.new ≡ evaluate g.now t.now v.now fuel out.old scratch.old }
-{
-    if g.len() <= SMALL_STREAM {
-        let mut gheads = [0u16; SMALL_GRAMMAR_HEADS];
-        return evaluate_set(
-            g,
-            t,
-            v,
-            firsts,
-            places,
-            &mut gheads,
-            theads,
-            fuel,
-            out,
-            scratch,
-        );
-    }
-    let mut gheads = [0u16; GRAMMAR_HEADS];
-    evaluate_set(
-        g,
-        t,
-        v,
-        firsts,
-        places,
-        &mut gheads,
-        theads,
+    let ts = &theads[heads.types..heads.templates];
+    let from = mark_heads(laid.g, gheads, heads.classes, heads.productions);
+    let ps = &gheads[from..heads.productions + 1];
+    Ok(run(
+        laid.g,
+        laid.t,
+        laid.v,
+        ps,
+        ts,
+        laid.firsts,
+        laid.places,
         fuel,
         out,
         scratch,
-    )
+    ))
 }
 
-// The same with a table of the templates' heads of its own.
-fn evaluate_laid(
-    g: &[u8],
-    t: &[u8],
-    v: &[u8],
-    firsts: &[u16],
-    places: &[u16],
+// The same with a table of N numbers for the templates' heads too.
+fn evaluate_laid<const N: usize>(
+    laid: &Laid,
     fuel: u32,
     out: &mut [u8],
     scratch: &mut [u16],
-) -> Answer
-    requires { StreamsLaid g.now t.now v.now firsts.now places.now }
-    ensures { outcome result out.new scratch.new ≡ evaluate g.now t.now v.now fuel out.old scratch.old }
+) -> Result<Run, Refusal>
+    requires { Room laid.now.t.now N }
+    ensures { outcome (evaluate_answer result) out.new scratch.new ≡ evaluate laid.now.g.now laid.now.t.now laid.now.v.now fuel out.old scratch.old }
 {
-    if t.len() <= SMALL_STREAM {
-        let mut theads = [0u16; SMALL_RECORDS];
-        return evaluate_tabled(g, t, v, firsts, places, &mut theads, fuel, out, scratch);
+    let mut theads = [0u16; N];
+    if laid.g.len() <= SMALL_STREAM {
+        evaluate_tabled::<SMALL_GRAMMAR_HEADS>(laid, &mut theads, fuel, out, scratch)
+    } else {
+        evaluate_tabled::<GRAMMAR_HEADS>(laid, &mut theads, fuel, out, scratch)
     }
-    let mut theads = [0u16; RECORDS];
-    evaluate_tabled(g, t, v, firsts, places, &mut theads, fuel, out, scratch)
+}
+
+// 1 to 9 of three streams, and the walk, with a table of N children. (1 to 3 are judged by each N: called from two places, the scan of the value
+// stays a function of its own in the machine code, and keeps its registers to itself.)
+fn evaluate_streams<const N: usize>(
+    g: &[u8],
+    t: &[u8],
+    v: &[u8],
+    fuel: u32,
+    out: &mut [u8],
+    scratch: &mut [u16],
+) -> Result<Run, Refusal>
+    requires { ChildrenRoom v.now N }
+    ensures { outcome (evaluate_answer result) out.new scratch.new ≡ evaluate g.now t.now v.now fuel out.old scratch.old }
+{
+    let mut firsts = [0u16; N];
+    let mut places = [0u16; N];
+    judge_all(g, t, v, &mut firsts, &mut places)?;
+    let laid = Laid {
+        g,
+        t,
+        v,
+        firsts: &firsts,
+        places: &places,
+    };
+    if t.len() <= SMALL_STREAM {
+        evaluate_laid::<SMALL_RECORDS>(&laid, fuel, out, scratch)
+    } else {
+        evaluate_laid::<RECORDS>(&laid, fuel, out, scratch)
+    }
 }
 
 // The evaluate call: 1 to 9, and then the walk. Refused by 1 to 9 it leaves the output and the scratch as they were. A small value takes a small
-// table of children; one of no right length needs none, as 1 refuses it. (1 to 3 are judged in each branch: called from two places, the scan of
-// the value stays a function of its own in the machine code, and keeps its registers to itself.)
+// table of children; one of no right length needs none, as 1 refuses it.
 pub fn evaluate(
     g: &[u8],
     t: &[u8],
@@ -206,20 +210,13 @@ pub fn evaluate(
 ) -> Answer
     ensures { outcome result out.new scratch.new ≡ evaluate g.now t.now v.now fuel out.old scratch.old }
 {
-    if v.len() <= SMALL_STREAM {
-        let mut firsts = [0u16; SMALL_RECORDS];
-        let mut places = [0u16; SMALL_RECORDS];
-        let verdict = judge_all(g, t, v, &mut firsts, &mut places);
-        if let Verdict::Refused(number, kind, place) = verdict {
-            return refused(number, kind, place);
-        }
-        return evaluate_laid(g, t, v, &firsts, &places, fuel, out, scratch);
+    let evaluated = if v.len() <= SMALL_STREAM {
+        evaluate_streams::<SMALL_RECORDS>(g, t, v, fuel, out, scratch)
+    } else {
+        evaluate_streams::<RECORDS>(g, t, v, fuel, out, scratch)
+    };
+    match evaluated {
+        Ok(run) => ended(run),
+        Err(refusal) => Answer::from(refusal),
     }
-    let mut firsts = [0u16; RECORDS];
-    let mut places = [0u16; RECORDS];
-    let verdict = judge_all(g, t, v, &mut firsts, &mut places);
-    if let Verdict::Refused(number, kind, place) = verdict {
-        return refused(number, kind, place);
-    }
-    evaluate_laid(g, t, v, &firsts, &places, fuel, out, scratch)
 }

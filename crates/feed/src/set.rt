@@ -1,14 +1,13 @@
 // Refusals 4 to 8, and the tables of heads that they go by.
-ghost use Rattle.std.specs.Prelude.{◌≡◌, true, cond, ◌*◌, ◌≤◌};
+ghost use Rattle.std.specs.Prelude.{◌≡◌, IsTrue, ◌*◌, ◌≤◌, length, option_copied};
 ghost use Rattle.std.proofs.Math.Option.{none};
-ghost use Rattle.rules.specs.Blocks.{stream_length};
-ghost use Rattle.rules.specs.Limits.{value_limits};
+ghost use Rattle.rules.specs.Answers.{try, accept};
 ghost use Rattle.rules.specs.Names.{grammar_names, templates_names};
 ghost use Rattle.stream.specs.Fault.{fault_of};
-ghost use Rattle.feed.specs.Asks.{Tabled, Judgeable, SetAsks, SetJudged, JudgeAsks, HeadsAsk, HeadsJudged};
-ghost use Rattle.feed.specs.Verdict.{offence_of, verdict_of, first_of, judgement};
+ghost use Rattle.feed.specs.Asks.{Tabled, Sized, SetsRoom, SetJudged, HeadsAsk, HeadsJudged};
+ghost use Rattle.feed.specs.Verdict.{verdict_of, first_of, depth_of, judgement};
 
-use crate::verdict::{Offence, Verdict, first};
+use crate::verdict::{Kind, Refusal, Rule, against, first};
 use layout::heads::{grammar_heads, templates_heads};
 use lexeme::sets::{SMALL_TABLE, TABLE, class_sets};
 use limits::classes::grammar_classes;
@@ -21,10 +20,21 @@ use stream::Fault;
 use typing::templates::templates_typing;
 use typing::value::value_typing;
 
-// What refusals 4 to 8 say, and where the heads of each kind end in their table: productions stand behind classes, templates behind types.
+// A grammar and a template set, with the heads of each kind by their numbers.
 #[derive(Clone, Copy)]
-pub(crate) struct Judged {
-    pub verdict: Verdict,
+struct Set<'a> {
+    g: &'a [u8],
+    t: &'a [u8],
+    classes: &'a [u16],
+    productions: &'a [u16],
+    types: &'a [u16],
+    templates: &'a [u16],
+    ghost tabled: { Tabled g.now t.now classes.now productions.now types.now templates.now },
+}
+
+// Where the heads of each kind end in their table: productions stand behind classes, templates behind types.
+#[derive(Clone, Copy)]
+pub(crate) struct Heads {
     pub classes: usize,
     pub productions: usize,
     pub types: usize,
@@ -32,157 +42,113 @@ pub(crate) struct Judged {
 }
 
 // Refusal 5 of both streams. (The nonterminals are marked on this function's own stack, which is free again for the typing.)
-fn judge_names(
-    g: &[u8],
-    t: &[u8],
-    classes: &[u16],
-    productions: &[u16],
-    types: &[u16],
-    templates: &[u16],
-) -> Offence
-    requires { Tabled g.now t.now classes.now productions.now types.now templates.now }
-    ensures { offence_of result ≡ first_of (grammar_names g.now) (templates_names g.now t.now) none }
+fn judge_names(set: &Set) -> Result<(), Refusal>
+    ensures { verdict_of result ≡ try 5 (first_of (grammar_names set.now.g.now) (templates_names set.now.g.now set.now.t.now) none) accept }
 {
-    let marked = nonterminals(g, productions);
-    let of_g = grammar_names(g, classes, productions, &marked);
-    let of_t = templates_names(g, t, classes, productions, types, templates, &marked);
-    first(of_g, of_t, Fault::Nowhere)
+    let marked = nonterminals(set.g, set.productions);
+    let of_g = grammar_names(set.g, set.classes, set.productions, &marked);
+    let of_t = templates_names(
+        set.g,
+        set.t,
+        set.classes,
+        set.productions,
+        set.types,
+        set.templates,
+        &marked,
+    );
+    first(Rule::Names, of_g, of_t, Fault::Nowhere)
 }
 
 // `value` is what refusal 4 says of the value that comes with them. The class sets are compiled on the way, for the texts of the templates and
 // of the value.
-fn judge_set(
-    g: &[u8],
-    t: &[u8],
-    value: Fault,
-    classes: &[u16],
-    productions: &[u16],
-    types: &[u16],
-    templates: &[u16],
-    sets: &mut [u16],
-) -> Verdict
-    requires { SetAsks g.now t.now classes.now productions.now types.now templates.now sets.old }
-    ensures { SetJudged g.now t.now (fault_of value) classes.now sets.new result }
+fn judge_set(set: &Set, value: Fault, sets: &mut [u16]) -> Result<(), Refusal>
+    requires { 128 * length set.now.classes.now ≤ length sets.old }
+    ensures { SetJudged set.now.g.now set.now.t.now (fault_of value) set.now.classes.now sets.new result }
 {
-    if let Offence::In(kind, place) = first(Fault::Nowhere, templates_limits(t, templates), value) {
-        return Verdict::Refused(4, kind, place);
-    }
-    if let Offence::In(kind, place) = judge_names(g, t, classes, productions, types, templates) {
-        return Verdict::Refused(5, kind, place);
-    }
-    if let Fault::At(place) = grammar_classes(g, classes) {
-        return Verdict::Refused(6, 1, place);
-    }
-    class_sets(g, classes, sets);
-    if let Fault::At(place) = templates_typing(g, t, classes, sets, productions, types, templates) {
-        return Verdict::Refused(7, 2, place);
-    }
-    Verdict::Passed
+    let deep = templates_limits(set.t, set.templates);
+    first(Rule::Limits, Fault::Nowhere, deep, value)?;
+    judge_names(set)?;
+    let wrong = grammar_classes(set.g, set.classes);
+    against(Rule::Classes, Kind::Grammar, wrong)?;
+    class_sets(set.g, set.classes, sets);
+    let typed = templates_typing(
+        set.g,
+        set.t,
+        set.classes,
+        sets,
+        set.productions,
+        set.types,
+        set.templates,
+    );
+    against(Rule::TemplatesTyping, Kind::Templates, typed)
 }
 
 // Whether a small table has room for the sets of so many classes, and for hints to all ranges that the grammar could have.
 fn fits_small(g: &[u8], classes: usize) -> bool
     requires { classes ≤ 256 }
-    ensures { result ≡ true → 128 * classes ≤ 4096 }
+    ensures { IsTrue result → 128 * classes ≤ 4096 }
 {
     128 * classes + g.len() / 8 <= SMALL_TABLE
 }
 
 // What refusal 4 says of a value, if one comes.
-fn value_depth(v: &[u8], valued: bool) -> Fault
-    requires { stream_length v.now ≡ none }
-    ensures { fault_of result ≡ cond valued (value_limits v.now) none }
+fn value_depth(value: Option<&[u8]>) -> Fault
+    requires { Sized (option_copied value) }
+    ensures { fault_of result ≡ depth_of (option_copied value.entry) }
 {
-    if valued {
-        return value_limits(v);
+    match value {
+        Some(v) => value_limits(v),
+        None => Fault::Nowhere,
     }
-    Fault::Nowhere
 }
 
-// 4 to 8 over a table of class sets.
-fn judge_over(
-    g: &[u8],
-    t: &[u8],
-    v: &[u8],
-    valued: bool,
-    classes: &[u16],
-    productions: &[u16],
-    types: &[u16],
-    templates: &[u16],
-    sets: &mut [u16],
-) -> Verdict
-    requires { JudgeAsks g.now t.now v.now classes.now productions.now types.now templates.now sets.old }
-    ensures { verdict_of result ≡ judgement g.now t.now v.now valued }
+// 4 to 8, with a table of class sets of N numbers.
+fn judge_over<const N: usize>(set: &Set, value: Option<&[u8]>) -> Result<(), Refusal>
+    requires room { SetsRoom set.now.classes.now N }
+    requires value_sized { Sized (option_copied value) }
+    ensures { verdict_of result ≡ judgement set.now.g.now set.now.t.now (option_copied value.entry) }
 {
-    let deep = value_depth(v, valued);
-    let of_set = judge_set(g, t, deep, classes, productions, types, templates, sets);
-    if let Verdict::Refused(number, kind, place) = of_set {
-        return Verdict::Refused(number, kind, place);
-    }
-    if !valued {
-        return Verdict::Passed;
-    }
-    if let Fault::At(place) = value_typing(g, t, v, classes, sets, types, templates) {
-        return Verdict::Refused(8, 3, place);
-    }
-    Verdict::Passed
-}
-
-// The same with a table of class sets of its own. Small grammars, which are most, take a small one, which is sooner cleared.
-fn judge_tabled(
-    g: &[u8],
-    t: &[u8],
-    v: &[u8],
-    valued: bool,
-    classes: &[u16],
-    productions: &[u16],
-    types: &[u16],
-    templates: &[u16],
-) -> Verdict
-    requires { Judgeable g.now t.now v.now classes.now productions.now types.now templates.now }
-    ensures { verdict_of result ≡ judgement g.now t.now v.now valued }
-{
-    if fits_small(g, classes.len()) {
-        let mut sets = [0u16; SMALL_TABLE];
-        return judge_over(
-            g,
-            t,
-            v,
-            valued,
-            classes,
-            productions,
-            types,
-            templates,
-            &mut sets,
-        );
-    }
-    let mut sets = [0u16; TABLE];
-    judge_over(
-        g,
-        t,
+    let mut sets = [0u16; N];
+    judge_set(set, value_depth(value), &mut sets)?;
+    let Some(v) = value else {
+        return Ok(());
+    };
+    let typed = value_typing(
+        set.g,
+        set.t,
         v,
-        valued,
-        classes,
-        productions,
-        types,
-        templates,
-        &mut sets,
-    )
+        set.classes,
+        &sets,
+        set.types,
+        set.templates,
+    );
+    against(Rule::ValueTyping, Kind::Value, typed)
+}
+
+// The same. Small grammars, which are most, take a small table, which is sooner cleared.
+fn judge_tabled(set: &Set, value: Option<&[u8]>) -> Result<(), Refusal>
+    requires { Sized (option_copied value) }
+    ensures { verdict_of result ≡ judgement set.now.g.now set.now.t.now (option_copied value.entry) }
+{
+    if fits_small(set.g, set.classes.len()) {
+        judge_over::<SMALL_TABLE>(set, value)
+    } else {
+        judge_over::<TABLE>(set, value)
+    }
 }
 
 // 4 to 7 of a grammar and a template set that 1 to 3 let through, and 4 and 8 of a value if one comes with them. The heads go into tables that are
 // lent. The class sets lie on this function's stack, and are gone when the walk starts: check and evaluate both judge by it, and it is too large
 // for the compiler to put it into either.
-pub(crate) fn judge(
-    g: &[u8],
-    t: &[u8],
-    v: &[u8],
-    valued: bool,
+pub(crate) fn judge<'a>(
+    g: &'a [u8],
+    t: &'a [u8],
+    value: Option<&[u8]>,
     gheads: &mut [u16],
     theads: &mut [u16],
-) -> Judged
-    requires { HeadsAsk g.now t.now v.now gheads.old theads.old }
-    ensures { HeadsJudged g.now t.now v.now valued gheads.new theads.new result }
+) -> Result<Heads, Refusal>
+    requires { HeadsAsk g.now t.now (option_copied value) gheads.old theads.old }
+    ensures { HeadsJudged g.now t.now (option_copied value.entry) gheads.new theads.new result }
 {
     let in_g = grammar_heads(g, gheads);
     let in_t = templates_heads(t, theads);
@@ -190,15 +156,21 @@ pub(crate) fn judge(
     let productions = classes + in_g.second;
     let types = in_t.first;
     let templates = types + in_t.second;
-    let cs = &gheads[0..classes];
-    let ps = &gheads[classes..productions];
-    let us = &theads[0..types];
-    let ts = &theads[types..templates];
-    Judged {
-        verdict: judge_tabled(g, t, v, valued, cs, ps, us, ts),
-        classes: classes,
-        productions: productions,
-        types: types,
-        templates: templates,
-    }
+    let of_g = &gheads[..];
+    let of_t = &theads[..];
+    let set = Set {
+        g,
+        t,
+        classes: &of_g[..classes],
+        productions: &of_g[classes..productions],
+        types: &of_t[..types],
+        templates: &of_t[types..templates],
+    };
+    judge_tabled(&set, value)?;
+    Ok(Heads {
+        classes,
+        productions,
+        types,
+        templates,
+    })
 }

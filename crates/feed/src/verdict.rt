@@ -1,26 +1,74 @@
 // What the checks say, and the answers that are made of it.
 ghost use Rattle.std.specs.Prelude.{◌≡◌};
 ghost use Rattle.rules.specs.Faults.{need};
-ghost use Rattle.rules.specs.Answers.{answer};
+ghost use Rattle.rules.specs.Answers.{answer, placed, try, accept};
 ghost use Rattle.stream.specs.Fault.{fault_of};
-ghost use Rattle.feed.specs.Verdict.{offence_of, first_of, run_answer};
+ghost use Rattle.feed.specs.Verdict.{rule_number, kind_number, refusal_answer, verdict_of, first_of, run_answer};
 
 use rules::Answer;
 use stream::Fault;
 use walk::state::Run;
 
-// The first offence against one rule: the kind of its stream and the place there.
-#[derive(Clone, Copy)]
-pub enum Offence {
-    In(u8, usize),
-    Nowhere,
+// The rules that are tried before the walk, in the order of their numbers.
+#[derive(Clone, Copy, Debug, PartialEq, Eq)]
+pub enum Rule {
+    Length = 1,
+    Blocks,
+    Layout,
+    Limits,
+    Names,
+    Classes,
+    TemplatesTyping,
+    ValueTyping,
+    Scratch,
 }
 
-// What several rules say, one after the other: refused by a rule's number, for a place in a stream of a kind; or passed.
-#[derive(Clone, Copy)]
-pub enum Verdict {
-    Refused(u8, u8, usize),
-    Passed,
+// The kinds of streams, in the order of their numbers from 0; what offends against rule 9 stands in no stream.
+#[derive(Clone, Copy, Debug, PartialEq, Eq)]
+pub enum Kind {
+    NoStream,
+    Grammar,
+    Templates,
+    Value,
+}
+
+impl From<Rule> for u64 {
+    ghost from_gives = { λ r n. n ≡ rule_number r };
+
+    fn from(rule: Rule) -> u64 {
+        rule as u64
+    }
+}
+
+impl From<Kind> for u64 {
+    ghost from_gives = { λ k n. n ≡ kind_number k };
+
+    fn from(kind: Kind) -> u64 {
+        kind as u64
+    }
+}
+
+// The first offence: the rule, the kind of the stream, and the place there.
+#[derive(Clone, Copy, Debug, PartialEq, Eq)]
+pub struct Refusal {
+    pub rule: Rule,
+    pub kind: Kind,
+    pub place: usize,
+}
+
+// A refusal by 1 to 9: steps and bytes are 0.
+impl From<Refusal> for Answer {
+    ghost from_gives = { λ r a. a ≡ refusal_answer r };
+
+    fn from(refusal: Refusal) -> Answer {
+        Answer {
+            number: u64::from(refusal.rule),
+            kind: u64::from(refusal.kind),
+            place: refusal.place as u64,
+            steps: 0,
+            bytes: 0,
+        }
+    }
 }
 
 // A test that fails at place 0.
@@ -30,33 +78,23 @@ pub(crate) fn at_first(right: bool) -> Fault
     if right { Fault::Nowhere } else { Fault::At(0) }
 }
 
-// The first of the grammar's fault, the templates' and the value's.
-pub(crate) fn first(g: Fault, t: Fault, v: Fault) -> Offence
-    ensures { offence_of result ≡ first_of (fault_of g) (fault_of t) (fault_of v) }
+// A rule's fault in a stream of a kind.
+pub(crate) fn against(rule: Rule, kind: Kind, fault: Fault) -> Result<(), Refusal>
+    ensures { verdict_of result ≡ try (rule_number rule) (placed (kind_number kind) (fault_of fault)) accept }
 {
-    if let Fault::At(place) = g {
-        return Offence::In(1, place);
+    match fault {
+        Fault::At(place) => Err(Refusal { rule, kind, place }),
+        Fault::Nowhere => Ok(()),
     }
-    if let Fault::At(place) = t {
-        return Offence::In(2, place);
-    }
-    if let Fault::At(place) = v {
-        return Offence::In(3, place);
-    }
-    Offence::Nowhere
 }
 
-// A refusal by 1 to 9: steps and bytes are 0.
-pub(crate) fn refused(number: u8, kind: u8, place: usize) -> Answer
-    ensures { result ≡ answer number kind place 0 0 }
+// A rule's first fault: in the grammar, in the templates, in the value.
+pub(crate) fn first(rule: Rule, g: Fault, t: Fault, v: Fault) -> Result<(), Refusal>
+    ensures { verdict_of result ≡ try (rule_number rule) (first_of (fault_of g) (fault_of t) (fault_of v)) accept }
 {
-    Answer {
-        number: number as u64,
-        kind: kind as u64,
-        place: place as u64,
-        steps: 0,
-        bytes: 0,
-    }
+    against(rule, Kind::Grammar, g)?;
+    against(rule, Kind::Templates, t)?;
+    against(rule, Kind::Value, v)
 }
 
 // Five zeros.
@@ -76,20 +114,16 @@ pub(crate) fn accepted() -> Answer
 pub(crate) fn ended(r: Run) -> Answer
     ensures { result ≡ run_answer r }
 {
-    if r.number == 0 {
-        return Answer {
-            number: 0,
-            kind: 0,
-            place: 0,
-            steps: r.steps as u64,
-            bytes: r.bytes as u64,
-        };
-    }
+    let (kind, place) = if r.number == 0 {
+        (Kind::NoStream, 0)
+    } else {
+        (Kind::Templates, r.place)
+    };
     Answer {
-        number: r.number as u64,
-        kind: 2,
-        place: r.place as u64,
-        steps: r.steps as u64,
+        number: u64::from(r.number),
+        kind: u64::from(kind),
+        place: place as u64,
+        steps: u64::from(r.steps),
         bytes: r.bytes as u64,
     }
 }

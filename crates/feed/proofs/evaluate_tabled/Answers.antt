@@ -1,12 +1,22 @@
-use Rattle.feed.proofs.OrderLaws.{three_laid}
-use Rattle.feed.proofs.SetLaws.{small_heads, large_heads}
 use borrow.Author.Rules.{rules}
+use Rattle.feed.proofs.OrderLaws.{three_laid, judged_set, evaluate_handed, evaluate_refused, evaluate_scratch, none_refuses}
+use Rattle.feed.proofs.SetLaws.{evaluate_judges, walk_asks}
+use Rattle.feed.proofs.EndLaws.{evaluate_walks}
 use Rattle.feed.proofs.evaluate_tabled.Goals as goal
 
-pub evaluate_set-requires : goal.evaluate_set-requires
-evaluate_set-requires c =
-    record { evaluate_asks = c.requires; grammar_room = small_heads _ _ c.if-g-le-SMALL_STREAM.true (search rules) }
+pub judge-requires : goal.judge-requires
+judge-requires g c = evaluate_judges _ _ _ _ _ _ _ c.args.laid.now.laid (search rules) c.requires.templates_room
 
-pub evaluate_set-requires-2 : goal.evaluate_set-requires-2
-evaluate_set-requires-2 c =
-    record { evaluate_asks = c.requires; grammar_room = large_heads _ _ (three_laid _ _ _ c.requires.laid.passed).0.length_right (search rules) }
+pub returns-in_err-heads : goal.returns-in_err-heads
+returns-in_err-heads g c = evaluate_handed _ _ _ _ c.from_residual.ensures.1 (evaluate_refused _ _ _ _ _ _ c.args.laid.now.laid.passed c.in_err-heads.ensures.is)
+
+pub returns-then-scratch-lt-SCRATCH : goal.returns-then-scratch-lt-SCRATCH
+returns-then-scratch-lt-SCRATCH g c = evaluate_scratch _ _ _ _ _ _ c.args.laid.now.laid.passed c.in_ok-heads.ensures.is c.if-scratch-lt-SCRATCH.true
+
+pub run-requires : goal.run-requires
+run-requires g c =
+    let h = judged_set _ _ _ c.in_ok-heads.ensures.is in
+    walk_asks _ _ _ _ _ _ _ _ _ _ _ c.in_ok-heads.ensures.filled.tabled c.mark_heads-from.ensures.table h.0 h.1 (three_laid _ _ _ c.args.laid.now.laid.passed).2 c.args.laid.now.laid.children c.if-scratch-lt-SCRATCH.false
+
+pub returns : goal.returns
+returns g c = evaluate_walks _ _ _ _ _ _ _ _ _ (none_refuses _ _ _ _ c.args.laid.now.laid.passed c.in_ok-heads.ensures.is c.if-scratch-lt-SCRATCH.false) (search rules) c.run.ensures

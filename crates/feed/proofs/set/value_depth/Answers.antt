@@ -1,5 +1,4 @@
-use mathlib.Core.Path.{sym, ◌∙◌}
 use Rattle.feed.proofs.set.value_depth.Goals as goal
 
-pub returns-then-valued : goal.returns-then-valued
-returns-then-valued c = c.value_limits.ensures ∙ sym (rw c.if-valued.true)
+pub returns-in-Some : goal.returns-in-Some
+returns-in-Some c = rw c.in-Some.is c.value_limits.ensures
