@@ -4,7 +4,9 @@ use mathlib.Core.Path.{◌≡◌, refl, sym, ◌∙◌, ap}
 use mathlib.Core.Bool.{Bool, true, false, cond, ◌&&◌, ◌||◌, false≢true}
 use mathlib.Core.Logic.{◌⊎◌, inl, inr, ⊎_elim}
 use mathlib.Core.List.{List}
-use mathlib.Core.Option.{Option, none, some}
+use mathlib.Core.Option.{Option, none, some, none-ne-some}
+use Rattle.std.specs.Prelude.{None, Some, MatchOption}
+use Rattle.std.specs.Prelude as code
 use native.Mathlib.Omega.{arith}
 use native.Mathlib.Numerals.{add-one}
 use native.Mathlib.Nat.{sub-zero}
@@ -19,7 +21,8 @@ use Rattle.stream.specs.Record.{Fetched}
 use Rattle.stream.specs.declared.record.Record.{Record}
 use Rattle.records.specs.Productions.{ProductionNumber}
 use Rattle.layout.specs.Common.{most_records}
-use Rattle.layout.specs.Grammar.{class_head, element_head}
+use Rattle.layout.specs.Grammar.{end_of, class_head, element_head, Ends}
+use Rattle.layout.specs.Sorts.{Tells}
 use Rattle.laws.specs.Faults.{and_iff}
 use Rattle.laws.specs.Rows.{one_less}
 use Rattle.laws.specs.Sorts.{class_kinds}
@@ -191,6 +194,22 @@ module _ {g : List ℕ} {p : ℕ} {r : Record} (f : Fetched g p r) where
   unfolding element_head
   element_near w h = near w 3 (eqb-true _ _ ((and_iff _ _).0 h).0)
 
+-- what a test of heads tells
+pub tells_kind : (r : Record) (kind : ℕ) → Tells (λ s. of_kind s (suc kind)) r (eqb r.kind (suc kind))
+tells_kind r kind = record {
+  told = λ s p f. ap (λ k. eqb k (suc kind)) f.kind;
+  inside = λ s p w f e. inside s w p kind (kind_here f (suc kind) (eqb-true r.kind (suc kind) e));
+}
+
+pub tells_class : (r : Record) (b : Bool) → b ≡ (eqb r.kind 1 || eqb r.kind 5) → Tells is_class r b
+tells_class r b e = record { told = λ s p f. class_is s p r f b e; inside = λ s p w f i. (class_stands f b e w i).inside }
+
+pub stands : {s : List ℕ} {is : List ℕ → ℕ → Bool} {p : ℕ} {r : Record} {b : Bool} → Tells is r b → stream_length s ≡ none → Fetched s p r → b ≡ true → Stands s (is s) p
+stands t w f e = record { is_one = sym (t.told _ _ f) ∙ e; inside = t.inside _ _ w f e }
+
+pub none_ends : {p : ℕ} {o : Option ℕ} → o ≡ none → Ends p None o
+none_ends e = record { is = sym e; further = λ q z. absurd (none-ne-some q (sym e ∙ z)) }
+
 -- an element takes a record at least
 element_grows : (g : List ℕ) (p q : ℕ) → element_end g p ≡ some q → p < q
 unfolding element_end text_end
@@ -213,15 +232,16 @@ ranges_grow g n p q e = let l = in_row_grows (range_end g) (range_grows g) n (p 
 
 -- The whole: classes, productions and the tail
 module _ (g : List ℕ) where
-  pub no_middle : while_is (is_class g) (class_end g) (record_count g) 0 0 ≡ none → need false 0 ≡ grammar_layout g
-  unfolding grammar_layout layout_fault grammar_end then_read on_found
+  pub no_middle : while_is (is_class g) (class_end g) (record_count g) 0 0 ≡ none → none ≡ grammar_end g
+  unfolding grammar_end then_read on_found
   no_middle a = rw a
 
-  pub no_end : {m : ℕ} → while_is (is_class g) (class_end g) (record_count g) 0 0 ≡ some m → while_is (of_kind g 3) (production_end g) (record_count g) 0 m ≡ none → need false 0 ≡ grammar_layout g
-  unfolding grammar_layout layout_fault grammar_end then_read on_found
-  no_end a b = rw (a, b)
+  pub middle_then : {m : ℕ} {o : Option ℕ} → while_is (is_class g) (class_end g) (record_count g) 0 0 ≡ some m
+      → o ≡ while_is (of_kind g 3) (production_end g) (record_count g) 0 m → o ≡ grammar_end g
+  unfolding grammar_end then_read on_found
+  middle_then a e = rw a e
 
-  pub all_ends : {m e : ℕ} {r : Bool} → while_is (is_class g) (class_end g) (record_count g) 0 0 ≡ some m → while_is (of_kind g 3) (production_end g) (record_count g) 0 m ≡ some e
-      → r ≡ tail_right g e → need r 0 ≡ grammar_layout g
-  unfolding grammar_layout layout_fault grammar_end then_read on_found
-  all_ends a b t = rw (a, b, t)
+  pub grammar_right : (o : code.Option ℕ) (r : Bool) → end_of o ≡ grammar_end g → MatchOption o (r ≡ false) (λ e. r ≡ tail_right g e) → need r 0 ≡ grammar_layout g
+  unfolding grammar_layout layout_fault on_found
+  grammar_right (Some e) r i h = rw (← i, h)
+  grammar_right None r i h = rw (← i, h)

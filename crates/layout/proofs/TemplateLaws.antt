@@ -3,6 +3,9 @@ use Prim.Native.Nat.{ℕ, ◌+◌, ◌≤◌, ◌<◌}
 use mathlib.Core.Path.{◌≡◌, refl, ap, sym, ◌∙◌}
 use mathlib.Core.List.{List}
 use mathlib.Core.Bool.{Bool, true, false}
+use Rattle.std.specs.Prelude.{Some, None, MatchOption}
+use Rattle.std.specs.Prelude as code
+use Rattle.layout.specs.Grammar.{end_of}
 use mathlib.Core.Option.{Option, none, some}
 use native.Mathlib.Omega.{arith}
 use borrow.Author.Tests.{eqb-true, eqb-false, eq-eqb, ne_eqb, le-leb, lt-leb, leb-false}
@@ -150,10 +153,7 @@ module _ {t : List ℕ} (w : stream_length t ≡ none) (p : ℕ) {q : ℕ} {r : 
 
 -- The whole
 
-pub no_types : (t : List ℕ) → types_end t ≡ none → need false 0 ≡ templates_layout t
-unfolding types_end templates_layout layout_fault templates_end then_read on_found
-no_types t e = rw e
-
-pub types_then : (t : List ℕ) (p : ℕ) → types_end t ≡ some p → (z : Bool) → z ≡ rest_right t p → need z 0 ≡ templates_layout t
+pub types_then : (t : List ℕ) (o : code.Option ℕ) (r : Bool) → end_of o ≡ types_end t → MatchOption o (r ≡ false) (λ p. r ≡ rest_right t p) → need r 0 ≡ templates_layout t
 unfolding types_end rest_right templates_layout layout_fault templates_end then_read on_found
-types_then t p e z h = rw (e, h)
+types_then t (Some p) r e h = rw (← e, h)
+types_then t None r e h = rw (← e, h)

@@ -1,12 +1,11 @@
 -- Templates: rows of records of one kind, the types, and the templates after them.
-use Rattle.std.specs.Prelude.{ℕ, ◌+◌, ◌%◌, ◌<◌, ◌≡◌, List, Bool, false, cond, ◌&&◌, drop, eqb, leb}
-use Rattle.std.proofs.Math.Option.{Option, none}
-use Rattle.rules.specs.Blocks.{stream_length}
+use Rattle.std.specs.Prelude.{ℕ, ◌+◌, ◌%◌, List, Bool, false, cond, ◌&&◌, drop, eqb, leb}
+use Rattle.std.proofs.Math.Option.{Option}
 use Rattle.rules.specs.Faults.{on_found}
 use Rattle.rules.specs.Records.{record_count, zeros, of_kind}
 use Rattle.rules.specs.Layout.{while_is, naming_end, path_end, type_end, template_end, tail_right}
 use Rattle.stream.specs.declared.record.Record.{Record}
-use Rattle.stream.specs.Record.{bytes_of, Fetched}
+use Rattle.stream.specs.Record.{bytes_of}
 
 -- the tests of a record that was fetched: it names a type and nothing else; it is a path of at most 5 steps, with no field numbers past them
 unfoldable pub naming : Record → ℕ → Bool
@@ -30,9 +29,3 @@ rest_right t p = on_found (while_is (of_kind t 3) (λ n. template_end t) (record
 -- a thing ends within the stream
 unfoldable pub within : List ℕ → Option ℕ → Bool
 within t o = on_found o false (λ e. leb e (record_count t))
-
--- r is record p of a whole stream
-pub record TemplateHead (t : List ℕ) (p : ℕ) (r : Record) : Type 0 where
-  pub sized : stream_length t ≡ none
-  pub fetched : Fetched t p r
-  pub inside : p < record_count t

@@ -1,15 +1,16 @@
 // Refusal 3 of a grammar: classes with their ranges, productions with their elements, then zero records.
-ghost use Rattle.std.specs.Prelude.{◌≡◌, ◌+◌, ◌<◌, ◌^◌};
-ghost use Rattle.std.proofs.Math.Option.{none};
+ghost use Rattle.std.specs.Prelude.{◌≡◌, ℕ, ◌+◌, ◌<◌, ◌^◌, List};
+ghost use Rattle.std.proofs.Math.Option.{Option, none};
 ghost use Rattle.rules.specs.Faults.{need};
 ghost use Rattle.rules.specs.Blocks.{stream_length};
-ghost use Rattle.rules.specs.Records.{record_count, of_kind};
-ghost use Rattle.rules.specs.Grammar.{is_class};
-ghost use Rattle.rules.specs.Layout.{in_row, while_is, range_end, class_end, element_end, production_end, grammar_layout};
-ghost use Rattle.layout.specs.Grammar.{end_of, class_head, element_head};
+ghost use Rattle.rules.specs.Records.{record_count};
+ghost use Rattle.rules.specs.Layout.{in_row, while_is, range_end, class_end, element_end, production_end, grammar_end, grammar_layout};
+ghost use Rattle.layout.specs.Grammar.{end_of, class_head, element_head, Ends};
+ghost use Rattle.layout.specs.Sorts.{HeadInside};
 
 use crate::common::{padded, tail_right};
-use records::class::{is_class, is_escaped};
+use crate::sorts::{Classes, Productions, Sort};
+use records::class::is_escaped;
 use records::element::{text_length, units};
 use records::production::number_of;
 use stream::record::{Record, fetch};
@@ -34,26 +35,6 @@ fn is_laid(class: Record) -> bool
     ensures { result ≡ class_head class }
 {
     !is_escaped(class) || class.c == 0 && class.d == 0
-}
-
-// The classes, plain and escaped, numbered from 0: where they end.
-fn class_row(g: &[u8]) -> Option<usize>
-    requires { stream_length g.now ≡ none }
-    ensures { end_of result ≡ while_is (is_class g.now) (class_end g.now) (record_count g.now) 0 0 }
-{
-    let mut p = 0;
-    let mut n = 0;
-    loop {
-        let class = fetch(g, p);
-        if !is_class(class) {
-            return Some(p);
-        }
-        if class.a as usize != n || !is_laid(class) {
-            return None;
-        }
-        p = ranges_end(g, p + 1, class.d as usize)?;
-        n += 1;
-    }
 }
 
 // What an element's head says of itself: its kind, one of five forms, c unused by the first four, and d unused.
@@ -92,24 +73,62 @@ fn elements_end(g: &[u8], p: usize, n: usize) -> Option<usize>
     Some(q)
 }
 
-// The productions from record start on, numbered from 0: where they end.
-fn production_row(g: &[u8], start: usize) -> Option<usize>
+// A sort of things that are numbered from 0 in their row: where each ends, if it is laid out.
+trait Numbered: Sort {
+    ghost end: { List ℕ → ℕ → ℕ → Option ℕ };
+
+    // The place after the thing at record p, whose head is r, where its number is n.
+    fn end(g: &[u8], n: usize, p: usize, r: Record) -> Option<usize>
+        requires { HeadInside g.now p r }
+        ensures { Ends p result (end g.now n p) };
+}
+
+impl Numbered for Classes {
+    ghost end = { class_end };
+
+    fn end(g: &[u8], n: usize, p: usize, r: Record) -> Option<usize> {
+        if r.a as usize != n || !is_laid(r) {
+            return None;
+        }
+        ranges_end(g, p + 1, r.d as usize)
+    }
+}
+
+impl Numbered for Productions {
+    ghost end = { production_end };
+
+    fn end(g: &[u8], n: usize, p: usize, r: Record) -> Option<usize> {
+        if number_of(r) != n {
+            return None;
+        }
+        elements_end(g, p + 1, r.d as usize)
+    }
+}
+
+// The things of a sort from record start on: where they end.
+fn row_end<S: Numbered>(g: &[u8], start: usize) -> Option<usize>
     requires { stream_length g.now ≡ none }
-    ensures { end_of result ≡ while_is (of_kind g.now 3) (production_end g.now) (record_count g.now) 0 start }
+    ensures { end_of result ≡ while_is (S.is g.now) (S.end g.now) (record_count g.now) 0 start }
 {
     let mut p = start;
     let mut n = 0;
     loop {
-        let production = fetch(g, p);
-        if production.kind != 3 {
+        let head = fetch(g, p);
+        if !S::is_head(head) {
             return Some(p);
         }
-        if number_of(production) != n {
-            return None;
-        }
-        p = elements_end(g, p + 1, production.d as usize)?;
+        p = S::end(g, n, p, head)?;
         n += 1;
     }
+}
+
+// Where the classes end, and after them the productions.
+fn grammar_end(g: &[u8]) -> Option<usize>
+    requires { stream_length g.now ≡ none }
+    ensures { end_of result ≡ grammar_end g.now }
+{
+    let middle = row_end::<Classes>(g, 0)?;
+    row_end::<Productions>(g, middle)
 }
 
 // The records of a grammar are laid out: refusal 3 where they are not. Each record is fetched once, and a text only skipped.
@@ -117,11 +136,5 @@ pub fn grammar_layout(g: &[u8]) -> bool
     requires { stream_length g.now ≡ none }
     ensures { need result 0 ≡ grammar_layout g.now }
 {
-    let Some(middle) = class_row(g) else {
-        return false;
-    };
-    let Some(end) = production_row(g, middle) else {
-        return false;
-    };
-    tail_right(g, end)
+    grammar_end(g).is_some_and(|end| tail_right(g, end))
 }

@@ -1,13 +1,12 @@
 // The table of heads of a grammar, classes and then productions, and of a template set, types and then templates: each by number. They are
 // filled once per run, so that no lookup by number scans.
-ghost use Rattle.std.specs.Prelude.{◌≡◌, ℕ, ◌+◌, ◌≤◌, Bool, List, length};
-ghost use Rattle.rules.specs.Records.{record_count, field_c, of_kind};
-ghost use Rattle.rules.specs.Grammar.{is_class, production_size, classes, productions};
+ghost use Rattle.std.specs.Prelude.{◌≡◌, ℕ, ◌+◌, ◌≤◌, List, length};
+ghost use Rattle.rules.specs.Records.{record_count, field_c};
+ghost use Rattle.rules.specs.Grammar.{production_size, classes, productions};
 ghost use Rattle.rules.specs.Templates.{types, templates};
-ghost use Rattle.stream.specs.Record.{Fetched};
 ghost use Rattle.layout.specs.Heads.{LaidGrammar, LaidTemplates, most_classes, Tables, with_records, ThingAt, RowAhead, RowFilled, TwoRows, RoomForRows};
 
-use records::class::is_class;
+use crate::sorts::{Classes, Productions, Sort, Templates, Types};
 use records::element::size_of;
 use stream::record::{Record, fetch, fetch_at, forward, place_of};
 
@@ -25,14 +24,9 @@ pub struct Counts {
     pub second: usize,
 }
 
-// A sort of things that stand in a row: which records are their heads, and how many records each takes.
-trait Sort {
-    ghost is: { List ℕ → ℕ → Bool };
-
+// A sort of things that are looked up by number: how many records each takes.
+trait Spanning: Sort {
     ghost size: { List ℕ → ℕ → ℕ };
-
-    fn is_head(r: Record) -> bool
-        ensures { (s : List ℕ) → (p : ℕ) → Fetched s p r → result ≡ is s p };
 
     // The record after the thing at record p, whose head is r.
     fn next(s: &[u8], p: usize, r: Record) -> usize
@@ -40,36 +34,19 @@ trait Sort {
         ensures { result ≡ p + size s.now p };
 }
 
-// The classes of a grammar, plain and escaped: each head has d records after it.
-struct Classes;
-
-impl Sort for Classes {
-    ghost is = { is_class };
-
+// Each head has d records after it.
+impl Spanning for Classes {
     ghost size = { with_records };
-
-    fn is_head(r: Record) -> bool {
-        is_class(r)
-    }
 
     fn next(_g: &[u8], p: usize, r: Record) -> usize {
         p + 1 + r.d as usize
     }
 }
 
-// The productions of a grammar: each head has d elements after it.
-struct Productions;
-
-impl Sort for Productions {
-    ghost is = { λ g. of_kind g 3 };
-
+// Each head has d elements after it. The place of an element is carried: where the next one lies hangs on this one's size alone.
+impl Spanning for Productions {
     ghost size = { production_size };
 
-    fn is_head(r: Record) -> bool {
-        r.kind == 3
-    }
-
-    // The place of an element is carried: where the next one lies hangs on this one's size alone.
     fn next(g: &[u8], p: usize, r: Record) -> usize {
         let mut q = p + 1;
         let mut at = place_of(q);
@@ -82,34 +59,18 @@ impl Sort for Productions {
     }
 }
 
-// The types of a template set: each head has d records after it.
-struct Types;
-
-impl Sort for Types {
-    ghost is = { λ t. of_kind t 1 };
-
+// Each head has d records after it.
+impl Spanning for Types {
     ghost size = { with_records };
-
-    fn is_head(r: Record) -> bool {
-        r.kind == 1
-    }
 
     fn next(_t: &[u8], p: usize, r: Record) -> usize {
         p + 1 + r.d as usize
     }
 }
 
-// The templates of a template set: a head's c is the size of all.
-struct Templates;
-
-impl Sort for Templates {
-    ghost is = { λ t. of_kind t 3 };
-
+// A head's c is the size of all.
+impl Spanning for Templates {
     ghost size = { field_c };
-
-    fn is_head(r: Record) -> bool {
-        r.kind == 3
-    }
 
     fn next(_t: &[u8], p: usize, r: Record) -> usize {
         p + r.c as usize
@@ -117,7 +78,7 @@ impl Sort for Templates {
 }
 
 // The things of a sort from record start on: their heads go into the table.
-fn row<S: Sort>(s: &[u8], start: usize, table: &mut [u16]) -> RowEnd
+fn row<S: Spanning>(s: &[u8], start: usize, table: &mut [u16]) -> RowEnd
     requires { RowAhead s.now (S.is s.now) (S.size s.now) start (length table.old) }
     ensures { RowFilled (S.is s.now) (S.size s.now) start table.old table.new result }
 {
@@ -135,7 +96,7 @@ fn row<S: Sort>(s: &[u8], start: usize, table: &mut [u16]) -> RowEnd
 }
 
 // The heads of the things of a sort, from the first record on, and behind them those of another.
-fn two_rows<A: Sort, B: Sort>(s: &[u8], heads: &mut [u16]) -> Counts
+fn two_rows<A: Spanning, B: Spanning>(s: &[u8], heads: &mut [u16]) -> Counts
     requires { RoomForRows s.now (A.is s.now) (B.is s.now) (A.size s.now) (B.size s.now) (length heads.old) }
     ensures { (most room : ℕ) → (xs ys : List ℕ) → TwoRows s.now (A.is s.now) (B.is s.now) (A.size s.now) (B.size s.now) most room xs ys → room ≤ length heads.old → Tables most room xs ys heads.old heads.new result }
 {

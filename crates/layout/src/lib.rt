@@ -5,6 +5,7 @@ mod children;
 mod common;
 pub mod grammar;
 pub mod heads;
+mod sorts;
 pub mod template;
 mod tree;
 pub mod value;

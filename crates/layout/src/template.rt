@@ -8,7 +8,8 @@ ghost use Rattle.rules.specs.Layout.{in_row, path_end, fields_end, type_end, tem
 ghost use Rattle.stream.specs.Record.{Fetched, place_of};
 ghost use Rattle.layout.specs.Grammar.{end_of};
 ghost use Rattle.layout.specs.Tree.{Node, path_head, bare_path_head, head_end, below, fills, Headed, CountsOn, UpTo, HeadIn};
-ghost use Rattle.layout.specs.Template.{naming, path_record, record_end, types_end, rest_right, within, TemplateHead};
+ghost use Rattle.layout.specs.Template.{naming, path_record, record_end, types_end, rest_right, within};
+ghost use Rattle.layout.specs.Sorts.{HeadInside};
 
 use crate::common::{record_count, tail_right, zero_from};
 use crate::tree::{Head, chained, text_head};
@@ -201,7 +202,7 @@ fn types_end(t: &[u8]) -> Option<usize>
 
 // The template at record p, whose head is r: it ends by its size, within the stream.
 fn template_right(t: &[u8], p: usize, r: Record) -> bool
-    requires { TemplateHead t.now p r }
+    requires { HeadInside t.now p r }
     ensures { result ≡ within t.now (template_end t.now p) }
 {
     let e = p + r.c as usize;
@@ -234,8 +235,5 @@ pub fn templates_layout(t: &[u8]) -> bool
     requires { stream_length t.now ≡ none }
     ensures { need result 0 ≡ templates_layout t.now }
 {
-    let Some(p) = types_end(t) else {
-        return false;
-    };
-    templates_from(t, p)
+    types_end(t).is_some_and(|p| templates_from(t, p))
 }

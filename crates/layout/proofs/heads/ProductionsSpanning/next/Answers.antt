@@ -2,7 +2,7 @@ use Rattle.std.proofs.Common.{arith, refl, sym, ◌∙◌}
 use Rattle.std.proofs.Math.Nat.{sub-zero}
 use Rattle.stream.proofs.RecordLaws.{reach}
 use Rattle.layout.proofs.HeadsFillLaws.{after_go, after_done, after_room, elements_from}
-use Rattle.layout.proofs.heads.ProductionsSort.next.Goals as goal
+use Rattle.layout.proofs.heads.ProductionsSpanning.next.Goals as goal
 
 pub loop-init : goal.loop-init
 loop-init c = (rw sub-zero, c.place_of-at.ensures, refl)

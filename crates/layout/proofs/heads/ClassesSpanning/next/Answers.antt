@@ -1,6 +1,6 @@
 use Rattle.std.proofs.Common.{arith}
 use Rattle.layout.specs.Heads.{with_records}
-use Rattle.layout.proofs.heads.ClassesSort.next.Goals as goal
+use Rattle.layout.proofs.heads.ClassesSpanning.next.Goals as goal
 
 pub returns : goal.returns
 unfolding with_records
