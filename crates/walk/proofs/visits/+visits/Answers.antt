@@ -1,5 +1,5 @@
 -- The proof of the cycle of calls. The measure is twice the fuel that is left, and one more between a visit and the visits below it. Assumes nothing.
-use mathlib.Core.Path.{◌≡◌, refl, sym, ◌∙◌}
+use mathlib.Core.Path.{◌≡◌, sym, ◌∙◌}
 use Prim.Native.Nat.{ℕ, ◌+◌}
 use native.Mathlib.Omega.{arith}
 use borrow.Author.Tests.{leb-true, leb-false, eqb-true, eqb-false}
@@ -9,13 +9,13 @@ use Rattle.walk.proofs.RunLaws.{visited_stuck}
 use Rattle.walk.proofs.MarkLaws.{heads_some}
 use Rattle.walk.proofs.FormLaws.{literal_is, place_is, unknown_is, build_none, if_lost, if_other, if_is, match_lost, match_other, match_missing, for_piece, listed_none, listed_other, for_none}
 use Rattle.walk.proofs.SeparatorLaws.{Apart, due_later}
-use Rattle.walk.proofs.LoopLaws.{follows, vars_inside, below_falls, sequence_lost, sequence_start, sequence_end, items_few}
+use Rattle.walk.proofs.LoopLaws.{follows, below_falls, sequence_lost, sequence_start, sequence_end, items_few}
 use Rattle.walk.proofs.LoopLaws.{SequenceTurn, turns_visitable, turns_for, turns_turn, apart_room, apart_stop, apart_skipped, apart_written, item_visitable, item_falls, item_turn}
-use Rattle.walk.proofs.ForLaws.{for_start, for_end, turn_room, for_there, for_slot, for_apart_stop, past_none, past_written, for_level, for_vars, for_visitable, for_falls, for_stop, for_next}
+use Rattle.walk.proofs.ForLaws.{for_start, for_end, for_there, for_apart_stop, past_none, past_written, for_visitable, for_falls, for_stop, for_next}
 use Rattle.walk.proofs.ForLaws.{turned_over, list_there, turned_whole}
 use Rattle.walk.proofs.BuildLaws.{BuildTurn, build_start, build_end, keyword_turn, child_missing, child_visitable, child_falls, child_turn}
 use Rattle.walk.proofs.EnterLaws.{falls_there, branch_visitable, branch_visited, expand_missing, count_few, expand_room, enter_lost, enter_visitable, enter_falls, enter_visited}
-use Rattle.walk.proofs.MatchLaws.{no_arm, an_arm, arm_there, arm_vars, arm_visitable, arm_falls, arm_visited}
+use Rattle.walk.proofs.MatchLaws.{no_arm, an_arm, arm_there, arm_visitable, arm_falls, arm_visited}
 use Rattle.walk.proofs.EnterLaws.{spent_visited, deepest_visited, form_asked, form_falls, form_here, form_formed, form_visited, form_ran}
 use Rattle.walk.specs.Visits.{sources_of}
 use Rattle.walk.proofs.visits.+visits.Goals as goal
@@ -56,44 +56,20 @@ build_items-returns t c = build_end c.requires.0 c.loop.invariant c.loop-test.fa
 pub expand_body-returns-in_default : goal.expand_body-returns-in_default
 expand_body-returns-in_default t c = visited_stuck c.args.at c.requires.0.visitable.room c.stuck.ensures (expand_missing c.requires.0 _ c.requires.1.b (lost c.head_at.ensures c.in_default.is))
 
-pub expand_body-body_of-body-requires : goal.expand_body-body_of-body-requires
-expand_body-body_of-body-requires t c = c.requires.0.visitable.lent.templates_sized
-
-pub expand_body-overflow_add-paths : goal.expand_body-overflow_add-paths
-expand_body-overflow_add-paths t c = record { fits = omega (arith, c.requires.0.visitable.near) }
-
-pub expand_body-overflow_add-next : goal.expand_body-overflow_add-next
-expand_body-overflow_add-next t c = record { fits = omega (arith, c.requires.0.visitable.alive) }
-
 pub expand_body-pass-requires : goal.expand_body-pass-requires
 expand_body-pass-requires t c = (follows c.requires.0, expand_room c.requires.0 _ c.requires.1.b (got c.head_at.ensures c.in-Some.is) _ c.requires.1.d, omega (arith, c.requires.0.visitable.near, count_few c.requires.0 _ c.requires.1.b (got c.head_at.ensures c.in-Some.is) _ c.requires.1.d))
-
-pub expand_body-shape_of-scratch-then-not-pass : goal.expand_body-shape_of-scratch-then-not-pass
-expand_body-shape_of-scratch-then-not-pass t c = c.pass.auto.scratch
 
 pub expand_body-returns-then-not-pass : goal.expand_body-returns-then-not-pass
 expand_body-returns-then-not-pass t c = enter_lost c.requires.0 _ c.requires.1.b (got c.head_at.ensures c.in-Some.is) _ c.requires.1.d c.pass.ensures c.pass.auto.scratch (c.if-not-pass.true) c.stuck-then-not-pass.ensures
 
-pub expand_body-below-requires : goal.expand_body-below-requires
-expand_body-below-requires t c = c.requires.0.level
-
 pub expand_body-visit-requires : goal.expand_body-visit-requires
 expand_body-visit-requires t c = (omega (arith, c.decreases, enter_falls c.requires.0 _ c.requires.1.b (got c.head_at.ensures c.in-Some.is) _ c.requires.1.d c.pass.ensures c.pass.auto.scratch (c.if-not-pass.false) _ c.body_of-body.ensures.0 c.below.ensures c.framed-below.ensures), enter_visitable c.requires.0 _ c.requires.1.b (got c.head_at.ensures c.in-Some.is) _ c.requires.1.d c.pass.ensures c.pass.auto.scratch (c.if-not-pass.false) _ c.body_of-body.ensures.0 c.below.ensures c.framed-below.ensures c.body_of-body.ensures.1)
-
-pub expand_body-shape_of-out : goal.expand_body-shape_of-out
-expand_body-shape_of-out t c = c.visit.auto.out
-
-pub expand_body-shape_of-scratch : goal.expand_body-shape_of-scratch
-expand_body-shape_of-scratch t c = c.visit.auto.scratch ∙ c.pass.auto.scratch
 
 pub expand_body-returns : goal.expand_body-returns
 expand_body-returns t c = enter_visited c.requires.0 _ c.requires.1.b (got c.head_at.ensures c.in-Some.is) _ c.requires.1.d c.pass.ensures c.pass.auto.scratch (c.if-not-pass.false) _ c.body_of-body.ensures.0 c.below.ensures c.framed-below.ensures c.visit.ensures
 
 pub for_items-loop-done-init : goal.for_items-loop-done-init
 for_items-loop-done-init t c = for_start c.requires.0 c.requires.1
-
-pub for_items-separate-written-requires : goal.for_items-separate-written-requires
-for_items-separate-written-requires t c = (c.requires.0.visitable.lent.grammar_sized, turn_room c.requires.0 c.requires.1 c.loop-done.invariant c.loop-done-test.true)
 
 pub for_items-returns-then-written-ne0 : goal.for_items-returns-then-written-ne0
 for_items-returns-then-written-ne0 t c = for_apart_stop c.requires.0 c.requires.1 c.loop-done.invariant c.loop-done-test.true (c.separate-written.ensures _ (due_later _ _ (sym c.is_due.ensures ∙ c.if-is_due.true))) c.separate-written.auto.out c.if-written-ne0.true
@@ -110,19 +86,6 @@ for_items_past t c =
 
 pub for_items-child_at-item-requires : goal.for_items-child_at-item-requires
 for_items-child_at-item-requires t c = for_there c.requires.0 c.requires.1 c.loop-done.invariant c.loop-done-test.true
-
-pub for_items-bind-requires : goal.for_items-bind-requires
-for_items-bind-requires t c = for_slot c.requires.0 c.requires.1 c.loop-done.invariant c.loop-done-test.true
-
-pub for_items-below-requires : goal.for_items-below-requires
-for_items-below-requires t c =
-    let past = for_items_past t (goal.at.for_items-below-requires t c).Joined-is_due in
-    for_level c.requires.0 c.requires.1 c.loop-done.invariant c.loop-done-test.true past.0 past.1
-
-pub for_items-bound-below-requires : goal.for_items-bound-below-requires
-for_items-bound-below-requires t c =
-    let past = for_items_past t (goal.at.for_items-bound-below-requires t c).Joined-is_due in
-    for_vars c.requires.0 c.requires.1 c.loop-done.invariant c.loop-done-test.true past.0 past.1 c.below.ensures
 
 pub for_items-visit-end-requires : goal.for_items-visit-end-requires
 for_items-visit-end-requires t c =
@@ -145,29 +108,11 @@ for_items-returns t c = for_end c.requires.0 c.requires.1 c.loop-done.invariant 
 pub for_node-returns-then-spent : goal.for_node-returns-then-spent
 for_node-returns-then-spent t c = rw c.turned.ensures (turned_over 10 c.args.at (λ z. omega arith) c.ended.ensures (spent_visited c.requires.0 _ (leb-true _ _ (sym c.spent.ensures ∙ c.if-spent.true)) c.ended.ensures))
 
-pub for_node-counted-here-requires : goal.for_node-counted-here-requires
-for_node-counted-here-requires t c = leb-false _ _ (sym c.spent.ensures ∙ c.if-spent.false)
-
 pub for_node-returns-then-at-eq0 : goal.for_node-returns-then-at-eq0
 for_node-returns-then-at-eq0 t c = rw c.turned-then-at-eq0.ensures (turned_over 11 c.counted-here.result (λ z. omega arith) c.ended-then-at-eq0.ensures (deepest_visited c.requires.0 _ (leb-false _ _ (sym c.spent.ensures ∙ c.if-spent.false)) c.counted-here.ensures c.if-at-eq0.true c.ended-then-at-eq0.ensures))
 
-pub for_node-overflow_add-path : goal.for_node-overflow_add-path
-for_node-overflow_add-path t c = record { fits = omega (arith, (form_formed c.requires.0 (leb-false _ _ (sym c.spent.ensures ∙ c.if-spent.false)) c.counted-here.ensures c.if-at-eq0.false c.requires.1).visitable.near) }
-
-pub for_node-path_value-requires : goal.for_node-path_value-requires
-for_node-path_value-requires t c = follows (form_formed c.requires.0 (leb-false _ _ (sym c.spent.ensures ∙ c.if-spent.false)) c.counted-here.ensures c.if-at-eq0.false c.requires.1)
-
-pub for_node-shape_of-scratch-in_default : goal.for_node-shape_of-scratch-in_default
-for_node-shape_of-scratch-in_default t c = refl
-
 pub for_node-returns-in_default : goal.for_node-returns-in_default
 for_node-returns-in_default t c = rw c.turned-in_default.ensures (turned_over 99 c.counted-here.result (λ z. omega arith) c.stuck.ensures (form_asked c.requires.0 _ (leb-false _ _ (sym c.spent.ensures ∙ c.if-spent.false)) c.counted-here.ensures c.if-at-eq0.false c.requires.1 (visited_stuck c.counted-here.result (form_formed c.requires.0 (leb-false _ _ (sym c.spent.ensures ∙ c.if-spent.false)) c.counted-here.ensures c.if-at-eq0.false c.requires.1).visitable.room c.stuck.ensures (for_none _ _ _ _ _ _ _ _ _ _ _ (listed_none _ _ _ _ _ _ _ (lost c.path_value.ensures.is c.in_default.is))))))
-
-pub for_node-fetch-list-requires : goal.for_node-fetch-list-requires
-for_node-fetch-list-requires t c = c.requires.0.lent.value_lent.sized
-
-pub for_node-shape_of-scratch-then-list-ne3 : goal.for_node-shape_of-scratch-then-list-ne3
-for_node-shape_of-scratch-then-list-ne3 t c = refl
 
 pub for_node-returns-then-list-ne3 : goal.for_node-returns-then-list-ne3
 for_node-returns-then-list-ne3 t c = rw c.turned-then-list-ne3.ensures (turned_over 99 c.counted-here.result (λ z. omega arith) c.stuck-then-list-ne3.ensures (form_asked c.requires.0 _ (leb-false _ _ (sym c.spent.ensures ∙ c.if-spent.false)) c.counted-here.ensures c.if-at-eq0.false c.requires.1 (visited_stuck c.counted-here.result (form_formed c.requires.0 (leb-false _ _ (sym c.spent.ensures ∙ c.if-spent.false)) c.counted-here.ensures c.if-at-eq0.false c.requires.1).visitable.room c.stuck-then-list-ne3.ensures (for_none _ _ _ _ _ _ _ _ _ _ _ (listed_other _ _ _ _ _ _ _ _ (got c.path_value.ensures.is c.in-Some.is) (λ e. c.if-list-ne3.true (c.fetch-list.ensures.kind ∙ e)))))))
@@ -175,107 +120,35 @@ for_node-returns-then-list-ne3 t c = rw c.turned-then-list-ne3.ensures (turned_o
 pub for_node-for_items-run-requires : goal.for_node-for_items-run-requires
 for_node-for_items-run-requires t c = (omega (arith, c.decreases, form_falls c.requires.0 (leb-false _ _ (sym c.spent.ensures ∙ c.if-spent.false)) c.counted-here.ensures), ((form_formed c.requires.0 (leb-false _ _ (sym c.spent.ensures ∙ c.if-spent.false)) c.counted-here.ensures c.if-at-eq0.false c.requires.1), (list_there _ (got c.path_value.ensures.is c.in-Some.is) (c.path_value.ensures.stands _ (got c.path_value.ensures.is c.in-Some.is)) c.fetch-list.ensures c.if-list-ne3.false), c.requires.2))
 
-pub for_node-overflow_add-before : goal.for_node-overflow_add-before
-for_node-overflow_add-before t c = record { fits = omega (arith, c.requires.2) }
-
-pub for_node-shape_of-out : goal.for_node-shape_of-out
-for_node-shape_of-out t c = c.for_items-run.auto.out
-
-pub for_node-shape_of-scratch : goal.for_node-shape_of-scratch
-for_node-shape_of-scratch t c = c.for_items-run.auto.scratch
-
 pub for_node-returns : goal.for_node-returns
 for_node-returns t c = rw c.turned-2.ensures (turned_whole _ c.counted-here.ensures (form_formed c.requires.0 (leb-false _ _ (sym c.spent.ensures ∙ c.if-spent.false)) c.counted-here.ensures c.if-at-eq0.false c.requires.1) (list_there _ (got c.path_value.ensures.is c.in-Some.is) (c.path_value.ensures.stands _ (got c.path_value.ensures.is c.in-Some.is)) c.fetch-list.ensures c.if-list-ne3.false) (form_asked c.requires.0 _ (leb-false _ _ (sym c.spent.ensures ∙ c.if-spent.false)) c.counted-here.ensures c.if-at-eq0.false c.requires.1 c.for_items-run.ensures))
-
-pub if_branch-overflow_add-path : goal.if_branch-overflow_add-path
-if_branch-overflow_add-path t c = record { fits = omega (arith, c.requires.visitable.near) }
-
-pub if_branch-path_value-requires : goal.if_branch-path_value-requires
-if_branch-path_value-requires t c = follows c.requires
-
-pub if_branch-shape_of-scratch-in_default : goal.if_branch-shape_of-scratch-in_default
-if_branch-shape_of-scratch-in_default t c = refl
 
 pub if_branch-returns-in_default : goal.if_branch-returns-in_default
 if_branch-returns-in_default t c = visited_stuck c.args.at c.requires.visitable.room c.stuck.ensures (if_lost _ _ _ _ _ _ _ _ _ _ (lost c.path_value.ensures.is c.in_default.is))
 
-pub if_branch-fetch-head-requires : goal.if_branch-fetch-head-requires
-if_branch-fetch-head-requires t c = c.requires.visitable.lent.value_lent.sized
-
-pub if_branch-shape_of-scratch-then-head-ne2 : goal.if_branch-shape_of-scratch-then-head-ne2
-if_branch-shape_of-scratch-then-head-ne2 t c = refl
-
 pub if_branch-returns-then-head-ne2 : goal.if_branch-returns-then-head-ne2
 if_branch-returns-then-head-ne2 t c = visited_stuck c.args.at c.requires.visitable.room c.stuck-then-head-ne2.ensures (if_other _ _ _ _ _ _ _ _ _ _ _ (got c.path_value.ensures.is c.in-Some.is) _ c.fetch-head.ensures.kind c.if-head-ne2.true)
-
-pub if_branch-branch_of-branch-requires : goal.if_branch-branch_of-branch-requires
-if_branch-branch_of-branch-requires t c = (c.requires.visitable.lent.templates_sized, omega (arith, c.requires.level, c.requires.visitable.near))
-
-pub if_branch-below-below-requires : goal.if_branch-below-below-requires
-if_branch-below-below-requires t c = c.requires.level
 
 pub if_branch-visit-requires : goal.if_branch-visit-requires
 if_branch-visit-requires t c = (omega (arith, c.decreases, falls_there c.args.at _ _ c.below-below.ensures), branch_visitable c.requires c.below-below.ensures c.fetch-head.result.a c.branch_of-branch.ensures.0 c.branch_of-branch.ensures.1)
 
-pub if_branch-shape_of-out : goal.if_branch-shape_of-out
-if_branch-shape_of-out t c = c.visit.auto.out
-
-pub if_branch-shape_of-scratch : goal.if_branch-shape_of-scratch
-if_branch-shape_of-scratch t c = c.visit.auto.scratch
-
 pub if_branch-returns : goal.if_branch-returns
 if_branch-returns t c = branch_visited c.requires c.below-below.ensures (if_is _ _ _ _ _ _ _ _ _ _ _ (got c.path_value.ensures.is c.in-Some.is) _ c.fetch-head.ensures.kind c.if-head-ne2.false _ _ c.fetch-head.ensures.a c.branch_of-branch.ensures.0) c.visit.ensures
-
-pub match_arm-overflow_add-path : goal.match_arm-overflow_add-path
-match_arm-overflow_add-path t c = record { fits = omega (arith, c.requires.0.visitable.near) }
-
-pub match_arm-path_value-requires : goal.match_arm-path_value-requires
-match_arm-path_value-requires t c = follows c.requires.0
-
-pub match_arm-shape_of-scratch-in_default : goal.match_arm-shape_of-scratch-in_default
-match_arm-shape_of-scratch-in_default t c = refl
 
 pub match_arm-returns-in_default : goal.match_arm-returns-in_default
 match_arm-returns-in_default t c = visited_stuck c.args.at c.requires.0.visitable.room c.stuck.ensures (match_lost _ _ _ _ _ _ _ _ _ _ (lost c.path_value.ensures.is c.in_default.is))
 
-pub match_arm-fetch-case-requires : goal.match_arm-fetch-case-requires
-match_arm-fetch-case-requires t c = c.requires.0.visitable.lent.value_lent.sized
-
-pub match_arm-shape_of-scratch-then-case-ne5 : goal.match_arm-shape_of-scratch-then-case-ne5
-match_arm-shape_of-scratch-then-case-ne5 t c = refl
-
 pub match_arm-returns-then-case-ne5 : goal.match_arm-returns-then-case-ne5
 match_arm-returns-then-case-ne5 t c = visited_stuck c.args.at c.requires.0.visitable.room c.stuck-then-case-ne5.ensures (match_other _ _ _ _ _ _ _ _ _ _ _ (got c.path_value.ensures.is c.in-Some.is) _ c.fetch-case.ensures.kind c.if-case-ne5.true)
-
-pub match_arm-shape_of-scratch-then-head-case : goal.match_arm-shape_of-scratch-then-head-case
-match_arm-shape_of-scratch-then-head-case t c = refl
 
 pub match_arm-returns-then-head-case : goal.match_arm-returns-then-head-case
 match_arm-returns-then-head-case t c = visited_stuck c.args.at c.requires.0.visitable.room c.stuck-then-head-case.ensures (match_missing _ _ _ _ _ _ _ _ _ _ _ (got c.path_value.ensures.is c.in-Some.is) _ c.fetch-case.ensures.kind c.if-case-ne5.false _ c.fetch-case.ensures.a (no_arm c.requires.1 _ c.if-head-case.true))
 
-pub match_arm-arm_of-arm-requires : goal.match_arm-arm_of-arm-requires
-match_arm-arm_of-arm-requires t c = (c.requires.0.visitable.lent.templates_sized, omega (arith, c.requires.0.level, c.requires.0.visitable.near))
-
 pub match_arm-child_at-content-requires : goal.match_arm-child_at-content-requires
 match_arm-child_at-content-requires t c = arm_there c.requires.0 (c.path_value.ensures.stands _ (got c.path_value.ensures.is c.in-Some.is)) c.fetch-case.ensures c.if-case-ne5.false
 
-pub match_arm-bind-requires : goal.match_arm-bind-requires
-match_arm-bind-requires t c = vars_inside c.requires.0
-
-pub match_arm-below-requires : goal.match_arm-below-requires
-match_arm-below-requires t c = c.requires.0.level
-
-pub match_arm-bound-below-requires : goal.match_arm-bound-below-requires
-match_arm-bound-below-requires t c = arm_vars c.requires.0 c.below.ensures
-
 pub match_arm-visit-requires : goal.match_arm-visit-requires
 match_arm-visit-requires t c = (omega (arith, c.decreases, arm_falls c.requires.0 (c.path_value.ensures.stands _ (got c.path_value.ensures.is c.in-Some.is)) c.fetch-case.ensures c.if-case-ne5.false (an_arm c.requires.1 _ c.if-head-case.false c.arm_of-arm.ensures.0) _ c.child_at-content.ensures _ c.bind.ensures c.below.ensures c.bound-below.ensures), arm_visitable c.requires.0 (c.path_value.ensures.stands _ (got c.path_value.ensures.is c.in-Some.is)) c.fetch-case.ensures c.if-case-ne5.false (an_arm c.requires.1 _ c.if-head-case.false c.arm_of-arm.ensures.0) _ c.child_at-content.ensures _ c.bind.ensures c.below.ensures c.bound-below.ensures c.arm_of-arm.ensures.1 c.bind.auto.scratch)
-
-pub match_arm-shape_of-out : goal.match_arm-shape_of-out
-match_arm-shape_of-out t c = c.visit.auto.out
-
-pub match_arm-shape_of-scratch : goal.match_arm-shape_of-scratch
-match_arm-shape_of-scratch t c = c.visit.auto.scratch ∙ c.bind.auto.scratch
 
 pub match_arm-returns : goal.match_arm-returns
 match_arm-returns t c = arm_visited c.requires.0 (c.path_value.ensures.stands _ (got c.path_value.ensures.is c.in-Some.is)) c.fetch-case.ensures c.if-case-ne5.false (an_arm c.requires.1 _ c.if-head-case.false c.arm_of-arm.ensures.0) _ c.child_at-content.ensures _ c.bind.ensures c.below.ensures c.bound-below.ensures (got c.path_value.ensures.is c.in-Some.is) c.visit.ensures
@@ -341,14 +214,8 @@ sequence_items-returns t c = sequence_end c.requires.0 c.loop.invariant c.loop-t
 pub visit-returns-then-spent : goal.visit-returns-then-spent
 visit-returns-then-spent t c = spent_visited c.requires _ (leb-true _ _ (sym c.spent.ensures ∙ c.if-spent.true)) c.ended.ensures
 
-pub visit-counted-here-requires : goal.visit-counted-here-requires
-visit-counted-here-requires t c = leb-false _ _ (sym c.spent.ensures ∙ c.if-spent.false)
-
 pub visit-returns-then-at-eq0 : goal.visit-returns-then-at-eq0
 visit-returns-then-at-eq0 t c = deepest_visited c.requires _ (leb-false _ _ (sym c.spent.ensures ∙ c.if-spent.false)) c.counted-here.ensures c.if-at-eq0.true c.ended-then-at-eq0.ensures
-
-pub visit-fetch-head-requires : goal.visit-fetch-head-requires
-visit-fetch-head-requires t c = c.requires.lent.templates_sized
 
 pub visit-build_items-requires : goal.visit-build_items-requires
 visit-build_items-requires t c = (omega (arith, c.decreases, form_falls c.requires (leb-false _ _ (sym c.spent.ensures ∙ c.if-spent.false)) c.counted-here.ensures), (form_formed c.requires (leb-false _ _ (sym c.spent.ensures ∙ c.if-spent.false)) c.counted-here.ensures c.if-at-eq0.false (form_here c.requires (leb-false _ _ (sym c.spent.ensures ∙ c.if-spent.false)) c.counted-here.ensures c.fetch-head.ensures _ c.form_of.ensures ∙ c.in-Build.is), c.fetch-head.ensures))
@@ -371,44 +238,17 @@ visit-sequence_items-requires t c = (omega (arith, c.decreases, form_falls c.req
 pub visit-match_arm-requires : goal.visit-match_arm-requires
 visit-match_arm-requires t c = (omega (arith, c.decreases, form_falls c.requires (leb-false _ _ (sym c.spent.ensures ∙ c.if-spent.false)) c.counted-here.ensures), (form_formed c.requires (leb-false _ _ (sym c.spent.ensures ∙ c.if-spent.false)) c.counted-here.ensures c.if-at-eq0.false (form_here c.requires (leb-false _ _ (sym c.spent.ensures ∙ c.if-spent.false)) c.counted-here.ensures c.fetch-head.ensures _ c.form_of.ensures ∙ c.in-Match.is), c.fetch-head.ensures))
 
-pub visit-shape_of-out-in-Build : goal.visit-shape_of-out-in-Build
-visit-shape_of-out-in-Build t c = c.build_items.auto.out
-
-pub visit-shape_of-scratch-in-Build : goal.visit-shape_of-scratch-in-Build
-visit-shape_of-scratch-in-Build t c = c.build_items.auto.scratch
-
 pub visit-returns-in-Build : goal.visit-returns-in-Build
 visit-returns-in-Build t c = form_visited c.requires (leb-false _ _ (sym c.spent.ensures ∙ c.if-spent.false)) c.counted-here.ensures c.if-at-eq0.false (form_here c.requires (leb-false _ _ (sym c.spent.ensures ∙ c.if-spent.false)) c.counted-here.ensures c.fetch-head.ensures _ c.form_of.ensures ∙ c.in-Build.is) c.build_items.ensures
-
-pub visit-shape_of-out-in-Literal : goal.visit-shape_of-out-in-Literal
-visit-shape_of-out-in-Literal t c = c.write.auto.out
 
 pub visit-returns-in-Literal : goal.visit-returns-in-Literal
 visit-returns-in-Literal t c = form_ran c.requires (leb-false _ _ (sym c.spent.ensures ∙ c.if-spent.false)) c.counted-here.ensures c.if-at-eq0.false (form_here c.requires (leb-false _ _ (sym c.spent.ensures ∙ c.if-spent.false)) c.counted-here.ensures c.fetch-head.ensures _ c.form_of.ensures ∙ c.in-Literal.is) (literal_is _ _ _ _ _ _ _ _ _ _ _ c.fetch-head.ensures.b) c.write.ensures
 
-pub visit-shape_of-out-in-Place : goal.visit-shape_of-out-in-Place
-visit-shape_of-out-in-Place t c = c.place.auto.out
-
-pub visit-shape_of-scratch-in-Place : goal.visit-shape_of-scratch-in-Place
-visit-shape_of-scratch-in-Place t c = refl
-
 pub visit-returns-in-Place : goal.visit-returns-in-Place
 visit-returns-in-Place t c = form_ran c.requires (leb-false _ _ (sym c.spent.ensures ∙ c.if-spent.false)) c.counted-here.ensures c.if-at-eq0.false (form_here c.requires (leb-false _ _ (sym c.spent.ensures ∙ c.if-spent.false)) c.counted-here.ensures c.fetch-head.ensures _ c.form_of.ensures ∙ c.in-Place.is) (place_is _ _ _ _ _ _) c.place.ensures
 
-pub visit-shape_of-out-in-Expand : goal.visit-shape_of-out-in-Expand
-visit-shape_of-out-in-Expand t c = c.expand_body.auto.out
-
-pub visit-shape_of-scratch-in-Expand : goal.visit-shape_of-scratch-in-Expand
-visit-shape_of-scratch-in-Expand t c = c.expand_body.auto.scratch
-
 pub visit-returns-in-Expand : goal.visit-returns-in-Expand
 visit-returns-in-Expand t c = form_visited c.requires (leb-false _ _ (sym c.spent.ensures ∙ c.if-spent.false)) c.counted-here.ensures c.if-at-eq0.false (form_here c.requires (leb-false _ _ (sym c.spent.ensures ∙ c.if-spent.false)) c.counted-here.ensures c.fetch-head.ensures _ c.form_of.ensures ∙ c.in-Expand.is) c.expand_body.ensures
-
-pub visit-shape_of-out-in-If : goal.visit-shape_of-out-in-If
-visit-shape_of-out-in-If t c = c.if_branch.auto.out
-
-pub visit-shape_of-scratch-in-If : goal.visit-shape_of-scratch-in-If
-visit-shape_of-scratch-in-If t c = c.if_branch.auto.scratch
 
 pub visit-returns-in-If : goal.visit-returns-in-If
 visit-returns-in-If t c = form_visited c.requires (leb-false _ _ (sym c.spent.ensures ∙ c.if-spent.false)) c.counted-here.ensures c.if-at-eq0.false (form_here c.requires (leb-false _ _ (sym c.spent.ensures ∙ c.if-spent.false)) c.counted-here.ensures c.fetch-head.ensures _ c.form_of.ensures ∙ c.in-If.is) c.if_branch.ensures
@@ -416,20 +256,8 @@ visit-returns-in-If t c = form_visited c.requires (leb-false _ _ (sym c.spent.en
 pub visit-returns-in-For : goal.visit-returns-in-For
 visit-returns-in-For t c = form_visited c.requires (leb-false _ _ (sym c.spent.ensures ∙ c.if-spent.false)) c.counted-here.ensures c.if-at-eq0.false (form_here c.requires (leb-false _ _ (sym c.spent.ensures ∙ c.if-spent.false)) c.counted-here.ensures c.fetch-head.ensures _ c.form_of.ensures ∙ c.in-For.is) (visited_stuck c.counted-here.result (form_formed c.requires (leb-false _ _ (sym c.spent.ensures ∙ c.if-spent.false)) c.counted-here.ensures c.if-at-eq0.false (form_here c.requires (leb-false _ _ (sym c.spent.ensures ∙ c.if-spent.false)) c.counted-here.ensures c.fetch-head.ensures _ c.form_of.ensures ∙ c.in-For.is)).visitable.room c.stuck.ensures (for_piece _ _ _ _ _ _ _ _ _ _))
 
-pub visit-shape_of-out-in-Sequence : goal.visit-shape_of-out-in-Sequence
-visit-shape_of-out-in-Sequence t c = c.sequence_items.auto.out
-
-pub visit-shape_of-scratch-in-Sequence : goal.visit-shape_of-scratch-in-Sequence
-visit-shape_of-scratch-in-Sequence t c = c.sequence_items.auto.scratch
-
 pub visit-returns-in-Sequence : goal.visit-returns-in-Sequence
 visit-returns-in-Sequence t c = form_visited c.requires (leb-false _ _ (sym c.spent.ensures ∙ c.if-spent.false)) c.counted-here.ensures c.if-at-eq0.false (form_here c.requires (leb-false _ _ (sym c.spent.ensures ∙ c.if-spent.false)) c.counted-here.ensures c.fetch-head.ensures _ c.form_of.ensures ∙ c.in-Sequence.is) c.sequence_items.ensures
-
-pub visit-shape_of-out-in-Match : goal.visit-shape_of-out-in-Match
-visit-shape_of-out-in-Match t c = c.match_arm.auto.out
-
-pub visit-shape_of-scratch-in-Match : goal.visit-shape_of-scratch-in-Match
-visit-shape_of-scratch-in-Match t c = c.match_arm.auto.scratch
 
 pub visit-returns-in-Match : goal.visit-returns-in-Match
 visit-returns-in-Match t c = form_visited c.requires (leb-false _ _ (sym c.spent.ensures ∙ c.if-spent.false)) c.counted-here.ensures c.if-at-eq0.false (form_here c.requires (leb-false _ _ (sym c.spent.ensures ∙ c.if-spent.false)) c.counted-here.ensures c.fetch-head.ensures _ c.form_of.ensures ∙ c.in-Match.is) c.match_arm.ensures
