@@ -28,17 +28,14 @@ use native.Mathlib.Nat.{le_refl}
 use Rattle.walk.specs.Lookups.{lookup_of, Finds}
 use Rattle.walk.specs.Frames.{Held}
 
--- what an answer says: an entry of a list, and once its variant is known
+-- what an answer says: of an entry of a list, and of a value that was found
 
 pub entry_is : (xs : List ℕ) (i : ℕ) (r : answer.Option (Bor ℕ)) (o : answer.Option ℕ) → IsItemAt xs i r → o ≡ option_copied r → lookup_of o ≡ nth xs i
 entry_is xs i None o h e = rw e (sym (nth_none xs i h.3))
 entry_is xs i (Some x) o h e = rw e (ap some (h.4 (le_refl i) 0) ∙ sym (nth_some xs i h.3.0))
 
-pub got : {o : Option ℕ} {r : answer.Option ℕ} {w : ℕ} → lookup_of r ≡ o → r ≡ Some w → o ≡ some w
-got e h = sym e ∙ ap lookup_of h
-
-pub lost : {o : Option ℕ} {r : answer.Option ℕ} → lookup_of r ≡ o → r ≡ None → o ≡ none
-lost e h = sym e ∙ ap lookup_of h
+pub value_stands : {v : List ℕ} {o : Option ℕ} {w : ℕ} → Finds v o (Some w) → Stands v w
+value_stands f = f.stands _ (sym f.is)
 
 pub finds_nothing : {v : List ℕ} {o : Option ℕ} → o ≡ none → Finds v o None
 finds_nothing e = record { is = sym e; stands = λ w h. absurd (none-ne-some w (sym e ∙ h)) }

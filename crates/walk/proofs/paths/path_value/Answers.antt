@@ -1,5 +1,5 @@
 use mathlib.Core.Path.{sym}
-use Rattle.walk.proofs.PathLaws.{path_missing, steps_start, steps_end, steps_stop, steps_next}
+use Rattle.walk.proofs.PathLaws.{value_stands, path_missing, steps_start, steps_end, steps_stop, steps_next}
 use Rattle.walk.proofs.paths.path_value.Goals as goal
 
 pub returns-in_err-w : goal.returns-in_err-w
@@ -12,9 +12,7 @@ pub returns-in_err-w-2 : goal.returns-in_err-w-2
 returns-in_err-w-2 c = rw c.from_residual-in_err-w-2.ensures (steps_stop c.loop-i.invariant _ c.steps_of-i-end.ensures.0 c.loop-i-test.true _ c.step_at.ensures (sym c.in_err-w-2.ensures.is))
 
 pub loop-i-preserved : goal.loop-i-preserved
-loop-i-preserved c =
-    let g = sym c.in_ok-w-2.ensures.is in
-    steps_next c.loop-i.invariant _ c.steps_of-i-end.ensures.0 c.loop-i-test.true _ c.step_at.ensures _ g (c.in_ok-w-2.ensures.stands _ g)
+loop-i-preserved c = steps_next c.loop-i.invariant _ c.steps_of-i-end.ensures.0 c.loop-i-test.true _ c.step_at.ensures _ (sym c.in_ok-w-2.ensures.is) (value_stands c.in_ok-w-2.ensures)
 
 pub returns : goal.returns
 returns c = steps_end c.loop-i.invariant _ c.steps_of-i-end.ensures.0 c.loop-i-test.false

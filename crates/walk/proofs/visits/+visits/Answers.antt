@@ -1,10 +1,9 @@
 -- The proof of the cycle of calls. The measure is twice the fuel that is left, and one more between a visit and the visits below it. Assumes nothing.
 use mathlib.Core.Path.{◌≡◌, sym, ◌∙◌}
-use Prim.Native.Nat.{ℕ, ◌+◌}
+use Prim.Native.Nat.{ℕ, ◌+◌, ◌-◌, ◌<◌}
 use native.Mathlib.Omega.{arith}
 use borrow.Author.Tests.{leb-true, leb-false, eqb-true, eqb-false}
 use Rattle.walk.specs.Nodes.{after_at, ended_at}
-use Rattle.walk.proofs.PathLaws.{got, lost}
 use Rattle.walk.proofs.RunLaws.{visited_stuck}
 use Rattle.walk.proofs.MarkLaws.{heads_some}
 use Rattle.walk.proofs.FormLaws.{literal_is, place_is, unknown_is, build_none, if_lost, if_other, if_is, match_lost, match_other, match_missing, for_piece, listed_none, listed_other, for_none}
@@ -16,18 +15,29 @@ use Rattle.walk.proofs.ForLaws.{turned_over, list_there, turned_whole}
 use Rattle.walk.proofs.BuildLaws.{BuildTurn, build_start, build_end, keyword_turn, child_missing, child_visitable, child_falls, child_turn}
 use Rattle.walk.proofs.EnterLaws.{falls_there, branch_visitable, branch_visited, expand_missing, count_few, expand_room, enter_lost, enter_visitable, enter_falls, enter_visited}
 use Rattle.walk.proofs.MatchLaws.{no_arm, an_arm, arm_there, arm_visitable, arm_falls, arm_visited}
-use Rattle.walk.proofs.EnterLaws.{spent_visited, deepest_visited, form_asked, form_falls, form_here, form_formed, form_visited, form_ran}
-use Rattle.walk.specs.Visits.{sources_of}
+use Rattle.walk.proofs.EnterLaws.{spent_visited, deepest_visited, form_asked, form_falls, form_here, form_formed, form_visited}
+use mathlib.Core.List.{List}
+use Rattle.rules.specs.Walk.{End, Asked}
+use Rattle.rules.specs.declared.Form.{Form}
+use Rattle.rules.specs.declared.Form.TheVariants.{For}
+use Rattle.walk.specs.declared.state.Run.{Run}
+use Rattle.walk.specs.Asks.{Formed}
+use Rattle.walk.specs.Nodes.{asked_at, form_asked_at}
+use Rattle.walk.specs.Run.{RanFrom, VisitedFrom}
+use Rattle.walk.specs.Visits.{sources_of, visit_end, form_end}
+use Rattle.walk.proofs.PathLaws.{value_stands}
+use Rattle.walk.proofs.RunLaws.{ran_is, visited_ran}
 use Rattle.walk.proofs.visits.+visits.Goals as goal
+use Rattle.walk.proofs.visits.+visits.Goals.{visit-After-form_of, for_node-Else-at-eq0}
 use Rattle.walk.proofs.visits.+visits.Goals.{build_items-Joined-e-eq0, build_items-then-e-eq0, build_items-else-e-eq0+else-head-used}
 use Rattle.walk.proofs.visits.+visits.Goals.{for_items-Joined-is_due, for_items-then-is_due+else-written-ne0, for_items-else-is_due}
 use Rattle.walk.proofs.visits.+visits.Goals.{sequence_items-Joined-is_due, sequence_items-then-is_due+else-r-ne0, sequence_items-else-is_due, sequence_items-Joined-is_for, sequence_items-then-is_for, sequence_items-else-is_for}
 
 pub build_items-returns-in_default : goal.build_items-returns-in_default
-build_items-returns-in_default t c = visited_stuck c.args.at c.requires.0.visitable.room c.stuck.ensures (build_none _ _ _ _ _ _ _ _ _ _ _ c.requires.1.b (lost (c.production_at.ensures _ c.requires.0.visitable.lent.productions_are) c.in_default.is))
+build_items-returns-in_default t c = visited_stuck c.args.at c.requires.0.visitable.room c.stuck.ensures (build_none _ _ _ _ _ _ _ _ _ _ _ c.requires.1.b (sym (c.in_default.ensures _ c.requires.0.visitable.lent.productions_are)))
 
 pub build_items-loop-init : goal.build_items-loop-init
-build_items-loop-init t c = build_start c.requires.0 c.requires.1 _ (got (c.production_at.ensures _ c.requires.0.visitable.lent.productions_are) c.in-Some.is) (omega arith) c.fetch-count.ensures
+build_items-loop-init t c = build_start c.requires.0 c.requires.1 _ (sym (c.in-Some.ensures _ c.requires.0.visitable.lent.productions_are)) (omega arith) c.fetch-count.ensures
 
 pub build_items-returns-then-head-used : goal.build_items-returns-then-head-used
 build_items-returns-then-head-used t c = child_missing c.requires.0 c.loop.invariant c.loop-test.true c.fetch-e.ensures c.if-e-eq0.false c.if-head-used.true c.stuck-then-head-used.ensures
@@ -54,19 +64,19 @@ pub build_items-returns : goal.build_items-returns
 build_items-returns t c = build_end c.requires.0 c.loop.invariant c.loop-test.false c.going.ensures
 
 pub expand_body-returns-in_default : goal.expand_body-returns-in_default
-expand_body-returns-in_default t c = visited_stuck c.args.at c.requires.0.visitable.room c.stuck.ensures (expand_missing c.requires.0 _ c.requires.1.b (lost c.head_at.ensures c.in_default.is))
+expand_body-returns-in_default t c = visited_stuck c.args.at c.requires.0.visitable.room c.stuck.ensures (expand_missing c.requires.0 _ c.requires.1.b (sym c.in_default.ensures))
 
 pub expand_body-pass-requires : goal.expand_body-pass-requires
-expand_body-pass-requires t c = (follows c.requires.0, expand_room c.requires.0 _ c.requires.1.b (got c.head_at.ensures c.in-Some.is) _ c.requires.1.d, omega (arith, c.requires.0.visitable.near, count_few c.requires.0 _ c.requires.1.b (got c.head_at.ensures c.in-Some.is) _ c.requires.1.d))
+expand_body-pass-requires t c = (follows c.requires.0, expand_room c.requires.0 _ c.requires.1.b (sym c.in-Some.ensures) _ c.requires.1.d, omega (arith, c.requires.0.visitable.near, count_few c.requires.0 _ c.requires.1.b (sym c.in-Some.ensures) _ c.requires.1.d))
 
 pub expand_body-returns-then-not-pass : goal.expand_body-returns-then-not-pass
-expand_body-returns-then-not-pass t c = enter_lost c.requires.0 _ c.requires.1.b (got c.head_at.ensures c.in-Some.is) _ c.requires.1.d c.pass.ensures c.pass.auto.scratch (c.if-not-pass.true) c.stuck-then-not-pass.ensures
+expand_body-returns-then-not-pass t c = enter_lost c.requires.0 _ c.requires.1.b (sym c.in-Some.ensures) _ c.requires.1.d c.pass.ensures c.pass.auto.scratch (c.if-not-pass.true) c.stuck-then-not-pass.ensures
 
 pub expand_body-visit-requires : goal.expand_body-visit-requires
-expand_body-visit-requires t c = (omega (arith, c.decreases, enter_falls c.requires.0 _ c.requires.1.b (got c.head_at.ensures c.in-Some.is) _ c.requires.1.d c.pass.ensures c.pass.auto.scratch (c.if-not-pass.false) _ c.body_of-body.ensures.0 c.below.ensures c.framed-below.ensures), enter_visitable c.requires.0 _ c.requires.1.b (got c.head_at.ensures c.in-Some.is) _ c.requires.1.d c.pass.ensures c.pass.auto.scratch (c.if-not-pass.false) _ c.body_of-body.ensures.0 c.below.ensures c.framed-below.ensures c.body_of-body.ensures.1)
+expand_body-visit-requires t c = (omega (arith, c.decreases, enter_falls c.requires.0 _ c.requires.1.b (sym c.in-Some.ensures) _ c.requires.1.d c.pass.ensures c.pass.auto.scratch (c.if-not-pass.false) _ c.body_of-body.ensures.0 c.below.ensures c.framed-below.ensures), enter_visitable c.requires.0 _ c.requires.1.b (sym c.in-Some.ensures) _ c.requires.1.d c.pass.ensures c.pass.auto.scratch (c.if-not-pass.false) _ c.body_of-body.ensures.0 c.below.ensures c.framed-below.ensures c.body_of-body.ensures.1)
 
 pub expand_body-returns : goal.expand_body-returns
-expand_body-returns t c = enter_visited c.requires.0 _ c.requires.1.b (got c.head_at.ensures c.in-Some.is) _ c.requires.1.d c.pass.ensures c.pass.auto.scratch (c.if-not-pass.false) _ c.body_of-body.ensures.0 c.below.ensures c.framed-below.ensures c.visit.ensures
+expand_body-returns t c = enter_visited c.requires.0 _ c.requires.1.b (sym c.in-Some.ensures) _ c.requires.1.d c.pass.ensures c.pass.auto.scratch (c.if-not-pass.false) _ c.body_of-body.ensures.0 c.below.ensures c.framed-below.ensures c.visit.ensures
 
 pub for_items-loop-done-init : goal.for_items-loop-done-init
 for_items-loop-done-init t c = for_start c.requires.0 c.requires.1
@@ -105,6 +115,15 @@ for_items-loop-done-preserved t c =
 pub for_items-returns : goal.for_items-returns
 for_items-returns t c = for_end c.requires.0 c.requires.1 c.loop-done.invariant c.loop-done-test.false c.going.ensures
 
+-- What is so of a for whose step is counted and which a level is left for.
+for_node_formed : (t : ℕ) (c : for_node-Else-at-eq0 t) → Formed For (sources_of c.args.s.now) c.counted-here.result c.args.out.now c.args.scratch.now
+for_node_formed t c = form_formed c.requires.0 (leb-false _ _ (sym c.spent.ensures ∙ c.if-spent.false)) c.counted-here.ensures c.if-at-eq0.false c.requires.1
+
+for_node_asked : (t : ℕ) (c : for_node-Else-at-eq0 t) (asked : Asked) {u : Run} {out' scratch' : List ℕ}
+    → VisitedFrom (form_asked_at For asked c.args.s.now.grammar.now c.args.s.now.templates.now c.args.s.now.value.now c.counted-here.result c.args.out.now c.args.scratch.now) c.counted-here.result u c.args.out.now out' c.args.scratch.now scratch'
+    → VisitedFrom (asked_at asked c.args.s.now.grammar.now c.args.s.now.templates.now c.args.s.now.value.now c.args.at c.args.out.now c.args.scratch.now) c.args.at u c.args.out.now out' c.args.scratch.now scratch'
+for_node_asked t c asked v = form_asked c.requires.0 asked (leb-false _ _ (sym c.spent.ensures ∙ c.if-spent.false)) c.counted-here.ensures c.if-at-eq0.false c.requires.1 v
+
 pub for_node-returns-then-spent : goal.for_node-returns-then-spent
 for_node-returns-then-spent t c = rw c.turned.ensures (turned_over 10 c.args.at (λ z. omega arith) c.ended.ensures (spent_visited c.requires.0 _ (leb-true _ _ (sym c.spent.ensures ∙ c.if-spent.true)) c.ended.ensures))
 
@@ -112,46 +131,46 @@ pub for_node-returns-then-at-eq0 : goal.for_node-returns-then-at-eq0
 for_node-returns-then-at-eq0 t c = rw c.turned-then-at-eq0.ensures (turned_over 11 c.counted-here.result (λ z. omega arith) c.ended-then-at-eq0.ensures (deepest_visited c.requires.0 _ (leb-false _ _ (sym c.spent.ensures ∙ c.if-spent.false)) c.counted-here.ensures c.if-at-eq0.true c.ended-then-at-eq0.ensures))
 
 pub for_node-returns-in_default : goal.for_node-returns-in_default
-for_node-returns-in_default t c = rw c.turned-in_default.ensures (turned_over 99 c.counted-here.result (λ z. omega arith) c.stuck.ensures (form_asked c.requires.0 _ (leb-false _ _ (sym c.spent.ensures ∙ c.if-spent.false)) c.counted-here.ensures c.if-at-eq0.false c.requires.1 (visited_stuck c.counted-here.result (form_formed c.requires.0 (leb-false _ _ (sym c.spent.ensures ∙ c.if-spent.false)) c.counted-here.ensures c.if-at-eq0.false c.requires.1).visitable.room c.stuck.ensures (for_none _ _ _ _ _ _ _ _ _ _ _ (listed_none _ _ _ _ _ _ _ (lost c.path_value.ensures.is c.in_default.is))))))
+for_node-returns-in_default t c = let h = (goal.at.for_node-returns-in_default t c).Else-at-eq0 in rw c.turned-in_default.ensures (turned_over 99 c.counted-here.result (λ z. omega arith) c.stuck.ensures (for_node_asked t h _ (visited_stuck c.counted-here.result (for_node_formed t h).visitable.room c.stuck.ensures (for_none _ _ _ _ _ _ _ _ _ _ _ (listed_none _ _ _ _ _ _ _ (sym c.in_default.ensures.is))))))
 
 pub for_node-returns-then-list-ne3 : goal.for_node-returns-then-list-ne3
-for_node-returns-then-list-ne3 t c = rw c.turned-then-list-ne3.ensures (turned_over 99 c.counted-here.result (λ z. omega arith) c.stuck-then-list-ne3.ensures (form_asked c.requires.0 _ (leb-false _ _ (sym c.spent.ensures ∙ c.if-spent.false)) c.counted-here.ensures c.if-at-eq0.false c.requires.1 (visited_stuck c.counted-here.result (form_formed c.requires.0 (leb-false _ _ (sym c.spent.ensures ∙ c.if-spent.false)) c.counted-here.ensures c.if-at-eq0.false c.requires.1).visitable.room c.stuck-then-list-ne3.ensures (for_none _ _ _ _ _ _ _ _ _ _ _ (listed_other _ _ _ _ _ _ _ _ (got c.path_value.ensures.is c.in-Some.is) (λ e. c.if-list-ne3.true (c.fetch-list.ensures.kind ∙ e)))))))
+for_node-returns-then-list-ne3 t c = let h = (goal.at.for_node-returns-then-list-ne3 t c).Else-at-eq0 in rw c.turned-then-list-ne3.ensures (turned_over 99 c.counted-here.result (λ z. omega arith) c.stuck-then-list-ne3.ensures (for_node_asked t h _ (visited_stuck c.counted-here.result (for_node_formed t h).visitable.room c.stuck-then-list-ne3.ensures (for_none _ _ _ _ _ _ _ _ _ _ _ (listed_other _ _ _ _ _ _ _ _ (sym c.in-Some.ensures.is) (λ e. c.if-list-ne3.true (c.fetch-list.ensures.kind ∙ e)))))))
 
 pub for_node-for_items-run-requires : goal.for_node-for_items-run-requires
-for_node-for_items-run-requires t c = (omega (arith, c.decreases, form_falls c.requires.0 (leb-false _ _ (sym c.spent.ensures ∙ c.if-spent.false)) c.counted-here.ensures), ((form_formed c.requires.0 (leb-false _ _ (sym c.spent.ensures ∙ c.if-spent.false)) c.counted-here.ensures c.if-at-eq0.false c.requires.1), (list_there _ (got c.path_value.ensures.is c.in-Some.is) (c.path_value.ensures.stands _ (got c.path_value.ensures.is c.in-Some.is)) c.fetch-list.ensures c.if-list-ne3.false), c.requires.2))
+for_node-for_items-run-requires t c = let h = (goal.at.for_node-for_items-run-requires t c).Else-at-eq0 in (omega (arith, c.decreases, form_falls c.requires.0 (leb-false _ _ (sym c.spent.ensures ∙ c.if-spent.false)) c.counted-here.ensures), ((for_node_formed t h), (list_there _ (sym c.in-Some.ensures.is) (value_stands c.in-Some.ensures) c.fetch-list.ensures c.if-list-ne3.false), c.requires.2))
 
 pub for_node-returns : goal.for_node-returns
-for_node-returns t c = rw c.turned-2.ensures (turned_whole _ c.counted-here.ensures (form_formed c.requires.0 (leb-false _ _ (sym c.spent.ensures ∙ c.if-spent.false)) c.counted-here.ensures c.if-at-eq0.false c.requires.1) (list_there _ (got c.path_value.ensures.is c.in-Some.is) (c.path_value.ensures.stands _ (got c.path_value.ensures.is c.in-Some.is)) c.fetch-list.ensures c.if-list-ne3.false) (form_asked c.requires.0 _ (leb-false _ _ (sym c.spent.ensures ∙ c.if-spent.false)) c.counted-here.ensures c.if-at-eq0.false c.requires.1 c.for_items-run.ensures))
+for_node-returns t c = let h = (goal.at.for_node-returns t c).Else-at-eq0 in rw c.turned-2.ensures (turned_whole _ c.counted-here.ensures (for_node_formed t h) (list_there _ (sym c.in-Some.ensures.is) (value_stands c.in-Some.ensures) c.fetch-list.ensures c.if-list-ne3.false) (for_node_asked t h _ c.for_items-run.ensures))
 
 pub if_branch-returns-in_default : goal.if_branch-returns-in_default
-if_branch-returns-in_default t c = visited_stuck c.args.at c.requires.visitable.room c.stuck.ensures (if_lost _ _ _ _ _ _ _ _ _ _ (lost c.path_value.ensures.is c.in_default.is))
+if_branch-returns-in_default t c = visited_stuck c.args.at c.requires.visitable.room c.stuck.ensures (if_lost _ _ _ _ _ _ _ _ _ _ (sym c.in_default.ensures.is))
 
 pub if_branch-returns-then-head-ne2 : goal.if_branch-returns-then-head-ne2
-if_branch-returns-then-head-ne2 t c = visited_stuck c.args.at c.requires.visitable.room c.stuck-then-head-ne2.ensures (if_other _ _ _ _ _ _ _ _ _ _ _ (got c.path_value.ensures.is c.in-Some.is) _ c.fetch-head.ensures.kind c.if-head-ne2.true)
+if_branch-returns-then-head-ne2 t c = visited_stuck c.args.at c.requires.visitable.room c.stuck-then-head-ne2.ensures (if_other _ _ _ _ _ _ _ _ _ _ _ (sym c.in-Some.ensures.is) _ c.fetch-head.ensures.kind c.if-head-ne2.true)
 
 pub if_branch-visit-requires : goal.if_branch-visit-requires
 if_branch-visit-requires t c = (omega (arith, c.decreases, falls_there c.args.at _ _ c.below-below.ensures), branch_visitable c.requires c.below-below.ensures c.fetch-head.result.a c.branch_of-branch.ensures.0 c.branch_of-branch.ensures.1)
 
 pub if_branch-returns : goal.if_branch-returns
-if_branch-returns t c = branch_visited c.requires c.below-below.ensures (if_is _ _ _ _ _ _ _ _ _ _ _ (got c.path_value.ensures.is c.in-Some.is) _ c.fetch-head.ensures.kind c.if-head-ne2.false _ _ c.fetch-head.ensures.a c.branch_of-branch.ensures.0) c.visit.ensures
+if_branch-returns t c = branch_visited c.requires c.below-below.ensures (if_is _ _ _ _ _ _ _ _ _ _ _ (sym c.in-Some.ensures.is) _ c.fetch-head.ensures.kind c.if-head-ne2.false _ _ c.fetch-head.ensures.a c.branch_of-branch.ensures.0) c.visit.ensures
 
 pub match_arm-returns-in_default : goal.match_arm-returns-in_default
-match_arm-returns-in_default t c = visited_stuck c.args.at c.requires.0.visitable.room c.stuck.ensures (match_lost _ _ _ _ _ _ _ _ _ _ (lost c.path_value.ensures.is c.in_default.is))
+match_arm-returns-in_default t c = visited_stuck c.args.at c.requires.0.visitable.room c.stuck.ensures (match_lost _ _ _ _ _ _ _ _ _ _ (sym c.in_default.ensures.is))
 
 pub match_arm-returns-then-case-ne5 : goal.match_arm-returns-then-case-ne5
-match_arm-returns-then-case-ne5 t c = visited_stuck c.args.at c.requires.0.visitable.room c.stuck-then-case-ne5.ensures (match_other _ _ _ _ _ _ _ _ _ _ _ (got c.path_value.ensures.is c.in-Some.is) _ c.fetch-case.ensures.kind c.if-case-ne5.true)
+match_arm-returns-then-case-ne5 t c = visited_stuck c.args.at c.requires.0.visitable.room c.stuck-then-case-ne5.ensures (match_other _ _ _ _ _ _ _ _ _ _ _ (sym c.in-Some.ensures.is) _ c.fetch-case.ensures.kind c.if-case-ne5.true)
 
 pub match_arm-returns-then-head-case : goal.match_arm-returns-then-head-case
-match_arm-returns-then-head-case t c = visited_stuck c.args.at c.requires.0.visitable.room c.stuck-then-head-case.ensures (match_missing _ _ _ _ _ _ _ _ _ _ _ (got c.path_value.ensures.is c.in-Some.is) _ c.fetch-case.ensures.kind c.if-case-ne5.false _ c.fetch-case.ensures.a (no_arm c.requires.1 _ c.if-head-case.true))
+match_arm-returns-then-head-case t c = visited_stuck c.args.at c.requires.0.visitable.room c.stuck-then-head-case.ensures (match_missing _ _ _ _ _ _ _ _ _ _ _ (sym c.in-Some.ensures.is) _ c.fetch-case.ensures.kind c.if-case-ne5.false _ c.fetch-case.ensures.a (no_arm c.requires.1 _ c.if-head-case.true))
 
 pub match_arm-child_at-content-requires : goal.match_arm-child_at-content-requires
-match_arm-child_at-content-requires t c = arm_there c.requires.0 (c.path_value.ensures.stands _ (got c.path_value.ensures.is c.in-Some.is)) c.fetch-case.ensures c.if-case-ne5.false
+match_arm-child_at-content-requires t c = arm_there c.requires.0 (value_stands c.in-Some.ensures) c.fetch-case.ensures c.if-case-ne5.false
 
 pub match_arm-visit-requires : goal.match_arm-visit-requires
-match_arm-visit-requires t c = (omega (arith, c.decreases, arm_falls c.requires.0 (c.path_value.ensures.stands _ (got c.path_value.ensures.is c.in-Some.is)) c.fetch-case.ensures c.if-case-ne5.false (an_arm c.requires.1 _ c.if-head-case.false c.arm_of-arm.ensures.0) _ c.child_at-content.ensures _ c.bind.ensures c.below.ensures c.bound-below.ensures), arm_visitable c.requires.0 (c.path_value.ensures.stands _ (got c.path_value.ensures.is c.in-Some.is)) c.fetch-case.ensures c.if-case-ne5.false (an_arm c.requires.1 _ c.if-head-case.false c.arm_of-arm.ensures.0) _ c.child_at-content.ensures _ c.bind.ensures c.below.ensures c.bound-below.ensures c.arm_of-arm.ensures.1 c.bind.auto.scratch)
+match_arm-visit-requires t c = (omega (arith, c.decreases, arm_falls c.requires.0 (value_stands c.in-Some.ensures) c.fetch-case.ensures c.if-case-ne5.false (an_arm c.requires.1 _ c.if-head-case.false c.arm_of-arm.ensures.0) _ c.child_at-content.ensures _ c.bind.ensures c.below.ensures c.bound-below.ensures), arm_visitable c.requires.0 (value_stands c.in-Some.ensures) c.fetch-case.ensures c.if-case-ne5.false (an_arm c.requires.1 _ c.if-head-case.false c.arm_of-arm.ensures.0) _ c.child_at-content.ensures _ c.bind.ensures c.below.ensures c.bound-below.ensures c.arm_of-arm.ensures.1 c.bind.auto.scratch)
 
 pub match_arm-returns : goal.match_arm-returns
-match_arm-returns t c = arm_visited c.requires.0 (c.path_value.ensures.stands _ (got c.path_value.ensures.is c.in-Some.is)) c.fetch-case.ensures c.if-case-ne5.false (an_arm c.requires.1 _ c.if-head-case.false c.arm_of-arm.ensures.0) _ c.child_at-content.ensures _ c.bind.ensures c.below.ensures c.bound-below.ensures (got c.path_value.ensures.is c.in-Some.is) c.visit.ensures
+match_arm-returns t c = arm_visited c.requires.0 (value_stands c.in-Some.ensures) c.fetch-case.ensures c.if-case-ne5.false (an_arm c.requires.1 _ c.if-head-case.false c.arm_of-arm.ensures.0) _ c.child_at-content.ensures _ c.bind.ensures c.below.ensures c.bound-below.ensures (sym c.in-Some.ensures.is) c.visit.ensures
 
 pub sequence_items-returns-then-not-fills : goal.sequence_items-returns-then-not-fills
 sequence_items-returns-then-not-fills t c = sequence_lost c.requires.0 c.fetch-e.ensures (sym c.fills.ensures ∙ c.if-not-fills.true) c.stuck.ensures
@@ -211,6 +230,28 @@ sequence_items-loop-preserved t c = rw c.size_in-item.ensures.0 ((sequence_items
 pub sequence_items-returns : goal.sequence_items-returns
 sequence_items-returns t c = sequence_end c.requires.0 c.loop.invariant c.loop-test.false
 
+-- What is so of a node whose step is counted and which a level is left for: its form is the one of its head, and what it comes to by its form, it
+-- comes to.
+visit_formed : (t : ℕ) (c : visit-After-form_of t) {form : Form} → c.form_of.result ≡ form → Formed form (sources_of c.args.s.now) c.counted-here.result c.args.out.now c.args.scratch.now
+visit_formed t c e =
+    let spare = leb-false _ _ (sym c.spent.ensures ∙ c.if-spent.false) in
+    form_formed c.requires spare c.counted-here.ensures c.if-at-eq0.false (form_here c.requires spare c.counted-here.ensures c.fetch-head.ensures _ c.form_of.ensures ∙ e)
+
+visit_falls : (t : ℕ) (c : visit-After-form_of t) → c.counted-here.result.fuel - c.counted-here.result.steps < c.args.at.fuel - c.args.at.steps
+visit_falls t c = form_falls c.requires (leb-false _ _ (sym c.spent.ensures ∙ c.if-spent.false)) c.counted-here.ensures
+
+visit_visited : (t : ℕ) (c : visit-After-form_of t) {form : Form} → c.form_of.result ≡ form → {u : Run} {out' scratch' : List ℕ}
+    → VisitedFrom (form_end form (sources_of c.args.s.now) c.counted-here.result c.args.out.now c.args.scratch.now) c.counted-here.result u c.args.out.now out' c.args.scratch.now scratch'
+    → VisitedFrom (visit_end (sources_of c.args.s.now) c.args.at c.args.out.now c.args.scratch.now) c.args.at u c.args.out.now out' c.args.scratch.now scratch'
+visit_visited t c e v =
+    let spare = leb-false _ _ (sym c.spent.ensures ∙ c.if-spent.false) in
+    form_visited c.requires spare c.counted-here.ensures c.if-at-eq0.false (form_here c.requires spare c.counted-here.ensures c.fetch-head.ensures _ c.form_of.ensures ∙ e) v
+
+visit_ran : (t : ℕ) (c : visit-After-form_of t) {form : Form} → c.form_of.result ≡ form → {e : End} → e ≡ form_end form (sources_of c.args.s.now) c.counted-here.result c.args.out.now c.args.scratch.now
+    → {u : Run} {out' : List ℕ} → RanFrom e c.counted-here.result u c.args.out.now out'
+    → VisitedFrom (visit_end (sources_of c.args.s.now) c.args.at c.args.out.now c.args.scratch.now) c.args.at u c.args.out.now out' c.args.scratch.now c.args.scratch.now
+visit_ran t c e same v = visit_visited t c e (visited_ran _ _ (ran_is same v))
+
 pub visit-returns-then-spent : goal.visit-returns-then-spent
 visit-returns-then-spent t c = spent_visited c.requires _ (leb-true _ _ (sym c.spent.ensures ∙ c.if-spent.true)) c.ended.ensures
 
@@ -218,49 +259,49 @@ pub visit-returns-then-at-eq0 : goal.visit-returns-then-at-eq0
 visit-returns-then-at-eq0 t c = deepest_visited c.requires _ (leb-false _ _ (sym c.spent.ensures ∙ c.if-spent.false)) c.counted-here.ensures c.if-at-eq0.true c.ended-then-at-eq0.ensures
 
 pub visit-build_items-requires : goal.visit-build_items-requires
-visit-build_items-requires t c = (omega (arith, c.decreases, form_falls c.requires (leb-false _ _ (sym c.spent.ensures ∙ c.if-spent.false)) c.counted-here.ensures), (form_formed c.requires (leb-false _ _ (sym c.spent.ensures ∙ c.if-spent.false)) c.counted-here.ensures c.if-at-eq0.false (form_here c.requires (leb-false _ _ (sym c.spent.ensures ∙ c.if-spent.false)) c.counted-here.ensures c.fetch-head.ensures _ c.form_of.ensures ∙ c.in-Build.is), c.fetch-head.ensures))
+visit-build_items-requires t c = let h = (goal.at.visit-build_items-requires t c).After-form_of in (omega (arith, c.decreases, visit_falls t h), (visit_formed t h c.in-Build.is, c.fetch-head.ensures))
 
 pub visit-write-requires : goal.visit-write-requires
-visit-write-requires t c = (c.requires.lent.templates_sized, (form_formed c.requires (leb-false _ _ (sym c.spent.ensures ∙ c.if-spent.false)) c.counted-here.ensures c.if-at-eq0.false (form_here c.requires (leb-false _ _ (sym c.spent.ensures ∙ c.if-spent.false)) c.counted-here.ensures c.fetch-head.ensures _ c.form_of.ensures ∙ c.in-Literal.is)).visitable.room)
+visit-write-requires t c = let h = (goal.at.visit-write-requires t c).After-form_of in (c.requires.lent.templates_sized, (visit_formed t h c.in-Literal.is).visitable.room)
 
 pub visit-place-requires : goal.visit-place-requires
-visit-place-requires t c = let f = form_formed c.requires (leb-false _ _ (sym c.spent.ensures ∙ c.if-spent.false)) c.counted-here.ensures c.if-at-eq0.false (form_here c.requires (leb-false _ _ (sym c.spent.ensures ∙ c.if-spent.false)) c.counted-here.ensures c.fetch-head.ensures _ c.form_of.ensures ∙ c.in-Place.is) in (follows f, omega (arith, f.level, f.visitable.near), f.visitable.room, f.visitable.lent.grammar_sized, f.visitable.lent.productions_are, heads_some f.visitable.lent.productions_are)
+visit-place-requires t c = let h = (goal.at.visit-place-requires t c).After-form_of in let f = visit_formed t h c.in-Place.is in (follows f, omega (arith, f.level, f.visitable.near), f.visitable.room, f.visitable.lent.grammar_sized, f.visitable.lent.productions_are, heads_some f.visitable.lent.productions_are)
 
 pub visit-expand_body-requires : goal.visit-expand_body-requires
-visit-expand_body-requires t c = (omega (arith, c.decreases, form_falls c.requires (leb-false _ _ (sym c.spent.ensures ∙ c.if-spent.false)) c.counted-here.ensures), (form_formed c.requires (leb-false _ _ (sym c.spent.ensures ∙ c.if-spent.false)) c.counted-here.ensures c.if-at-eq0.false (form_here c.requires (leb-false _ _ (sym c.spent.ensures ∙ c.if-spent.false)) c.counted-here.ensures c.fetch-head.ensures _ c.form_of.ensures ∙ c.in-Expand.is), c.fetch-head.ensures))
+visit-expand_body-requires t c = let h = (goal.at.visit-expand_body-requires t c).After-form_of in (omega (arith, c.decreases, visit_falls t h), (visit_formed t h c.in-Expand.is, c.fetch-head.ensures))
 
 pub visit-if_branch-requires : goal.visit-if_branch-requires
-visit-if_branch-requires t c = (omega (arith, c.decreases, form_falls c.requires (leb-false _ _ (sym c.spent.ensures ∙ c.if-spent.false)) c.counted-here.ensures), form_formed c.requires (leb-false _ _ (sym c.spent.ensures ∙ c.if-spent.false)) c.counted-here.ensures c.if-at-eq0.false (form_here c.requires (leb-false _ _ (sym c.spent.ensures ∙ c.if-spent.false)) c.counted-here.ensures c.fetch-head.ensures _ c.form_of.ensures ∙ c.in-If.is))
+visit-if_branch-requires t c = let h = (goal.at.visit-if_branch-requires t c).After-form_of in (omega (arith, c.decreases, visit_falls t h), visit_formed t h c.in-If.is)
 
 pub visit-sequence_items-requires : goal.visit-sequence_items-requires
-visit-sequence_items-requires t c = (omega (arith, c.decreases, form_falls c.requires (leb-false _ _ (sym c.spent.ensures ∙ c.if-spent.false)) c.counted-here.ensures), (form_formed c.requires (leb-false _ _ (sym c.spent.ensures ∙ c.if-spent.false)) c.counted-here.ensures c.if-at-eq0.false (form_here c.requires (leb-false _ _ (sym c.spent.ensures ∙ c.if-spent.false)) c.counted-here.ensures c.fetch-head.ensures _ c.form_of.ensures ∙ c.in-Sequence.is), c.fetch-head.ensures))
+visit-sequence_items-requires t c = let h = (goal.at.visit-sequence_items-requires t c).After-form_of in (omega (arith, c.decreases, visit_falls t h), (visit_formed t h c.in-Sequence.is, c.fetch-head.ensures))
 
 pub visit-match_arm-requires : goal.visit-match_arm-requires
-visit-match_arm-requires t c = (omega (arith, c.decreases, form_falls c.requires (leb-false _ _ (sym c.spent.ensures ∙ c.if-spent.false)) c.counted-here.ensures), (form_formed c.requires (leb-false _ _ (sym c.spent.ensures ∙ c.if-spent.false)) c.counted-here.ensures c.if-at-eq0.false (form_here c.requires (leb-false _ _ (sym c.spent.ensures ∙ c.if-spent.false)) c.counted-here.ensures c.fetch-head.ensures _ c.form_of.ensures ∙ c.in-Match.is), c.fetch-head.ensures))
+visit-match_arm-requires t c = let h = (goal.at.visit-match_arm-requires t c).After-form_of in (omega (arith, c.decreases, visit_falls t h), (visit_formed t h c.in-Match.is, c.fetch-head.ensures))
 
 pub visit-returns-in-Build : goal.visit-returns-in-Build
-visit-returns-in-Build t c = form_visited c.requires (leb-false _ _ (sym c.spent.ensures ∙ c.if-spent.false)) c.counted-here.ensures c.if-at-eq0.false (form_here c.requires (leb-false _ _ (sym c.spent.ensures ∙ c.if-spent.false)) c.counted-here.ensures c.fetch-head.ensures _ c.form_of.ensures ∙ c.in-Build.is) c.build_items.ensures
+visit-returns-in-Build t c = let h = (goal.at.visit-returns-in-Build t c).After-form_of in visit_visited t h c.in-Build.is c.build_items.ensures
 
 pub visit-returns-in-Literal : goal.visit-returns-in-Literal
-visit-returns-in-Literal t c = form_ran c.requires (leb-false _ _ (sym c.spent.ensures ∙ c.if-spent.false)) c.counted-here.ensures c.if-at-eq0.false (form_here c.requires (leb-false _ _ (sym c.spent.ensures ∙ c.if-spent.false)) c.counted-here.ensures c.fetch-head.ensures _ c.form_of.ensures ∙ c.in-Literal.is) (literal_is _ _ _ _ _ _ _ _ _ _ _ c.fetch-head.ensures.b) c.write.ensures
+visit-returns-in-Literal t c = let h = (goal.at.visit-returns-in-Literal t c).After-form_of in visit_ran t h c.in-Literal.is (literal_is _ _ _ _ _ _ _ _ _ _ _ c.fetch-head.ensures.b) c.write.ensures
 
 pub visit-returns-in-Place : goal.visit-returns-in-Place
-visit-returns-in-Place t c = form_ran c.requires (leb-false _ _ (sym c.spent.ensures ∙ c.if-spent.false)) c.counted-here.ensures c.if-at-eq0.false (form_here c.requires (leb-false _ _ (sym c.spent.ensures ∙ c.if-spent.false)) c.counted-here.ensures c.fetch-head.ensures _ c.form_of.ensures ∙ c.in-Place.is) (place_is _ _ _ _ _ _) c.place.ensures
+visit-returns-in-Place t c = let h = (goal.at.visit-returns-in-Place t c).After-form_of in visit_ran t h c.in-Place.is (place_is _ _ _ _ _ _) c.place.ensures
 
 pub visit-returns-in-Expand : goal.visit-returns-in-Expand
-visit-returns-in-Expand t c = form_visited c.requires (leb-false _ _ (sym c.spent.ensures ∙ c.if-spent.false)) c.counted-here.ensures c.if-at-eq0.false (form_here c.requires (leb-false _ _ (sym c.spent.ensures ∙ c.if-spent.false)) c.counted-here.ensures c.fetch-head.ensures _ c.form_of.ensures ∙ c.in-Expand.is) c.expand_body.ensures
+visit-returns-in-Expand t c = let h = (goal.at.visit-returns-in-Expand t c).After-form_of in visit_visited t h c.in-Expand.is c.expand_body.ensures
 
 pub visit-returns-in-If : goal.visit-returns-in-If
-visit-returns-in-If t c = form_visited c.requires (leb-false _ _ (sym c.spent.ensures ∙ c.if-spent.false)) c.counted-here.ensures c.if-at-eq0.false (form_here c.requires (leb-false _ _ (sym c.spent.ensures ∙ c.if-spent.false)) c.counted-here.ensures c.fetch-head.ensures _ c.form_of.ensures ∙ c.in-If.is) c.if_branch.ensures
+visit-returns-in-If t c = let h = (goal.at.visit-returns-in-If t c).After-form_of in visit_visited t h c.in-If.is c.if_branch.ensures
 
 pub visit-returns-in-For : goal.visit-returns-in-For
-visit-returns-in-For t c = form_visited c.requires (leb-false _ _ (sym c.spent.ensures ∙ c.if-spent.false)) c.counted-here.ensures c.if-at-eq0.false (form_here c.requires (leb-false _ _ (sym c.spent.ensures ∙ c.if-spent.false)) c.counted-here.ensures c.fetch-head.ensures _ c.form_of.ensures ∙ c.in-For.is) (visited_stuck c.counted-here.result (form_formed c.requires (leb-false _ _ (sym c.spent.ensures ∙ c.if-spent.false)) c.counted-here.ensures c.if-at-eq0.false (form_here c.requires (leb-false _ _ (sym c.spent.ensures ∙ c.if-spent.false)) c.counted-here.ensures c.fetch-head.ensures _ c.form_of.ensures ∙ c.in-For.is)).visitable.room c.stuck.ensures (for_piece _ _ _ _ _ _ _ _ _ _))
+visit-returns-in-For t c = let h = (goal.at.visit-returns-in-For t c).After-form_of in visit_visited t h c.in-For.is (visited_stuck c.counted-here.result (visit_formed t h c.in-For.is).visitable.room c.stuck.ensures (for_piece _ _ _ _ _ _ _ _ _ _))
 
 pub visit-returns-in-Sequence : goal.visit-returns-in-Sequence
-visit-returns-in-Sequence t c = form_visited c.requires (leb-false _ _ (sym c.spent.ensures ∙ c.if-spent.false)) c.counted-here.ensures c.if-at-eq0.false (form_here c.requires (leb-false _ _ (sym c.spent.ensures ∙ c.if-spent.false)) c.counted-here.ensures c.fetch-head.ensures _ c.form_of.ensures ∙ c.in-Sequence.is) c.sequence_items.ensures
+visit-returns-in-Sequence t c = let h = (goal.at.visit-returns-in-Sequence t c).After-form_of in visit_visited t h c.in-Sequence.is c.sequence_items.ensures
 
 pub visit-returns-in-Match : goal.visit-returns-in-Match
-visit-returns-in-Match t c = form_visited c.requires (leb-false _ _ (sym c.spent.ensures ∙ c.if-spent.false)) c.counted-here.ensures c.if-at-eq0.false (form_here c.requires (leb-false _ _ (sym c.spent.ensures ∙ c.if-spent.false)) c.counted-here.ensures c.fetch-head.ensures _ c.form_of.ensures ∙ c.in-Match.is) c.match_arm.ensures
+visit-returns-in-Match t c = let h = (goal.at.visit-returns-in-Match t c).After-form_of in visit_visited t h c.in-Match.is c.match_arm.ensures
 
 pub visit-returns-in-Unknown : goal.visit-returns-in-Unknown
-visit-returns-in-Unknown t c = form_visited c.requires (leb-false _ _ (sym c.spent.ensures ∙ c.if-spent.false)) c.counted-here.ensures c.if-at-eq0.false (form_here c.requires (leb-false _ _ (sym c.spent.ensures ∙ c.if-spent.false)) c.counted-here.ensures c.fetch-head.ensures _ c.form_of.ensures ∙ c.in-Unknown.is) (visited_stuck c.counted-here.result (form_formed c.requires (leb-false _ _ (sym c.spent.ensures ∙ c.if-spent.false)) c.counted-here.ensures c.if-at-eq0.false (form_here c.requires (leb-false _ _ (sym c.spent.ensures ∙ c.if-spent.false)) c.counted-here.ensures c.fetch-head.ensures _ c.form_of.ensures ∙ c.in-Unknown.is)).visitable.room c.stuck-in-Unknown.ensures (unknown_is _ _ _ _ _ _ _ _ _ _))
+visit-returns-in-Unknown t c = let h = (goal.at.visit-returns-in-Unknown t c).After-form_of in visit_visited t h c.in-Unknown.is (visited_stuck c.counted-here.result (visit_formed t h c.in-Unknown.is).visitable.room c.stuck-in-Unknown.ensures (unknown_is _ _ _ _ _ _ _ _ _ _))
