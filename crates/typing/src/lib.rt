@@ -2,6 +2,7 @@
 #![tactic(auto)]
 
 mod asked;
+mod checker;
 mod kinds;
 mod nodes;
 mod suits;

@@ -6,11 +6,11 @@ ghost use Rattle.rules.specs.Blocks.{stream_length};
 ghost use Rattle.rules.specs.Typing.{misfit};
 ghost use Rattle.stream.specs.Record.{Fetched};
 ghost use Rattle.typing.specs.Answers.{site_of, entry_of, brings_of, brought, bindings, Bound, FrameIn, sites_in, Checked};
-ghost use Rattle.typing.specs.Asks.{CheckerTables, FrameReady, RowReady, Scope};
+ghost use Rattle.typing.specs.Asks.{FrameReady, RowReady, Scope};
 
 use crate::asked::position_at;
-use crate::suits::own_test;
-use crate::{Below, Brings, Frame, Misfit, Positions, RECORDS, VARIABLES};
+use crate::checker::Checker;
+use crate::{Below, Brings, Frame, Misfit, Positions, VARIABLES};
 use records::node::size_in;
 use stream::record::{Record, fetch};
 
@@ -32,133 +32,80 @@ fn bind(t: &[u8], scope: &mut [u16; VARIABLES], count: usize, brings: Brings, i:
     }
 }
 
-// The frame of node i of a row, which is at a place and has `count` variables in scope beside what it brings. One match answers for its position
-// and its variable: a build's row, which brings nothing, then costs no more than its positions.
-fn frame_in(
-    g: &[u8],
-    t: &[u8],
-    asked: &[u16; RECORDS],
-    scope: &mut [u16; VARIABLES],
-    count: usize,
-    positions: Positions,
-    at: usize,
-    i: usize,
-) -> Frame
-    requires { (stream_length g.now ≡ none) × (stream_length t.now ≡ none) × (i < 65536) × (entry_of positions i < 8064) × (Scope scope.old (count + brought (brings_of positions))) }
-    ensures { FrameIn g.now t.now asked.now scope.old count positions at i scope.new result }
-{
-    match positions {
-        Positions::Alike(position, brings) => Frame {
-            node: at,
-            position,
-            count: bind(t, scope, count, brings, i),
-        },
-        Positions::Asked(q) => Frame {
-            node: at,
-            position: position_at(g, asked[usize::from(q) + 1 + i]),
-            count,
-        },
+impl Checker<'_> {
+    // The frame of node i of a row, which is at a place and has `count` variables in scope beside what it brings. One match answers for its position
+    // and its variable: a build's row, which brings nothing, then costs no more than its positions.
+    fn frame_in(
+        &self,
+        scope: &mut [u16; VARIABLES],
+        count: usize,
+        positions: Positions,
+        at: usize,
+        i: usize,
+    ) -> Frame
+        requires { (i < 65536) × (entry_of positions i < 8064) × (Scope scope.old (count + brought (brings_of positions))) }
+        ensures { FrameIn self.now.g.now self.now.t.now self.now.asked.now scope.old count positions at i scope.new result }
+    {
+        match positions {
+            Positions::Alike(position, brings) => Frame {
+                node: at,
+                position,
+                count: bind(self.t, scope, count, brings, i),
+            },
+            Positions::Asked(q) => Frame {
+                node: at,
+                position: position_at(self.g, self.asked[usize::from(q) + 1 + i]),
+                count,
+            },
+        }
     }
-}
 
-// The first node that does not suit its position, of a row of nodes with so many variables in scope beside what they bring, and of all that stands
-// below them.
-#[cycle(nodes)]
-fn row(
-    g: &[u8],
-    t: &[u8],
-    classes: &[u16],
-    sets: &[u16],
-    productions: &[u16],
-    asked: &[u16; RECORDS],
-    types: &[u16],
-    templates: &[u16],
-    scope: &mut [u16; VARIABLES],
-    below: Below,
-    count: usize,
-    left: usize,
-) -> Result<(), Misfit>
-    requires { (CheckerTables g.now t.now classes.now sets.now productions.now asked.now types.now templates.now) × (RowReady left t.now below count) × (length scope.old ≡ 24) }
-    ensures { Checked (every (misfit g.now t.now left) (sites_in g.now t.now asked.now (take count scope.old) below)) count scope.old scope.new result }
-{
-    let mut at = below.first;
-    for i in 0..below.count {
-        let f = frame_in(g, t, asked, scope, count, below.positions, at, i);
-        let head = fetch(t, f.node);
-        check(
-            g,
-            t,
-            classes,
-            sets,
-            productions,
-            asked,
-            types,
-            templates,
-            scope,
-            f,
-            head,
-            left,
-        )?;
-        at += size_in(head);
+    // The first node that does not suit its position, of a row of nodes with so many variables in scope beside what they bring, and of all that stands
+    // below them.
+    #[cycle(nodes)]
+    fn row(
+        &self,
+        scope: &mut [u16; VARIABLES],
+        below: Below,
+        count: usize,
+        left: usize,
+    ) -> Result<(), Misfit>
+        requires { (RowReady left self.now.t.now below count) × (length scope.old ≡ 24) }
+        ensures { Checked (every (misfit self.now.g.now self.now.t.now left) (sites_in self.now.g.now self.now.t.now self.now.asked.now (take count scope.old) below)) count scope.old scope.new result }
+    {
+        let mut at = below.first;
+        for i in 0..below.count {
+            let f = self.frame_in(scope, count, below.positions, at, i);
+            let head = fetch(self.t, f.node);
+            self.check(scope, f, head, left)?;
+            at += size_in(head);
+        }
+        Ok(())
     }
-    Ok(())
-}
 
-// The first node from the frame's on that does not suit its position, where `left` levels are left. A build, an if, a for, a sequence and a match
-// differ only in the row that stands below them. The node's head comes from the caller: a row needs it too, for the node's size.
-#[cycle(nodes)]
-pub fn check(
-    g: &[u8],
-    t: &[u8],
-    classes: &[u16],
-    sets: &[u16],
-    productions: &[u16],
-    asked: &[u16; RECORDS],
-    types: &[u16],
-    templates: &[u16],
-    scope: &mut [u16; VARIABLES],
-    f: Frame,
-    head: Record,
-    left: usize,
-) -> Result<(), Misfit>
-    requires { (CheckerTables g.now t.now classes.now sets.now productions.now asked.now types.now templates.now) × (FrameReady left t.now f) × (length scope.old ≡ 24) × (Fetched t.now f.node head) }
-    ensures { Checked (misfit g.now t.now left (site_of scope.old f)) f.count scope.old scope.new result }
-{
-    let misfit = Misfit {
-        node: f.node,
-        position: f.position,
-    };
-    if left == 0 {
-        return Err(misfit);
+    // The first node from the frame's on that does not suit its position, where `left` levels are left. A build, an if, a for, a sequence and a match
+    // differ only in the row that stands below them. The node's head comes from the caller: a row needs it too, for the node's size.
+    #[cycle(nodes)]
+    pub fn check(
+        &self,
+        scope: &mut [u16; VARIABLES],
+        f: Frame,
+        head: Record,
+        left: usize,
+    ) -> Result<(), Misfit>
+        requires { (FrameReady left self.now.t.now f) × (length scope.old ≡ 24) × (Fetched self.now.t.now f.node head) }
+        ensures { Checked (misfit self.now.g.now self.now.t.now left (site_of scope.old f)) f.count scope.old scope.new result }
+    {
+        let misfit = Misfit {
+            node: f.node,
+            position: f.position,
+        };
+        if left == 0 {
+            return Err(misfit);
+        }
+        let Some(below) = self.own_test(scope, f, head) else {
+            return Err(misfit);
+        };
+        self.row(scope, below, f.count, left - 1)
     }
-    let own = own_test(
-        g,
-        t,
-        classes,
-        sets,
-        productions,
-        asked,
-        types,
-        templates,
-        scope,
-        f,
-        head,
-    );
-    let Some(below) = own else {
-        return Err(misfit);
-    };
-    row(
-        g,
-        t,
-        classes,
-        sets,
-        productions,
-        asked,
-        types,
-        templates,
-        scope,
-        below,
-        f.count,
-        left - 1,
-    )
 }

@@ -10,8 +10,8 @@ ghost use Rattle.typing.specs.Answers.{found};
 ghost use Rattle.typing.specs.Asks.{TemplatesAsk, BodyOf};
 
 use crate::asked::fill;
+use crate::checker::Checker;
 use crate::kinds::head;
-use crate::nodes::check;
 use crate::{Frame, LEVELS, RECORDS, VARIABLES};
 use rules::Position;
 use stream::record::fetch;
@@ -74,24 +74,20 @@ pub fn templates_typing(
     }
     let mut asked = [0u16; RECORDS];
     fill(g, productions, &mut asked);
+    let checker = Checker {
+        g,
+        t,
+        classes,
+        sets,
+        productions,
+        asked: &asked,
+        types,
+        templates,
+    };
     for q in templates {
         let f = body_frame(t, *q);
         let mut scope = parameter_types(t, *q, f.count);
-        let one = check(
-            g,
-            t,
-            classes,
-            sets,
-            productions,
-            &asked,
-            types,
-            templates,
-            &mut scope,
-            f,
-            fetch(t, f.node),
-            LEVELS,
-        );
-        if let Err(misfit) = one {
+        if let Err(misfit) = checker.check(&mut scope, f, fetch(t, f.node), LEVELS) {
             return Err(misfit.node);
         }
     }

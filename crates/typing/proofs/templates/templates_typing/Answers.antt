@@ -10,7 +10,7 @@ pub returns-then-is_none : goal.returns-then-is_none
 returns-then-is_none c = whole_missing _ _ (missing _ c.declared_type.ensures c.if-is_none.ensures)
 
 pub loop-q-init : goal.loop-q-init
-loop-q-init c = (c.fill.ensures, whole_is _ _ _ c.requires.templates_are _ (there _ c.declared_type.ensures c.if-is_none.ensures).1)
+loop-q-init c = whole_is _ _ _ c.requires.templates_are _ (there _ c.declared_type.ensures c.if-is_none.ensures).1
 
 pub body_frame-f-requires : goal.body_frame-f-requires
 body_frame-f-requires c = (c.requires.sized_t, few_parameters _ _ c.requires.templates_are c.requires.limits _ c.loop-q-test.true)
@@ -18,14 +18,17 @@ body_frame-f-requires c = (c.requires.sized_t, few_parameters _ _ c.requires.tem
 pub parameter_types-scope-requires : goal.parameter_types-scope-requires
 parameter_types-scope-requires c = (c.requires.sized_t, omega (arith, c.body_frame-f.ensures.count_is, few_parameters _ _ c.requires.templates_are c.requires.limits _ c.loop-q-test.true))
 
-pub check-one-requires : goal.check-one-requires
-check-one-requires c = (record { lexemes = c.requires.lexemes; builds = record { productions_are = c.requires.productions_are; filled = c.loop-q.invariant.0; sized = c.requires.sized_g }; types = record { types_are = c.requires.types_are; sized = c.requires.sized_t }; templates_are = c.requires.templates_are }, body_ready _ _ c.requires.templates_are c.requires.limits _ c.loop-q-test.true _ c.body_frame-f.ensures, c.parameter_types-scope.ensures.1, c.fetch.ensures)
+pub invariant_of-checker : goal.invariant_of-checker
+invariant_of-checker c = record { ready = record { lexemes = c.requires.lexemes; builds = record { productions_are = c.requires.productions_are; filled = c.fill.ensures; sized = c.requires.sized_g }; types = record { types_are = c.requires.types_are; sized = c.requires.sized_t }; templates_are = c.requires.templates_are } }
+
+pub check-requires : goal.check-requires
+check-requires c = (body_ready _ _ c.requires.templates_are c.requires.limits _ c.loop-q-test.true _ c.body_frame-f.ensures, c.parameter_types-scope.ensures.1, c.fetch.ensures)
 
 pub returns-in-Err : goal.returns-in-Err
-returns-in-Err c = every_stop _ c.loop-q.invariant.1 (drop_more _ _ c.loop-q-test.true) (body_wrong _ _ _ _ c.body_frame-f.ensures _ c.parameter_types-scope.ensures.0 _ c.check-one.ensures.says c.in-Err.is)
+returns-in-Err c = every_stop _ c.loop-q.invariant (drop_more _ _ c.loop-q-test.true) (body_wrong _ _ _ _ c.body_frame-f.ensures _ c.parameter_types-scope.ensures.0 _ c.check.ensures.says c.in-Err.is)
 
 pub loop-q-preserved : goal.loop-q-preserved
-loop-q-preserved c = (c.loop-q.invariant.0, every_next _ c.loop-q.invariant.1 (drop_more _ _ c.loop-q-test.true) (body_right _ _ _ _ c.body_frame-f.ensures _ c.parameter_types-scope.ensures.0 _ c.check-one.ensures.says c.in_default.is))
+loop-q-preserved c = every_next _ c.loop-q.invariant (drop_more _ _ c.loop-q-test.true) (body_right _ _ _ _ c.body_frame-f.ensures _ c.parameter_types-scope.ensures.0 _ c.check.ensures.says c.in_default.is)
 
 pub returns : goal.returns
-returns c = every_end _ c.loop-q.invariant.1 (drop_done _ _ c.loop-q-test.false)
+returns c = every_end _ c.loop-q.invariant (drop_done _ _ c.loop-q-test.false)

@@ -3,9 +3,8 @@ use mathlib.Core.Path.{◌≡◌}
 use lib.ListN.{drop}
 use Rattle.rules.specs.Faults.{every}
 use Rattle.rules.specs.Typing.{templates_typing}
-use Rattle.typing.specs.Asked.{AskedFilled}
 use Rattle.typing.proofs.TemplateLaws.{wrong_in}
 use Rattle.typing.proofs.templates.templates_typing.Given as goal
 
 abbrev pub invariant-loop-q : goal.invariant-loop-q
-invariant-loop-q l = (AskedFilled l.g l.asked) × (every (wrong_in l.g l.t) (drop l.q-index l.templates) ≡ templates_typing l.g l.t)
+invariant-loop-q l = every (wrong_in l.g l.t) (drop l.q-index l.templates) ≡ templates_typing l.g l.t

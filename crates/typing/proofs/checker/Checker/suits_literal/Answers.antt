@@ -1,6 +1,6 @@
 use mathlib.Core.Path.{sym, ◌∙◌}
 use Rattle.typing.proofs.SuitsLaws.{literal_nothing, literal_is}
-use Rattle.typing.proofs.suits.suits_literal.Goals as goal
+use Rattle.typing.proofs.checker.Checker.suits_literal.Goals as goal
 
 pub returns-in_default : goal.returns-in_default
 returns-in_default c = λ scope. literal_nothing _ _ _ (sym c.in_default.ensures)

@@ -2,7 +2,7 @@
 use mathlib.Core.Path.{◌≡◌}
 use lib.ListN.{take}
 use Rattle.typing.proofs.ExpandLaws.{fits}
-use Rattle.typing.proofs.suits.arguments_fit.Given as goal
+use Rattle.typing.proofs.checker.Checker.arguments_fit.Given as goal
 
 abbrev pub invariant-loop-i : goal.invariant-loop-i
-invariant-loop-i l = fits l.t (take l.f.count l.scope) l.n l.f.node l.q l.i ≡ fits l.t (take l.f.count l.scope) l.n l.f.node l.q 0
+invariant-loop-i l = fits l.self.t.now (take l.f.count l.scope) l.n l.f.node l.q l.i ≡ fits l.self.t.now (take l.f.count l.scope) l.n l.f.node l.q 0

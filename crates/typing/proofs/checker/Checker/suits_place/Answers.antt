@@ -5,7 +5,7 @@ use Rattle.rules.specs.Faults.{on_found}
 use Rattle.rules.specs.Typing.{text_class}
 use Rattle.typing.proofs.KindLaws.{no_text}
 use Rattle.typing.proofs.SuitsLaws.{place_nothing, place_is}
-use Rattle.typing.proofs.suits.suits_place.Goals as goal
+use Rattle.typing.proofs.checker.Checker.suits_place.Goals as goal
 
 pub returns-in_default : goal.returns-in_default
 returns-in_default c = place_nothing _ _ _ (sym c.in_default.ensures)

@@ -2,7 +2,7 @@ use mathlib.Core.Path.{refl, sym}
 use Rattle.rules.specs.Typing.{item_type}
 use Rattle.typing.proofs.KindLaws.{no_items}
 use Rattle.typing.proofs.SuitsLaws.{unsuited, suited, for_nothing, for_other, for_is}
-use Rattle.typing.proofs.suits.suits_for.Goals as goal
+use Rattle.typing.proofs.checker.Checker.suits_for.Goals as goal
 
 pub returns-in_err-n : goal.returns-in_err-n
 returns-in_err-n c = λ g asked. rw c.from_residual.ensures (unsuited (for_nothing g _ _ (sym c.in_err-n.ensures)))

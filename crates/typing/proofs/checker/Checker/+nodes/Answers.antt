@@ -4,28 +4,28 @@ use native.Mathlib.Omega.{arith}
 use Rattle.std.proofs.lemmas.Result.{err_from_is_err_and}
 use Rattle.typing.proofs.LimitLaws.{ready_few, below_ready}
 use Rattle.typing.proofs.NodeLaws.{misfit_deep, misfit_own, turn_room, turn_ready, turn_stop, turn_next, turn_end, checked_own, checked_below}
-use Rattle.typing.proofs.nodes.+nodes.Goals as goal
+use Rattle.typing.proofs.checker.Checker.+nodes.Goals as goal
 
 pub check-returns-then-left-eq0 : goal.check-returns-then-left-eq0
-check-returns-then-left-eq0 t c = checked_own _ c.requires.2 (misfit_deep _ _ _ _ c.if-left-eq0.true)
+check-returns-then-left-eq0 t c = checked_own _ c.requires.1 (misfit_deep _ _ _ _ c.if-left-eq0.true)
 
-pub check-own_test-own-requires : goal.check-own_test-own-requires
-check-own_test-own-requires t c = (c.requires.0, omega (arith, c.requires.1.near, c.if-left-eq0.false), (record { full = c.requires.2; few = ready_few c.if-left-eq0.false c.requires.1 }), c.requires.3)
+pub check-own_test-requires : goal.check-own_test-requires
+check-own_test-requires t c = (omega (arith, c.requires.0.near, c.if-left-eq0.false), (record { full = c.requires.1; few = ready_few c.if-left-eq0.false c.requires.0 }), c.requires.2)
 
 pub check-returns-in_default : goal.check-returns-in_default
-check-returns-in_default t c = checked_own _ c.requires.2 (misfit_own _ _ _ _ c.if-left-eq0.false (c.own_test-own.ensures.fails c.in_default.is))
+check-returns-in_default t c = checked_own _ c.requires.1 (misfit_own _ _ _ _ c.if-left-eq0.false (c.own_test.ensures.fails c.in_default.is))
 
 pub check-row-requires : goal.check-row-requires
-check-row-requires t c = (omega (arith, c.decreases, c.if-left-eq0.false), (c.requires.0, below_ready c.if-left-eq0.false c.requires.1 _ _ _ (c.own_test-own.ensures.stands _ c.in-Some.is), c.requires.2))
+check-row-requires t c = (omega (arith, c.decreases, c.if-left-eq0.false), (below_ready c.if-left-eq0.false c.requires.0 _ _ _ (c.own_test.ensures.stands _ c.in-Some.is), c.requires.1))
 
 pub check-returns : goal.check-returns
-check-returns t c = checked_below _ _ _ c.if-left-eq0.false (c.own_test-own.ensures.stands _ c.in-Some.is) c.row.ensures
+check-returns t c = checked_below _ _ _ c.if-left-eq0.false (c.own_test.ensures.stands _ c.in-Some.is) c.row.ensures
 
 pub row-frame_in-f-requires : goal.row-frame_in-f-requires
-row-frame_in-f-requires t c = (c.requires.0.builds.sized, c.requires.0.types.sized, omega (arith, c.requires.1.many, c.loop-i-test.true), c.requires.1.inside _ c.loop-i-test.true, turn_room c.loop-i.invariant c.loop-i-test.true)
+row-frame_in-f-requires t c = (omega (arith, c.requires.0.many, c.loop-i-test.true), c.requires.0.inside _ c.loop-i-test.true, turn_room c.loop-i.invariant c.loop-i-test.true)
 
 pub row-check-requires : goal.row-check-requires
-row-check-requires t c = (omega (arith, c.decreases), (c.requires.0, turn_ready c.loop-i.invariant c.loop-i-test.true c.frame_in-f.ensures c.requires.1, c.frame_in-f.ensures.bound.full, c.fetch-head.ensures))
+row-check-requires t c = (omega (arith, c.decreases), (turn_ready c.loop-i.invariant c.loop-i-test.true c.frame_in-f.ensures c.requires.0, c.frame_in-f.ensures.bound.full, c.fetch-head.ensures))
 
 pub row-returns-in_err-check : goal.row-returns-in_err-check
 row-returns-in_err-check t c = let p = err_from_is_err_and c.from_residual.result c.from_residual.ensures.1 in rw (p.1, p.2) (turn_stop c.loop-i.invariant c.loop-i-test.true c.frame_in-f.ensures _ c.check.ensures c.in_err-check.was)

@@ -2,7 +2,7 @@
 use mathlib.Core.Path.{sym, ◌∙◌}
 use native.Mathlib.Omega.{arith}
 use Rattle.typing.proofs.ExpandLaws.{fits_start, fits_done, fits_nothing, fits_other, fits_next}
-use Rattle.typing.proofs.suits.arguments_fit.Goals as goal
+use Rattle.typing.proofs.checker.Checker.arguments_fit.Goals as goal
 
 pub returns-in_default : goal.returns-in_default
 returns-in_default c = sym (fits_nothing _ _ _ _ _ _ c.loop-i-test.true (sym c.in_default.ensures)) ∙ c.loop-i.invariant ∙ fits_start _ _ _ _ _

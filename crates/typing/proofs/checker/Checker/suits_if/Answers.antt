@@ -2,7 +2,7 @@ use mathlib.Core.Path.{refl, sym}
 use Rattle.rules.specs.Typing.{is_yes_no}
 use Rattle.typing.proofs.KindLaws.{no_yes_no}
 use Rattle.typing.proofs.SuitsLaws.{unsuited, suited, if_nothing, if_other, if_is}
-use Rattle.typing.proofs.suits.suits_if.Goals as goal
+use Rattle.typing.proofs.checker.Checker.suits_if.Goals as goal
 
 pub returns-in_err-n : goal.returns-in_err-n
 returns-in_err-n c = λ g asked. rw c.from_residual.ensures (unsuited (if_nothing g _ _ (sym c.in_err-n.ensures)))

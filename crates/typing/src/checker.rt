@@ -1,0 +1,19 @@
+// What a check of the templates is lent.
+ghost use Rattle.typing.specs.Asks.{CheckerTables};
+
+use crate::RECORDS;
+
+// The grammar and the templates, and the tables that hold their heads by their numbers: the classes with the sets of their characters, the
+// productions with their asked elements, the types and the templates.
+#[derive(Clone, Copy)]
+pub struct Checker<'a> {
+    pub g: &'a [u8],
+    pub t: &'a [u8],
+    pub classes: &'a [u16],
+    pub sets: &'a [u16],
+    pub productions: &'a [u16],
+    pub asked: &'a [u16; RECORDS],
+    pub types: &'a [u16],
+    pub templates: &'a [u16],
+    ghost ready: { CheckerTables g.now t.now classes.now sets.now productions.now asked.now types.now templates.now },
+}
