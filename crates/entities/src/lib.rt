@@ -3,5 +3,6 @@
 
 pub mod entity;
 pub mod escape;
+pub mod first_bytes;
 pub mod unescape;
 mod utf8;

@@ -1,8 +1,9 @@
 // UTF-8 by RFC 3629, byte by byte, where no class is asked.
 ghost use Rattle.std.specs.Prelude.{◌≡◌, true, [], ◌<◌};
 ghost use Rattle.rules.specs.Lexeme.{broken, first_byte, later_byte};
-ghost use Rattle.laws.specs.FirstBytes.{least_next, most_next};
 ghost use Rattle.entities.specs.Utf8.{shape, calm, due_in, resumed, next_shape};
+
+use crate::first_bytes::{least_next, most_next};
 
 // Between two bytes: whether all was well so far; how many bytes of a character are still due, the next of them from low to high.
 #[derive(Clone, Copy)]
@@ -40,28 +41,6 @@ fn broken() -> Utf8
         due: 0,
         low: 0,
         high: 0,
-    }
-}
-
-// RFC 3629, section 4: some first bytes narrow the range of the second, so that no character has two spellings, none is a surrogate and none is
-// past U+10FFFF.
-fn least_next(b: u8) -> u8
-    ensures { result ≡ least_next b }
-{
-    match b {
-        0xe0 => 0xa0,
-        0xf0 => 0x90,
-        _ => 0x80,
-    }
-}
-
-fn most_next(b: u8) -> u8
-    ensures { result ≡ most_next b }
-{
-    match b {
-        0xed => 0x9f,
-        0xf4 => 0x8f,
-        _ => 0xbf,
     }
 }
 

@@ -1,7 +1,7 @@
 use native.Mathlib.Omega.{arith}
 use borrow.Author.Tests.{ne_eqb}
 use Rattle.laws.specs.FirstBytes.{most_next}
-use Rattle.entities.proofs.utf8.most_next.Goals as goal
+use Rattle.entities.proofs.first_bytes.most_next.Goals as goal
 
 pub returns-in-237 : goal.returns-in-237
 unfolding most_next

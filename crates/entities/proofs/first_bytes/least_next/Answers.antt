@@ -1,7 +1,7 @@
 use native.Mathlib.Omega.{arith}
 use borrow.Author.Tests.{ne_eqb}
 use Rattle.laws.specs.FirstBytes.{least_next}
-use Rattle.entities.proofs.utf8.least_next.Goals as goal
+use Rattle.entities.proofs.first_bytes.least_next.Goals as goal
 
 pub returns-in-224 : goal.returns-in-224
 unfolding least_next
