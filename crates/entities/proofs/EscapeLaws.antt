@@ -1,13 +1,17 @@
 -- Escaping in parts, and a text laid down piece by piece.
-use Prim.Native.Nat.{ℕ, ◌+◌, ◌-◌, ◌*◌, ◌/◌, max, ◌≤◌, ◌<◌}
+use Prim.Native.Nat.{ℕ, ◌+◌, ◌-◌, ◌*◌, ◌/◌, ◌≤◌, ◌<◌}
 use mathlib.Core.Path.{◌≡◌, refl, ap, sym, ◌∙◌}
+use mathlib.Core.Bool.{Bool, true, false, ◌&&◌, false≢true}
+use Rattle.std.specs.List.{fold}
+use Rattle.std.specs.Prelude.{Option as Maybe, Some, None, is_some, not}
+use Rattle.std.specs.Borrow.{Bor}
 use mathlib.Core.List.{List, [], ◌∷◌, ◌++◌, append_assoc, append-nil}
 use native.Mathlib.Omega.{arith}
 use native.Mathlib.Numerals.{add-one}
 use native.Mathlib.Nat.{add-zero}
 use lib.ListN.{length, take, drop, get_or, set, length-append, length-drop, take-append-drop}
 use lib.Seq.{drop-drop, take-suc, take_at, drop_at, take-length}
-use borrow.Author.Tests.{le-leb}
+use borrow.Author.Tests.{le-leb, ne_eqb}
 use borrow.Rule.Slice.PartMut.{put_mid}
 use Rattle.rules.specs.Escape.{entity, escape}
 use Rattle.laws.specs.Escapes.{ampersand, less, greater, quote, apostrophe, itself, turned, entity_itself}
@@ -15,6 +19,7 @@ use Rattle.laws.specs.Writes.{take_rest, put_rest}
 use Rattle.stream.specs.declared.text.Text.{Text}
 use Rattle.stream.specs.Text.{text_in, part_of, Rest, with_text, Copied}
 use Rattle.stream.proofs.TextLaws.{text_end_lem, text_length_lem}
+use Rattle.entities.specs.Entity.{own, EntityOf}
 use Rattle.entities.specs.Put.{Put}
 
 -- Escaping, part by part
@@ -57,11 +62,38 @@ unfolding escape
 escape_short [] = omega arith
 escape_short (b ∷ bs) = simp length-append (omega (arith, entity_short b, escape_short bs))
 
--- a part without any of the five
-pub plain_more : (part : List ℕ) (i found mark : ℕ) → i < length part → (found ≡ 0 → escape (take i part) ≡ take i part)
-    → (mark ≡ 0 → entity (get_or part i 0) ≡ get_or part i 0 ∷ []) → max found mark ≡ 0 → escape (take (i + 1) part) ≡ take (i + 1) part
-plain_more part i found mark l h m e =
-    escape_more part i l ∙ rw (h (omega arith), m (omega arith), add-one, take-suc part i 0 l)
+-- a byte that stands for itself, and a part of such bytes
+pub own_entity : (b : ℕ) → own b ≡ true → entity b ≡ b ∷ []
+unfolding own entity
+own_entity b e = elim (turned b) [
+  | ampersand i ↦ absurd (false≢true (rw i at e))
+  | less i ↦ absurd (false≢true (rw i at e))
+  | greater i ↦ absurd (false≢true (rw i at e))
+  | quote i ↦ absurd (false≢true (rw i at e))
+  | apostrophe i ↦ absurd (false≢true (rw i at e))
+  | itself i j k l m ↦ entity_itself b i j k l m
+]
+
+none_own : (part : List ℕ) → fold (λ o b. o && own b) false part ≡ false
+none_own [] = refl
+none_own (b ∷ bs) = none_own bs
+
+own_step : (b : ℕ) (bs : List ℕ) (t : Bool) → own b ≡ t → (fold (λ o c. o && own c) true bs ≡ true → escape bs ≡ bs)
+    → fold (λ o c. o && own c) t bs ≡ true → entity b ++ escape bs ≡ b ∷ bs
+own_step b bs true f h e = rw (own_entity b f, h e)
+own_step b bs false f h e = absurd (false≢true (sym (none_own bs) ∙ e))
+
+pub all_own : (part : List ℕ) → fold (λ o b. o && own b) true part ≡ true → escape part ≡ part
+unfolding escape
+all_own [] e = refl
+all_own (b ∷ bs) e = own_step b bs (own b) refl (all_own bs) e
+
+pub own_is : (b : ℕ) (o : Maybe (Bor (List ℕ))) (r : Bool) → EntityOf b o → is_some o ≡ not r → r ≡ own b
+unfolding own
+own_is b None true h e = rw h
+own_is b None false h e = absurd (false≢true e)
+own_is b (Some x) true h e = absurd (false≢true (sym e))
+own_is b (Some x) false h e = rw (h.into, ne_eqb (length x.now) 1 (λ z. absurd (omega (arith, h.long))))
 
 -- Texts in a stream
 
@@ -179,33 +211,6 @@ laid_fits h k = omega (arith, h.long, h.fits, k.long, k.fits, laid_room h, laid_
 -- a part of a text, of which the stream's bytes are known to be few
 pub part_small : (s part : List ℕ) (t r : Text) → Rest s t r → part ≡ part_of s t → t.left ≤ 65535 → length part ≤ 65535
 part_small s part t r h e l = rw e (omega (arith, h.spent))
-
--- a byte of the five, by the bytes of its entity
-pub room_for : (b : ℕ) (text : List ℕ) {n : ℕ} → entity b ≡ text → length (entity b) ≤ n → length text ≤ n
-room_for b text e l = rw (← e) l
-
-pub laid_entity : (b : ℕ) (text : List ℕ) {before after : List ℕ} {r : ℕ} → entity b ≡ text → Put text before after r → Put (entity b) before after r
-laid_entity b text e h = rw e h
-
-pub amp : (b : ℕ) → b ≡ 0x26 → entity b ≡ 0x26 ∷ 0x61 ∷ 0x6d ∷ 0x70 ∷ 0x3b ∷ []
-unfolding entity
-amp b e = rw e
-
-pub lt : (b : ℕ) → b ≡ 0x3c → entity b ≡ 0x26 ∷ 0x6c ∷ 0x74 ∷ 0x3b ∷ []
-unfolding entity
-lt b e = rw e
-
-pub gt : (b : ℕ) → b ≡ 0x3e → entity b ≡ 0x26 ∷ 0x67 ∷ 0x74 ∷ 0x3b ∷ []
-unfolding entity
-gt b e = rw e
-
-pub quot : (b : ℕ) → b ≡ 0x22 → entity b ≡ 0x26 ∷ 0x71 ∷ 0x75 ∷ 0x6f ∷ 0x74 ∷ 0x3b ∷ []
-unfolding entity
-quot b e = rw e
-
-pub apos : (b : ℕ) → b ≡ 0x27 → entity b ≡ 0x26 ∷ 0x61 ∷ 0x70 ∷ 0x6f ∷ 0x73 ∷ 0x3b ∷ []
-unfolding entity
-apos b e = rw e
 
 module _ (s : List ℕ) (t r : Text) (part : List ℕ) (h : Rest s t r) (e : part ≡ part_of s t) where
   -- the length of what is left, and of the part

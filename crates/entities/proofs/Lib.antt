@@ -1,4 +1,5 @@
 pub mod EscapeLaws
+pub mod FiveLaws
 pub mod PlainLaws
 pub mod WindowLaws
 pub mod Utf8Laws

@@ -1,21 +1,22 @@
 -- The plain text, written: byte by byte, or as it stands.
-use Prim.Native.Nat.{ℕ, zero, suc, ◌+◌, ◌≤◌, ◌<◌}
+use Prim.Native.Nat.{ℕ, suc, ◌+◌, ◌≤◌, ◌<◌}
 use mathlib.Core.Path.{◌≡◌, refl, ap, sym, ◌∙◌}
 use mathlib.Core.List.{List, [], ◌∷◌, ◌++◌}
-use mathlib.Core.Option.{some, none-ne-some, some-injective}
+use Rattle.std.specs.Prelude.{Some, None}
+use mathlib.Core.Option.{none, some, none-ne-some, some-injective}
 use native.Mathlib.Omega.{arith}
 use native.Mathlib.Numerals.{add-one}
-use lib.ListN.{length, take, drop, set, get_or, length-append, length-drop, length-set, drop_of_length-le}
+use lib.ListN.{length, take, drop, set, get_or, length-append, length-drop, length-set}
 use lib.Seq.{drop-drop, drop-cons}
 use Rattle.rules.specs.Escape.{entity, escape, unescaped_after, unescaped}
 use Rattle.laws.specs.Faults.{on_found_some}
 use Rattle.laws.specs.Escapes.{ampersand, less, greater, quote, apostrophe, itself, turned, entity_itself, entity_some, escape_of_unescaped}
 use Rattle.laws.specs.Writes.{copy_more, copy_all}
 use Rattle.entities.specs.declared.entity.Plain.{Plain}
-use Rattle.entities.specs.Entity.{Reads, PlainAt}
+use Rattle.entities.specs.Entity.{plain_in, Read, Begun}
 use Rattle.entities.specs.Measured.{Plainly}
 use Rattle.entities.proofs.PlainLaws.{plain_of_lem}
-use Rattle.entities.proofs.MeasureLaws.{drop_some, unescaped_nothing}
+use Rattle.entities.proofs.MeasureLaws.{unescaped_nothing}
 
 -- The plain text, written byte by byte
 pub record Putting (text out₀ out : List ℕ) (n at : ℕ) : Type 0 where
@@ -31,27 +32,30 @@ pub record Putting (text out₀ out : List ℕ) (n at : ℕ) : Type 0 where
 pub put_start : (text out : List ℕ) → Plainly text (length out) → Putting text out out 0 0
 put_start text out p = record { plain = p.plain; is = p.is; fits = p.fits; few = omega arith; inside = omega arith; rest = p.is; so_far = refl; long = refl }
 
-module _ {text out₀ out : List ℕ} {n at : ℕ} {r : Plain} (h : Putting text out₀ out n at) (l : at < length text) (p : Reads (drop at text) r) where
-  put_plain : PlainAt (drop at text) r
-  put_plain = plain_of_lem (drop at text) r (drop_some text at l) p
+-- what begins with the escaped form of a byte is not empty, and what begins with none is empty here
+read_some : (text : List ℕ) {r : Plain} → Read text r → 1 ≤ length text
+unfolding plain_in
+read_some [] {r} p = absurd (none-ne-some r.byte p.told)
+read_some (b ∷ bs) p = omega arith
 
-  put_some : r.length ≡ 0 → ⊥
-  put_some z = none-ne-some (drop n h.plain) (sym (put_plain.nothing z) ∙ h.rest)
+read_none : (text x : List ℕ) → plain_in text ≡ none → unescaped text ≡ some x → text ≡ []
+read_none [] x p e = refl
+read_none (b ∷ bs) x p e = absurd (none-ne-some x (sym (plain_of_lem (b ∷ bs) None (omega arith) p) ∙ e))
+
+module _ {text out₀ out : List ℕ} {n at : ℕ} {r : Plain} (h : Putting text out₀ out n at) (p : Read (drop at text) r) where
+  begun : Begun (drop at text) r
+  begun = plain_of_lem (drop at text) (Some r) (read_some (drop at text) p) p
 
   next_some : (y : List ℕ) × (unescaped (drop (at + r.length) text) ≡ some y) × (r.byte ∷ y ≡ drop n h.plain)
   next_some =
-      let (y, i, j) = on_found_some (unescaped (drop r.length (drop at text))) _ (drop n h.plain) (sym (put_plain.one put_some) ∙ h.rest) in
+      let (y, i, j) = on_found_some (unescaped (drop r.length (drop at text))) _ (drop n h.plain) (sym begun.one ∙ h.rest) in
       (y, ap unescaped (sym (drop-drop r.length at text)) ∙ i, some-injective (r.byte ∷ y) (drop n h.plain) j)
 
   pub put_grows : 1 ≤ r.length
-  put_grows = go r.length put_some
-    where
-      go : (k : ℕ) → (k ≡ 0 → ⊥) → 1 ≤ k
-      go zero z = absurd (z refl)
-      go (suc k) z = omega arith
+  put_grows = omega (arith, p.long, entity_some r.byte)
 
   pub put_inside : at + r.length ≤ length text
-  put_inside = omega (arith, put_plain.inside, length-drop at text)
+  put_inside = omega (arith, begun.inside, h.inside, length-drop at text)
 
   put_more : n < length h.plain
   put_more = let (y, i, j) = next_some in omega (arith, ap length j, length-drop n h.plain)
@@ -79,11 +83,11 @@ module _ {text out₀ out : List ℕ} {n at : ℕ} {r : Plain} (h : Putting text
         long = length-set out n r.byte ∙ h.long;
       }
 
-pub put_end : {text out₀ out : List ℕ} {n at : ℕ} → Putting text out₀ out n at → length text ≤ at
+pub put_end : {text out₀ out : List ℕ} {n at : ℕ} → Putting text out₀ out n at → plain_in (drop at text) ≡ none
     → (x : List ℕ) → unescaped text ≡ some x → out ≡ x ++ drop (length x) out₀
-put_end {text} {out₀} {out} {n} {at} h l x e =
+put_end {text} {out₀} {out} {n} {at} h p x e =
     let z : [] ≡ drop n h.plain =
-    some-injective [] (drop n h.plain) (sym unescaped_nothing ∙ ap unescaped (sym (drop_of_length-le text {i = at} l)) ∙ h.rest) in
+    some-injective [] (drop n h.plain) (sym unescaped_nothing ∙ ap unescaped (sym (read_none (drop at text) (drop n h.plain) p h.rest)) ∙ h.rest) in
     let q : h.plain ≡ x = some-injective h.plain x (sym h.is ∙ e) in
     rw (← q) (copy_all h.plain out out₀ n h.few (omega (arith, ap length z, length-drop n h.plain)) h.so_far)
 

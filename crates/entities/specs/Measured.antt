@@ -1,31 +1,29 @@
 -- The plain text of an escaped one, measured from a place on.
-use Rattle.std.specs.Prelude.{ℕ, ◌+◌, ◌≤◌, ◌<◌, ◌≡◌, List, length, get_or, eqb}
+use Rattle.std.specs.Prelude.{ℕ, ◌+◌, ◌≤◌, ◌<◌, ◌≡◌, List, length, get_or, true, eqb, Option as Maybe, Some, None}
+use Rattle.std.specs.Bool.{then_some}
 use Rattle.std.proofs.Math.Option.{Option, none, some}
 use Rattle.rules.specs.Faults.{on_found, only_if}
 use Rattle.rules.specs.Escape.{unescaped}
 use Rattle.entities.specs.declared.utf8.Utf8.{Utf8}
-use Rattle.entities.specs.declared.unescape.Measured.{Measured}
+use Rattle.entities.specs.Entity.{own}
 use Rattle.entities.specs.Utf8.{shapes, is_end}
 
 -- n bytes came before, which left UTF-8 so; how many bytes there are, if what follows is a text that ends it well
-unfoldable pub length_from : Utf8 → ℕ → Option (List ℕ) → Option ℕ
+unfoldable pub length_from : Maybe Utf8 → ℕ → Option (List ℕ) → Option ℕ
 length_from u n o = on_found o none λ x. only_if (is_end (shapes u x)) (n + length x)
 
-abbrev pub measured : Measured → Option ℕ
-measured m = only_if m.good m.length
+abbrev pub measured : Maybe ℕ → Option ℕ
+measured None = none
+measured (Some n) = some n
 
 -- at the end of a text: no byte is due
-abbrev pub ended_after : Utf8 → ℕ → Measured
-ended_after u n = record { good = eqb u.due 0; length = n }
+abbrev pub ended_after : Utf8 → ℕ → Maybe ℕ
+ended_after u n = then_some (eqb u.due 0) n
 
 -- a byte that is a character by itself and its own escaped form; there are only such bytes from a place to another, and inside a character none
 pub record Letter (b : ℕ) : Type 0 where
   pub small : b < 0x80
-  pub not_amp : b ≡ 0x26 → ⊥
-  pub not_lt : b ≡ 0x3c → ⊥
-  pub not_gt : b ≡ 0x3e → ⊥
-  pub not_quot : b ≡ 0x22 → ⊥
-  pub not_apos : b ≡ 0x27 → ⊥
+  pub itself : own b ≡ true
 
 pub record Letters (text : List ℕ) (from due r : ℕ) : Type 0 where
   pub onward : from ≤ r

@@ -1,53 +1,29 @@
 // The escaped form of a text, written where the text is copied.
-ghost use Rattle.std.specs.Prelude.{◌≡◌, true, [], ◌∷◌, max, ◌≤◌, length};
+ghost use Rattle.std.specs.Prelude.{◌≡◌, true, ◌&&◌, ◌≤◌, length, fold};
 ghost use Rattle.rules.specs.Escape.{entity, escape};
 ghost use Rattle.stream.specs.Text.{text_in, Copied};
+ghost use Rattle.entities.specs.Entity.{own};
 ghost use Rattle.entities.specs.Put.{Put};
 
+use crate::entity::{LONGEST, entity_of, is_own};
 use stream::copy::copy_into;
 use stream::text::{Text, text_part, text_rest};
 
-// 0 only for a byte that has no entity. (A number, so that the compiler holds many bytes against the five at once.)
-fn marks(b: u8) -> u8
-    ensures { result ≡ 0 → entity b ≡ b ∷ [] }
-{
-    match b {
-        0x26 => 1,
-        0x3c => 1,
-        0x3e => 1,
-        0x22 => 1,
-        0x27 => 1,
-        _ => 0,
-    }
-}
-
-fn greater(a: u8, b: u8) -> u8
-    ensures { result ≡ max a b }
-{
-    if a < b { b } else { a }
-}
-
-// Whether a part has no byte of the five. (A wrong "no" would only cost time, so nothing is promised of it.)
+// Whether a part has no byte of the five.
 fn is_own_form_part(part: &[u8]) -> bool
-    ensures { result ≡ true → escape part.now ≡ part.now }
+    ensures { result ≡ fold (λ o b. o && own b) true part.now }
 {
-    let mut found = 0;
-    let mut i = 0;
-    while i < part.len() {
-        found = greater(found, marks(part[i]));
-        i += 1;
-    }
-    found == 0
+    // `all` would be plainer, but stops at the first of the five: without that the compiler holds many bytes against the five at once.
+    part.iter().fold(true, |own, b| own & is_own(*b))
 }
 
-// Whether a text has no byte of the five, so that it is its own escaped form.
+// Whether a text has no byte of the five, so that it is its own escaped form. (A wrong "no" would only cost time, so nothing is promised of it.)
 pub fn is_own_form(s: &[u8], t: Text) -> bool
     ensures { result ≡ true → escape (text_in s.now t) ≡ text_in s.now t }
 {
     let mut rest = t;
     while 0 < rest.left {
-        let part = text_part(s, rest);
-        if !is_own_form_part(part) {
+        if !is_own_form_part(text_part(s, rest)) {
             return false;
         }
         rest = text_rest(s, rest);
@@ -57,15 +33,11 @@ pub fn is_own_form(s: &[u8], t: Text) -> bool
 
 // How many bytes the escaped form of a byte has.
 fn byte_len(b: u8) -> usize
-    ensures { (result ≡ length (entity b)) × (result ≤ 6) }
+    ensures { result ≡ length (entity b) }
 {
-    match b {
-        0x26 => 5,
-        0x3c => 4,
-        0x3e => 4,
-        0x22 => 6,
-        0x27 => 6,
-        _ => 1,
+    match entity_of(b) {
+        Some(entity) => entity.len(),
+        None => 1,
     }
 }
 
@@ -75,10 +47,8 @@ fn part_len(part: &[u8]) -> usize
     ensures { result ≡ length (escape part.now) }
 {
     let mut n = 0;
-    let mut i = 0;
-    while i < part.len() {
-        n += byte_len(part[i]);
-        i += 1;
+    for b in part {
+        n += byte_len(*b);
     }
     n
 }
@@ -98,27 +68,17 @@ fn escaped_len(s: &[u8], t: Text) -> usize
     n
 }
 
-// An entity at the beginning of out.
-fn lay(entity: &[u8], out: &mut [u8]) -> usize
-    requires { length entity.now ≤ length out.old }
-    ensures { Put entity.now out.old out.new result }
-{
-    copy_into(entity, out);
-    entity.len()
-}
-
 // The escaped form of a byte at the beginning of out.
 fn put(b: u8, out: &mut [u8]) -> usize
     requires { length (entity b) ≤ length out.old }
     ensures { Put (entity b) out.old out.new result }
 {
-    match b {
-        0x26 => lay(b"&amp;", out),
-        0x3c => lay(b"&lt;", out),
-        0x3e => lay(b"&gt;", out),
-        0x22 => lay(b"&quot;", out),
-        0x27 => lay(b"&apos;", out),
-        _ => {
+    match entity_of(b) {
+        Some(entity) => {
+            copy_into(entity, out);
+            entity.len()
+        }
+        None => {
             out[0] = b;
             1
         }
@@ -131,10 +91,8 @@ fn escape_part(part: &[u8], out: &mut [u8]) -> usize
     ensures { Put (escape part.now) out.old out.new result }
 {
     let mut done = 0;
-    let mut i = 0;
-    while i < part.len() {
-        done += put(part[i], &mut out[done..]);
-        i += 1;
+    for b in part {
+        done += put(*b, &mut out[done..]);
     }
     done
 }
@@ -155,12 +113,12 @@ fn escape_parts(s: &[u8], t: Text, out: &mut [u8]) -> usize
 }
 
 // The escaped form of a text to the beginning of out: whole or not at all. The answer is its length, whether it fits or not. It is
-// measured beforehand only where it may not fit: no entity has more than six bytes.
+// measured beforehand only where it may not fit.
 pub fn copy_escaped(s: &[u8], t: Text, out: &mut [u8]) -> usize
     requires { t.left ≤ 65535 }
     ensures { Copied (escape (text_in s.now t)) out.old out.new result }
 {
-    if out.len() / 6 < t.left {
+    if out.len() / LONGEST < t.left {
         let n = escaped_len(s, t);
         if out.len() < n {
             return n;

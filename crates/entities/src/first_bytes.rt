@@ -4,6 +4,7 @@ ghost use Rattle.laws.specs.FirstBytes.{least_next, most_next};
 
 // RFC 3629, section 4: some first bytes narrow the range of the second, so that no character has two spellings, none is a surrogate and none is
 // past U+10FFFF.
+#[tactic(auto, unfolding(laws::specs::FirstBytes::least_next))]
 pub fn least_next(b: u8) -> u8
     ensures { result ≡ least_next b }
 {
@@ -14,6 +15,7 @@ pub fn least_next(b: u8) -> u8
     }
 }
 
+#[tactic(auto, unfolding(laws::specs::FirstBytes::most_next))]
 pub fn most_next(b: u8) -> u8
     ensures { result ≡ most_next b }
 {

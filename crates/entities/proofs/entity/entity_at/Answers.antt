@@ -1,20 +1,15 @@
-use Rattle.entities.proofs.PlainLaws.{found_amp, found_lt, found_gt, found_quot, found_apos, found_none}
+use Rattle.std.proofs.Common.{arith}
+use Rattle.entities.proofs.FiveLaws.{five_turn, search_found, search_other, search_none}
 use Rattle.entities.proofs.entity.entity_at.Goals as goal
 
-pub returns-then-has : goal.returns-then-has
-returns-then-has c = found_amp _ _ c.requires.0 c.has.ensures c.if-has.true
+pub returns-in_err-entity : goal.returns-in_err-entity
+returns-in_err-entity c = absurd (five_turn _ c.loop-byte-test.true c.in_err-entity.ensures)
 
-pub returns-then-has-2 : goal.returns-then-has-2
-returns-then-has-2 c = found_lt _ _ c.requires.0 c.has.ensures c.if-has.false c.has-2.ensures c.if-has-2.true
+pub returns-then-starts_with : goal.returns-then-starts_with
+returns-then-starts_with c = search_found _ c.loop-byte.byte-index c.loop-byte-test.true c.loop-byte.invariant c.in_ok-entity.ensures c.starts_with.ensures.value c.if-starts_with.true
 
-pub returns-then-has-3 : goal.returns-then-has-3
-returns-then-has-3 c = found_gt _ _ c.requires.0 c.has.ensures c.if-has.false c.has-2.ensures c.if-has-2.false c.has-3.ensures c.if-has-3.true
-
-pub returns-then-has-4 : goal.returns-then-has-4
-returns-then-has-4 c = found_quot _ _ c.requires.0 c.has.ensures c.if-has.false c.has-2.ensures c.if-has-2.false c.has-3.ensures c.if-has-3.false c.has-4.ensures c.if-has-4.true
-
-pub returns-then-has-5 : goal.returns-then-has-5
-returns-then-has-5 c = found_apos _ _ c.requires.0 c.has.ensures c.if-has.false c.has-2.ensures c.if-has-2.false c.has-3.ensures c.if-has-3.false c.has-4.ensures c.if-has-4.false c.has-5.ensures c.if-has-5.true
+pub loop-byte-preserved : goal.loop-byte-preserved
+loop-byte-preserved c = search_other _ c.loop-byte.byte-index c.loop-byte.invariant c.in_ok-entity.ensures c.starts_with.ensures.value c.if-starts_with.false
 
 pub returns : goal.returns
-returns c = found_none _ _ c.requires.0 c.requires.1 c.has.ensures c.if-has.false c.has-2.ensures c.if-has-2.false c.has-3.ensures c.if-has-3.false c.has-4.ensures c.if-has-4.false c.has-5.ensures c.if-has-5.false c.none.ensures
+returns c = search_none _ (λ k l. c.loop-byte.invariant k (omega arith)) c.requires

@@ -1,9 +1,5 @@
-use Prim.Native.Nat.{◌-◌}
 use Rattle.entities.proofs.WindowLaws.{Peeked}
 use Rattle.entities.proofs.entity.plain_in.Given as goal
 
 abbrev pub invariant-loop-i : goal.invariant-loop-i
-invariant-loop-i l = Peeked l.s l.initial.rest l.n l.window l.rest l.i
-
-abbrev pub decreases-loop-i : goal.decreases-loop-i
-decreases-loop-i l = l.n - l.i
+invariant-loop-i l = Peeked l.s l.initial.rest l.window l.rest l.i

@@ -1,5 +1,6 @@
 use mathlib.Core.Bool.{false≢true}
-use Rattle.entities.proofs.EscapeLaws.{plain_part, plain_rest, plain_end_lem}
+use mathlib.Core.Path.{sym, ◌∙◌}
+use Rattle.entities.proofs.EscapeLaws.{all_own, plain_part, plain_rest, plain_end_lem}
 use Rattle.entities.proofs.escape.is_own_form.Goals as goal
 
 pub loop-rest-init : goal.loop-rest-init
@@ -12,7 +13,7 @@ pub loop-rest-smaller : goal.loop-rest-smaller
 loop-rest-smaller c = c.text_rest-rest.ensures.falls c.loop-rest-test.true
 
 pub loop-rest-preserved : goal.loop-rest-preserved
-loop-rest-preserved c = λ e. c.loop-rest.invariant (plain_rest _ _ _ c.text_rest-rest.ensures (plain_part _ _ c.text_part-part.ensures (c.is_own_form_part.ensures (c.if-not-is_own_form_part.false))) e)
+loop-rest-preserved c = λ e. c.loop-rest.invariant (plain_rest _ _ _ c.text_rest-rest.ensures (plain_part _ _ c.text_part.ensures (all_own _ (sym c.is_own_form_part.ensures ∙ c.if-not-is_own_form_part.false))) e)
 
 pub returns : goal.returns
 returns c = λ e. c.loop-rest.invariant (plain_end_lem _ _ c.loop-rest-test.false)

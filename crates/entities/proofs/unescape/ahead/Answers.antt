@@ -1,4 +1,4 @@
-use Rattle.entities.proofs.MeasureLaws.{run_start, run_more}
+use Rattle.entities.proofs.MeasureLaws.{run_start, run_more, run_end}
 use Rattle.entities.proofs.unescape.ahead.Goals as goal
 
 pub returns-then-due-ne0 : goal.returns-then-due-ne0
@@ -14,4 +14,4 @@ pub loop-i-preserved : goal.loop-i-preserved
 loop-i-preserved c = (c.loop-i.invariant.0, run_more c.loop-i.invariant.1 c.loop-i.invariant.0 c.loop-i-test.true (c.is_letter.ensures (c.if-not-is_letter.false)))
 
 pub returns : goal.returns
-returns c = c.loop-i.invariant.1
+returns c = run_end c.loop-i.invariant.1 c.loop-i-test.false
