@@ -12,7 +12,6 @@ use lib.Dec.{eqb, ltb}
 use borrow.Author.Tests.{eqb-true, eqb-false, ltb-true, ltb-false}
 use Rattle.std.specs.Prelude.{Option as Maybe, Some, None}
 use Rattle.std.specs.Bool.{then_some}
-use Rattle.laws.specs.Escapes.{entity_some}
 use Rattle.rules.specs.Faults.{on_found, only_if}
 use Rattle.rules.specs.Escape.{unescaped_after, unescaped}
 use Rattle.rules.specs.Lexeme.{next_byte}
@@ -79,7 +78,7 @@ module _ {text : List ℕ} {u : Utf8} {n at : ℕ} (h : Measuring text u n at) (
     measure_inside = omega (arith, begun.inside, length-drop at text)
 
     pub measure_grows : at < at + r.length
-    measure_grows = omega (arith, p.long, entity_some r.byte)
+    measure_grows = omega (arith, begun.onward)
 
     pub measure_bad : None ≡ next_shape u r.byte → {m : Maybe ℕ} → m ≡ None → measured m ≡ length_from (Some calm) 0 (unescaped text)
     measure_bad e f = rw f (sym (turn ∙ rw (← e) (length_bad (n + 1) _)) ∙ h.same)

@@ -62,6 +62,7 @@ module _ (b : ℕ) (bs : List ℕ) where
     begun = record {
       one = read_one r.byte r.length some_byte h.long (omega (arith, h.long, entity_some r.byte)) (omega (arith, h.long, byte_inside));
       inside = byte_inside;
+      onward = omega (arith, h.long, entity_some r.byte);
       short = omega (arith, h.long, entity_short r.byte);
     }
 

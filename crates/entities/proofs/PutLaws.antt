@@ -52,7 +52,7 @@ module _ {text out₀ out : List ℕ} {n at : ℕ} {r : Plain} (h : Putting text
       (y, ap unescaped (sym (drop-drop r.length at text)) ∙ i, some-injective (r.byte ∷ y) (drop n h.plain) j)
 
   pub put_grows : 1 ≤ r.length
-  put_grows = omega (arith, p.long, entity_some r.byte)
+  put_grows = begun.onward
 
   pub put_inside : at + r.length ≤ length text
   put_inside = omega (arith, begun.inside, h.inside, length-drop at text)

@@ -39,6 +39,7 @@ Reads text (Some r) = Read text r
 pub record Begun (text : List ℕ) (r : Plain) : Type 0 where
   pub one : unescaped text ≡ on_found (unescaped (drop r.length text)) none λ x. some (r.byte ∷ x)
   pub inside : r.length ≤ length text
+  pub onward : 1 ≤ r.length
   pub short : r.length ≤ 6
 
 abbrev pub PlainAt : List ℕ → Maybe Plain → Type 0
