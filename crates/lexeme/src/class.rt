@@ -78,11 +78,9 @@ fn in_ranges(g: &[u8], p: u16, count: usize, table: &[u16], x: usize) -> bool
     requires { (stream_length g.now ≡ none) × (count ≡ field_d g.now p) × (count < 65536) }
     ensures { result ≡ in_some g.now (ranges g.now p) x }
 {
-    let a = area(p, count, table.len());
-    let from = a.from;
-    let to = a.to;
-    if from < to {
-        if is_hinted(g, p, count, &table[from..to], table[to], x) {
+    if let Some(hints) = area(p, count, table.len()) {
+        let pace = table[hints.end];
+        if is_hinted(g, p, count, &table[hints], pace, x) {
             return true;
         }
     }
