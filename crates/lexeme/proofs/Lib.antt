@@ -8,6 +8,5 @@ pub mod MixedLaws
 pub mod ClassLaws
 pub mod PartLaws
 pub mod LexemeLaws
-pub mod HintLaws
 pub mod SourceLaws
 pub mod EscapedLaws
