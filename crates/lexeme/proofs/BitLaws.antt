@@ -90,15 +90,6 @@ bit_ones k j = go (ltb j k) refl
         ap (λ (n : ℕ). bit_at (2 ^ n - 1) j) f ∙ ones_in (k - j - 1) j ∙ sym e
     go false e = ones_out k j (ltb-false j k e) ∙ sym e
 
--- as the code makes them
-pub no_ones : (k : ℕ) → k ≡ 0 → 0 ≡ 2 ^ k - 1
-no_ones k e = rw e
-
-pub ones_shifted : (k : ℕ) → k ≤ 16 → 65535 / 2 ^ (16 - k) ≡ 2 ^ k - 1
-ones_shifted k l =
-    let f : k + (16 - k) ≡ 16 = omega arith in
-    ap (λ (n : ℕ). (2 ^ n - 1) / 2 ^ (16 - k)) (sym f) ∙ ones_div k (16 - k)
-
 -- all but the lowest k of 16 bits
 pub bit_not : (a j : ℕ) → j < 16 → bit_at (bit_xor a (2 ^ 16 - 1)) j ≡ not (bit_at a j)
 unfolding bit_at

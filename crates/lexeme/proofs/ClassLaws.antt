@@ -102,12 +102,8 @@ fill_end g p count q k set₁ set₂ f l s h = record {
 
 -- the sets of the first n classes
 pub record Compiling (g list sets₀ sets₁ : List ℕ) (n : ℕ) : Type 0 where
-  pub near : n ≤ length list
   pub size : length sets₁ ≡ length sets₀
   pub done : (m p : ℕ) → m < n → nth list m ≡ some p → ClassSet g p (set_of sets₁ m)
-
-pub compile_start : (g list sets₀ : List ℕ) → Compiling g list sets₀ sets₀ 0
-compile_start g list sets₀ = record { near = omega arith; size = refl; done = λ m p l e. absurd (omega arith) }
 
 -- a set put in its place is there, and those before it stay
 module _ (sets₁ ys : List ℕ) (n : ℕ) (room : 128 * n + 128 ≤ length sets₁) (size : length ys ≡ 128) where
@@ -135,7 +131,6 @@ module _ (sets₁ ys : List ℕ) (n : ℕ) (room : 128 * n + 128 ≤ length sets
 pub compile_turn : (g list sets₀ sets₁ ys : List ℕ) (n : ℕ) → Compiling g list sets₀ sets₁ n → n < length list → 128 * n + 128 ≤ length sets₁
     → ClassSet g (get_or list n 0) ys → Compiling g list sets₀ (put_mid (128 * n) (128 * n + 128 - 128 * n) sets₁ ys) (n + 1)
 compile_turn g list sets₀ sets₁ ys n c l room s = record {
-  near = omega arith;
   size = same_len_mid (128 * n) (128 * n + 128 - 128 * n) sets₁ ys (s.size ∙ sym part) ∙ c.size;
   done = λ m p k e. go m p k e (ltb m n) refl;
 }

@@ -2,14 +2,15 @@
 use Prim.Native.Nat.{ℕ, ◌+◌, ◌*◌, ◌/◌, ◌%◌, ◌≤◌, ◌<◌}
 use mathlib.Core.Path.{◌≡◌, refl, ap, ap₂, sym, ◌∙◌}
 use mathlib.Core.List.{List}
-use mathlib.Core.Bool.{Bool, true, false, not, ◌&&◌, ◌||◌, and-false, or-false, or-true, true≢false, false≢true}
+use mathlib.Core.Bool.{Bool, true, false, not, ◌&&◌, and_comm, or-true, true≢false, false≢true}
 use native.Mathlib.Omega.{arith}
+use Rattle.std.proofs.lemmas.Grind.{common_steps}
 use native.Mathlib.Nat.{zero-div}
 use lib.Bits.{bit_and, bit_or}
 use lib.Dec.{eqb, ltb}
 use lib.ListN.{length, get_or, set}
 use lib.Seq.{get_or-set_same, get_or-set_other}
-use borrow.Author.Tests.{ltb-true, ltb-false, lt-ltb, le-ltb, le-leb, eqb-true, eqb-false, ne_eqb}
+use borrow.Author.Tests.{le-ltb, le-leb, eqb-false, ne_eqb}
 use Rattle.rules.specs.Lexeme.{within, in_some, is_xml_char, is_of_class}
 use Rattle.lexeme.specs.Sets.{bit_at, is_in, XmlKept}
 use Rattle.lexeme.proofs.BitLaws.{bit_or_lem, bit_and_lem}
@@ -69,79 +70,36 @@ module _ (x : ℕ) where
 
 -- the bits of number w, of its characters below j
 pub record XmlBits (w bits j : ℕ) : Type 0 where
-  pub near : j ≤ 16
   pub each : (i : ℕ) → i < 16 → bit_at bits i ≡ (ltb i j && is_xml_char (16 * w + i))
 
 pub bits_start : (w : ℕ) → XmlBits w 0 0
 unfolding bit_at
-bits_start w = record { near = omega arith; each = λ i l. rw (zero-div, le-ltb i 0 (omega arith)) }
+bits_start w = record { each = λ i l. rw (zero-div, le-ltb i 0 (omega arith)) }
 
 module _ (w bits j : ℕ) (inv : XmlBits w bits j) (l : j < 16) where
-  -- what another bit says stays
-  other : (i : ℕ) → (i ≡ j → ⊥) → (ltb i j && is_xml_char (16 * w + i)) ≡ (ltb i (j + 1) && is_xml_char (16 * w + i))
-  other i d = go (ltb i j) refl
-    where
-      go : (b : Bool) → ltb i j ≡ b → (ltb i j && is_xml_char (16 * w + i)) ≡ (ltb i (j + 1) && is_xml_char (16 * w + i))
-      go true e = let m : i < j = ltb-true i j e in rw (e, lt-ltb i (j + 1) (omega arith))
-      go false e = let m : j ≤ i = ltb-false i j e in rw (e, le-ltb i (j + 1) (omega arith))
-
   pub bits_turn : (m : ℕ) → ((i : ℕ) → i < 16 → bit_at m i ≡ within (16 * w + j) (16 * w + j) (16 * w + i)) → is_xml_char (16 * w + j) ≡ true → XmlBits w (bit_or bits m) (j + 1)
-  bits_turn m h e = record { near = omega arith; each = λ i k. bit_or_lem bits m i ∙ ap₂ ◌||◌ (inv.each i k) (h i k) ∙ go i k (ltb i j) refl (ltb j i) refl }
-    where
-      go : (i : ℕ) → i < 16 → (b : Bool) → ltb i j ≡ b → (c : Bool) → ltb j i ≡ c
-          → ((ltb i j && is_xml_char (16 * w + i)) || within (16 * w + j) (16 * w + j) (16 * w + i)) ≡ (ltb i (j + 1) && is_xml_char (16 * w + i))
-      go i k true f c d =
-          let o : i < j = ltb-true i j f in
-          ap (λ (b : Bool). (ltb i j && is_xml_char (16 * w + i)) || b) (none_below (16 * w + j) (16 * w + j) (16 * w + i) (omega arith))
-          ∙ or-false (ltb i j && is_xml_char (16 * w + i)) ∙ other i (λ q. absurd (omega arith))
-      go i k false f true d =
-          let o : j < i = ltb-true j i d in
-          ap (λ (b : Bool). (ltb i j && is_xml_char (16 * w + i)) || b) (none_above (16 * w + j) (16 * w + j) (16 * w + i) (omega arith))
-          ∙ or-false (ltb i j && is_xml_char (16 * w + i)) ∙ other i (λ q. absurd (omega arith))
-      go i k false f false d =
-          let o : j ≤ i = ltb-false i j f in
-          let p : i ≤ j = ltb-false j i d in
-          let q : i ≡ j = omega arith in
-          rw (q, e, le-leb (16 * w + j) (16 * w + j) (omega arith), lt-ltb j (j + 1) (omega arith)) (or-true (ltb j j && true))
+  bits_turn m h e = record { each = λ i k. let f : i ≡ j → is_xml_char (16 * w + i) ≡ true = λ q. rw (q, e) in bit_or_lem bits m i ∙ grind (arith, common_steps) }
 
   pub bits_skip : is_xml_char (16 * w + j) ≡ false → XmlBits w bits (j + 1)
-  bits_skip e = record { near = omega arith; each = λ i k. inv.each i k ∙ go i (eqb i j) refl }
-    where
-      go : (i : ℕ) → (b : Bool) → eqb i j ≡ b → (ltb i j && is_xml_char (16 * w + i)) ≡ (ltb i (j + 1) && is_xml_char (16 * w + i))
-      go i true f = let q : i ≡ j = eqb-true i j f in rw (q, e) (and-false (ltb j j) ∙ sym (and-false (ltb j (j + 1))))
-      go i false f = other i (eqb-false i j f)
-
-pub bits_end : (w bits j : ℕ) → XmlBits w bits j → 16 ≤ j → (i : ℕ) → i < 16 → bit_at bits i ≡ is_xml_char (16 * w + i)
-bits_end w bits j inv l i k = inv.each i k ∙ rw (lt-ltb i j (omega arith))
+  bits_skip e = record { each = λ i k. let f : i ≡ j → is_xml_char (16 * w + i) ≡ false = λ q. rw (q, e) in grind (arith, common_steps) }
 
 -- one number of a set
-pub keep_number : (before : List ℕ) (w m : ℕ) → w < length before → ((j : ℕ) → j < 16 → bit_at m j ≡ is_xml_char (16 * w + j)) → XmlKept w before (set before w (bit_and m (get_or before w 0)))
+pub keep_number : (before : List ℕ) (w m : ℕ) → w < length before → ((j : ℕ) → j < 16 → bit_at m j ≡ is_xml_char (16 * w + j)) → XmlKept w before (set before w (bit_and (get_or before w 0) m))
 unfolding is_in
 keep_number before w m l bits = record {
   here = λ x e.
       let f : 16 * w + x % 16 ≡ x = omega arith in
-      ap (λ (n : ℕ). bit_at (get_or (set before w (bit_and m (get_or before w 0))) n 0) (x % 16)) e
-      ∙ ap (λ (n : ℕ). bit_at n (x % 16)) (get_or-set_same before w (bit_and m (get_or before w 0)) 0 l)
-      ∙ bit_and_lem m (get_or before w 0) (x % 16)
+      ap (λ (n : ℕ). bit_at (get_or (set before w (bit_and (get_or before w 0) m)) n 0) (x % 16)) e
+      ∙ ap (λ (n : ℕ). bit_at n (x % 16)) (get_or-set_same before w (bit_and (get_or before w 0) m) 0 l)
+      ∙ bit_and_lem (get_or before w 0) m (x % 16)
+      ∙ and_comm (bit_at (get_or before w 0) (x % 16)) (bit_at m (x % 16))
       ∙ ap₂ ◌&&◌ (bits (x % 16) (omega arith) ∙ ap is_xml_char f) (ap (λ (n : ℕ). bit_at (get_or before n 0) (x % 16)) (sym e));
-  other = λ x d. ap (λ (n : ℕ). bit_at n (x % 16)) (get_or-set_other before w (x / 16) (bit_and m (get_or before w 0)) 0 d);
+  other = λ x d. ap (λ (n : ℕ). bit_at n (x % 16)) (get_or-set_other before w (x / 16) (bit_and (get_or before w 0) m) 0 d);
 }
 
 -- the first two numbers, and so the set
 pub keep_set : (set₀ set₁ set₂ : List ℕ) → XmlKept 0 set₀ set₁ → XmlKept 1 set₁ set₂ → (x : ℕ) → x < 2048 → is_in set₂ x ≡ (is_xml_char x && is_in set₀ x)
-keep_set set₀ set₁ set₂ a b x l = go (ltb x 16) refl (ltb x 32) refl
-  where
-    go : (c : Bool) → ltb x 16 ≡ c → (d : Bool) → ltb x 32 ≡ d → is_in set₂ x ≡ (is_xml_char x && is_in set₀ x)
-    go true e d f = let m : x < 16 = ltb-true x 16 e in b.other x (λ q. absurd (omega arith)) ∙ a.here x (omega arith)
-    go false e true f =
-        let m : 16 ≤ x = ltb-false x 16 e in
-        let n : x < 32 = ltb-true x 32 f in
-        b.here x (omega arith) ∙ ap (λ (c : Bool). is_xml_char x && c) (a.other x (λ q. absurd (omega arith)))
-    go false e false f =
-        let m : 32 ≤ x = ltb-false x 32 f in
-        b.other x (λ q. absurd (omega arith))
-        ∙ a.other x (λ q. absurd (omega arith))
-        ∙ ap (λ (c : Bool). c && is_in set₀ x) (from_space x m (omega arith))
+keep_set set₀ set₁ set₂ a b x l = let f : 32 ≤ x → true ≡ is_xml_char x = λ m. from_space x m (omega arith) in grind (arith, common_steps)
 
 -- a character that a set doesn't tell apart
 pub refused_above : (g rs : List ℕ) (x : ℕ) (b : Bool) → b ≡ is_xml_char x → not b ≡ true → false ≡ is_of_class g rs x

@@ -10,7 +10,6 @@ use crate::class::range_count;
 use crate::hints::all_hints;
 use crate::xml::is_xml_char;
 use records::range::range_at;
-use stream::text::least;
 
 // The characters that a set tells apart: those that UTF-8 writes in one byte or two.
 pub(crate) const CHARACTERS: usize = 2048;
@@ -35,22 +34,16 @@ pub(crate) fn has(word: u64, x: usize) -> bool
     (word >> (x % 64)) % 2 == 1
 }
 
-fn widen(n: u16) -> u64
-    ensures { (result ≡ n) × (result < 65536) }
-{
-    n as u64
-}
-
 // Four numbers of a set in one word: the characters from 64 j on.
 pub(crate) fn word(set: &[u16], j: usize) -> u64
     requires { 4 * j + 4 ≤ length set.now }
     ensures { WordOf set.now j result }
 {
     let at = 4 * j;
-    let a = widen(set[at]);
-    let b = widen(set[at + 1]);
-    let c = widen(set[at + 2]);
-    let d = widen(set[at + 3]);
+    let a = u64::from(set[at]);
+    let b = u64::from(set[at + 1]);
+    let c = u64::from(set[at + 2]);
+    let d = u64::from(set[at + 3]);
     a + 65536 * (b + 65536 * (c + 65536 * d))
 }
 
@@ -59,10 +52,7 @@ fn ones(k: usize) -> u16
     requires { k ≤ 16 }
     ensures { result ≡ 2 ^ k - 1 }
 {
-    if k == 0 {
-        return 0;
-    }
-    ALL >> (BITS - k)
+    ((1u32 << k) - 1) as u16
 }
 
 // How many of the characters of number w are below x.
@@ -70,11 +60,7 @@ fn below(x: usize, w: usize) -> usize
     requires { w < 128 }
     ensures { result ≡ min 16 (x - 16 * w) }
 {
-    let start = BITS * w;
-    if x <= start {
-        return 0;
-    }
-    if BITS < x - start { BITS } else { x - start }
+    x.saturating_sub(BITS * w).min(BITS)
 }
 
 // The characters of number w from low to high.
@@ -91,19 +77,7 @@ fn add_at(set: &mut [u16], low: usize, high: usize, w: usize)
     ensures { Added low high w set.old set.new }
 {
     if w < SET {
-        set[w] = set[w] | mask(low, high, w);
-    }
-}
-
-// All characters of the numbers from a place to another.
-fn fill(set: &mut [u16], from: usize, to: usize)
-    requires { to ≤ length set.old }
-    ensures { Filled from to set.old set.new }
-{
-    let mut w = from;
-    while w < to {
-        set[w] = ALL;
-        w += 1;
+        set[w] |= mask(low, high, w);
     }
 }
 
@@ -120,19 +94,8 @@ fn add_range(set: &mut [u16], low: usize, high: usize)
     let to = high / BITS;
     add_at(set, low, high, from);
     if from < to {
-        fill(set, from + 1, least(to, SET));
+        set[from + 1..to.min(SET)].fill(ALL);
         add_at(set, low, high, to);
-    }
-}
-
-// A set of no characters.
-fn clear(set: &mut [u16])
-    ensures { set.new ≡ replicate (length set.old) 0 }
-{
-    let mut w = 0;
-    while w < set.len() {
-        set[w] = 0;
-        w += 1;
     }
 }
 
@@ -142,13 +105,11 @@ fn xml_bits(w: usize) -> u16
     ensures { (j : ℕ) → j < 16 → bit_at result j ≡ is_xml_char (16 * w + j) }
 {
     let mut bits = 0;
-    let mut j = 0;
-    while j < BITS {
+    for j in 0..BITS {
         let x = BITS * w + j;
         if is_xml_char(x) {
-            bits = bits | mask(x, x, w);
+            bits |= mask(x, x, w);
         }
-        j += 1;
     }
     bits
 }
@@ -158,7 +119,7 @@ fn keep_xml_at(set: &mut [u16], w: usize)
     requires { (length set.old ≡ 128) × (w < 128) }
     ensures { XmlKept w set.old set.new }
 {
-    set[w] = xml_bits(w) & set[w];
+    set[w] &= xml_bits(w);
 }
 
 // Only characters that XML 1.0 admits stay in a set. Of those below U+0800 it refuses some of the first 32 and no other.
@@ -175,14 +136,11 @@ fn class_set(g: &[u8], p: u16, set: &mut [u16])
     requires { (length set.old ≡ 128) × (stream_length g.now ≡ none) }
     ensures { ClassSet g.now p set.new }
 {
-    clear(set);
-    let count = range_count(g, p);
+    set.fill(0);
     let first = p as usize + 1;
-    let mut k = 0;
-    while k < count {
+    for k in 0..range_count(g, p) {
         let r = range_at(g, first + k);
         add_range(set, r.lowest, r.highest);
-        k += 1;
     }
     keep_xml(set);
 }
@@ -193,12 +151,8 @@ pub fn class_sets(g: &[u8], classes: &[u16], sets: &mut [u16])
     ensures { Compiled g.now sets.new }
 {
     all_hints(g, classes, sets);
-    let mut n = 0;
-    while n < classes.len() {
-        let p = classes[n];
+    for (n, p) in classes.iter().enumerate() {
         let from = SET * n;
-        let to = from + SET;
-        class_set(g, p, &mut sets[from..to]);
-        n += 1;
+        class_set(g, *p, &mut sets[from..from + SET]);
     }
 }
