@@ -1,151 +1,81 @@
 -- Bits of a number: of a union, of an intersection, of a row of ones; the characters of a range in one number; and four numbers in one word.
-use Prim.Native.Nat.{ℕ, zero, suc, ◌+◌, ◌-◌, ◌*◌, ◌/◌, ◌%◌, min, max, ◌≤◌, ◌<◌, ◌^◌}
+use Prim.Native.Nat.{ℕ, ◌+◌, ◌-◌, ◌*◌, ◌/◌, ◌%◌, min, max, ◌≤◌, ◌<◌, ◌^◌}
 use mathlib.Core.Path.{◌≡◌, refl, ap, ap₂, sym, ◌∙◌}
 use mathlib.Core.List.{List}
 use mathlib.Core.Bool.{Bool, true, false, not, ◌&&◌, ◌||◌}
 use native.Mathlib.Omega.{arith}
-use native.Mathlib.Nat.{div-eq_of_lt, pow-suc}
-use lib.Bits.{bit_and, bit_or, bit_xor, differ, or_shr, or_step, and_shr, and_step, xor_shr, xor_step}
+use lib.Bits.{bit_and, bit_or}
 use lib.Dec.{eqb, ltb, leb}
 use lib.ListN.{get_or}
-use lib.Pow.{pow_pos, pow_mono, ones_split, ones_lt, high, field, mod-mod-pow, shr-shr}
-use borrow.Author.Tests.{lt-ltb, le-ltb, ltb-true, ltb-false, leb-true, leb-false}
+use lib.Pow.{pow_mono}
+use mir.Syntax.{w16}
+use borrow.Author.Tests.{ltb-true, ltb-false}
+use Rattle.std.proofs.lemmas.Bool.Decides.{nat_tests}
+use Rattle.std.proofs.lemmas.Grind.{common_steps}
+use Rattle.std.proofs.lemmas.Nat.Bits.{bit_at_and, bit_at_or, bit_at_not, bit_at-lt, bit_at_ones, bit_at_ones_above, bit_at_cat_low, bit_at_cat_high}
 use Rattle.rules.specs.Lexeme.{within}
 use Rattle.lexeme.specs.Sets.{bit_at, is_in, WordOf}
 
 -- one binary digit
-digit : (n : ℕ) → n % 2 < 2
-digit n = omega arith
+max_digit : (u v : ℕ) → u < 2 → v < 2 → eqb (max u v) 1 ≡ (eqb u 1 || eqb v 1)
+max_digit u v l m = grind (arith, nat_tests)
 
-last : (q d : ℕ) → d < 2 → (q * 2 + d) % 2 ≡ d
-last q d l = omega arith
+min_digit : (u v : ℕ) → u < 2 → v < 2 → eqb (min u v) 1 ≡ (eqb u 1 && eqb v 1)
+min_digit u v l m = grind (arith, nat_tests)
 
-max_digit : (u v : ℕ) → u < 2 → v < 2 → (max u v < 2) × (eqb (max u v) 1 ≡ (eqb u 1 || eqb v 1))
-max_digit zero zero l m = (omega arith, refl)
-max_digit zero (suc zero) l m = (omega arith, refl)
-max_digit zero (suc (suc v)) l m = absurd (omega arith)
-max_digit (suc zero) zero l m = (omega arith, refl)
-max_digit (suc zero) (suc zero) l m = (omega arith, refl)
-max_digit (suc zero) (suc (suc v)) l m = absurd (omega arith)
-max_digit (suc (suc u)) v l m = absurd (omega arith)
-
-min_digit : (u v : ℕ) → u < 2 → v < 2 → (min u v < 2) × (eqb (min u v) 1 ≡ (eqb u 1 && eqb v 1))
-min_digit zero zero l m = (omega arith, refl)
-min_digit zero (suc zero) l m = (omega arith, refl)
-min_digit zero (suc (suc v)) l m = absurd (omega arith)
-min_digit (suc zero) zero l m = (omega arith, refl)
-min_digit (suc zero) (suc zero) l m = (omega arith, refl)
-min_digit (suc zero) (suc (suc v)) l m = absurd (omega arith)
-min_digit (suc (suc u)) v l m = absurd (omega arith)
-
-differ_digit : (u : ℕ) → u < 2 → (differ u 1 < 2) × (eqb (differ u 1) 1 ≡ not (eqb u 1))
-differ_digit zero l = (omega arith, refl)
-differ_digit (suc zero) l = (omega arith, refl)
-differ_digit (suc (suc u)) l = absurd (omega arith)
+other_digit : (u : ℕ) → u < 2 → eqb (1 - u) 1 ≡ not (eqb u 1)
+other_digit u l = grind (arith, nat_tests)
 
 pub bit_or_lem : (a b j : ℕ) → bit_at (bit_or a b) j ≡ (bit_at a j || bit_at b j)
 unfolding bit_at
-bit_or_lem a b j =
-    let x : ℕ = a / 2 ^ j in
-    let y : ℕ = b / 2 ^ j in
-    let d = max_digit (x % 2) (y % 2) (digit x) (digit y) in
-    ap (λ (n : ℕ). eqb (n % 2) 1) (or_shr a b j ∙ or_step x y)
-    ∙ ap (λ (n : ℕ). eqb n 1) (last (bit_or (x / 2) (y / 2)) (max (x % 2) (y % 2)) d.0)
-    ∙ d.1
+bit_or_lem a b j = ap (λ (n : ℕ). eqb n 1) (bit_at_or a b j) ∙ max_digit (a / 2 ^ j % 2) (b / 2 ^ j % 2) (bit_at-lt a j) (bit_at-lt b j)
 
 pub bit_and_lem : (a b j : ℕ) → bit_at (bit_and a b) j ≡ (bit_at a j && bit_at b j)
 unfolding bit_at
-bit_and_lem a b j =
-    let x : ℕ = a / 2 ^ j in
-    let y : ℕ = b / 2 ^ j in
-    let d = min_digit (x % 2) (y % 2) (digit x) (digit y) in
-    ap (λ (n : ℕ). eqb (n % 2) 1) (and_shr a b j ∙ and_step x y)
-    ∙ ap (λ (n : ℕ). eqb n 1) (last (bit_and (x / 2) (y / 2)) (min (x % 2) (y % 2)) d.0)
-    ∙ d.1
+bit_and_lem a b j = ap (λ (n : ℕ). eqb n 1) (bit_at_and a b j) ∙ min_digit (a / 2 ^ j % 2) (b / 2 ^ j % 2) (bit_at-lt a j) (bit_at-lt b j)
+
+-- all but those of a number of 16 bits
+pub bit_not : (a j : ℕ) → a < 65536 → j < 16 → bit_at (65535 - a) j ≡ not (bit_at a j)
+unfolding bit_at
+bit_not a j l m = ap (λ (n : ℕ). eqb n 1) (bit_at_not w16 a j l m) ∙ other_digit (a / 2 ^ j % 2) (bit_at-lt a j)
 
 -- a number of k ones
-odd_ones : (m : ℕ) → (2 ^ suc m - 1) % 2 ≡ 1
-odd_ones m = omega (arith, pow-suc 2 m, pow_pos m)
-
-pub ones_div : (m j : ℕ) → (2 ^ (m + j) - 1) / 2 ^ j ≡ 2 ^ m - 1
-ones_div m j = ap (λ (n : ℕ). n / 2 ^ j) (ones_split m j) ∙ high (2 ^ m - 1) j (ones_lt j)
-
-ones_in : (m j : ℕ) → bit_at (2 ^ (suc m + j) - 1) j ≡ true
-unfolding bit_at
-ones_in m j = rw (ones_div (suc m) j, odd_ones m)
-
-ones_out : (k j : ℕ) → k ≤ j → bit_at (2 ^ k - 1) j ≡ false
-unfolding bit_at
-ones_out k j l =
-    let e : (2 ^ k - 1) / 2 ^ j ≡ 0 = div-eq_of_lt (omega (arith, pow_mono l, pow_pos k)) in
-    rw e
-
 pub bit_ones : (k j : ℕ) → bit_at (2 ^ k - 1) j ≡ ltb j k
+unfolding bit_at
 bit_ones k j = go (ltb j k) refl
   where
-    go : (b : Bool) → ltb j k ≡ b → bit_at (2 ^ k - 1) j ≡ ltb j k
-    go true e =
-        let l : j < k = ltb-true j k e in
-        let f : k ≡ suc (k - j - 1) + j = omega arith in
-        ap (λ (n : ℕ). bit_at (2 ^ n - 1) j) f ∙ ones_in (k - j - 1) j ∙ sym e
-    go false e = ones_out k j (ltb-false j k e) ∙ sym e
-
--- all but the lowest k of 16 bits
-pub bit_not : (a j : ℕ) → j < 16 → bit_at (bit_xor a (2 ^ 16 - 1)) j ≡ not (bit_at a j)
-unfolding bit_at
-bit_not a j l =
-    let x : ℕ = a / 2 ^ j in
-    let y : ℕ = (2 ^ 16 - 1) / 2 ^ j in
-    let f : y % 2 ≡ 1 = ap (λ (n : ℕ). (2 ^ n - 1) / 2 ^ j % 2) (the_rest j l) ∙ ap (λ (n : ℕ). n % 2) (ones_div (suc (15 - j)) j) ∙ odd_ones (15 - j) in
-    let d = differ_digit (x % 2) (digit x) in
-    let e : differ (x % 2) (y % 2) ≡ differ (x % 2) 1 = ap (differ (x % 2)) f in
-    ap (λ (n : ℕ). eqb (n % 2) 1) (xor_shr a (2 ^ 16 - 1) j ∙ xor_step x y)
-    ∙ ap (λ (n : ℕ). eqb ((bit_xor (x / 2) (y / 2) * 2 + n) % 2) 1) e
-    ∙ ap (λ (n : ℕ). eqb n 1) (last (bit_xor (x / 2) (y / 2)) (differ (x % 2) 1) d.0)
-    ∙ d.1
-  where
-    the_rest : (i : ℕ) → i < 16 → 16 ≡ suc (15 - i) + i
-    the_rest i m = omega arith
+    go : (b : Bool) → ltb j k ≡ b → eqb ((2 ^ k - 1) / 2 ^ j % 2) 1 ≡ ltb j k
+    go true e = ap (λ (n : ℕ). eqb n 1) (bit_at_ones k j (ltb-true j k e)) ∙ sym e
+    go false e = ap (λ (n : ℕ). eqb n 1) (bit_at_ones_above k j (ltb-false j k e)) ∙ sym e
 
 -- the characters of number w from low to high
-pub mask_bits : (low high w j : ℕ) → j < 16
-    → bit_at (bit_and (bit_xor (2 ^ min 16 (low - 16 * w) - 1) (2 ^ 16 - 1)) (2 ^ min 16 (high + 1 - 16 * w) - 1)) j ≡ within low high (16 * w + j)
-mask_bits low high w j l =
-    bit_and_lem (bit_xor (2 ^ min 16 (low - 16 * w) - 1) (2 ^ 16 - 1)) (2 ^ min 16 (high + 1 - 16 * w) - 1) j
-    ∙ ap₂ ◌&&◌
-    (bit_not (2 ^ min 16 (low - 16 * w) - 1) j l ∙ ap not (bit_ones (min 16 (low - 16 * w)) j) ∙ from (leb low (16 * w + j)) refl)
-    (bit_ones (min 16 (high + 1 - 16 * w)) j ∙ to (leb (16 * w + j) high) refl)
-  where
-    from : (b : Bool) → leb low (16 * w + j) ≡ b → not (ltb j (min 16 (low - 16 * w))) ≡ leb low (16 * w + j)
-    from true e = let m : low ≤ 16 * w + j = leb-true low (16 * w + j) e in ap not (le-ltb j (min 16 (low - 16 * w)) (omega arith)) ∙ sym e
-    from false e = let m : 16 * w + j < low = leb-false low (16 * w + j) e in ap not (lt-ltb j (min 16 (low - 16 * w)) (omega arith)) ∙ sym e
-
-    to : (b : Bool) → leb (16 * w + j) high ≡ b → ltb j (min 16 (high + 1 - 16 * w)) ≡ leb (16 * w + j) high
-    to true e = let m : 16 * w + j ≤ high = leb-true (16 * w + j) high e in lt-ltb j (min 16 (high + 1 - 16 * w)) (omega arith) ∙ sym e
-    to false e = let m : high < 16 * w + j = leb-false (16 * w + j) high e in le-ltb j (min 16 (high + 1 - 16 * w)) (omega arith) ∙ sym e
-
--- as the code makes it
 pub mask_made : (low high w : ℕ) {from below to up : ℕ} → from ≡ min 16 (low - 16 * w) → below ≡ 2 ^ from - 1 → to ≡ min 16 (high + 1 - 16 * w) → up ≡ 2 ^ to - 1
-    → (j : ℕ) → j < 16 → bit_at (bit_and (bit_xor below 65535) up) j ≡ within low high (16 * w + j)
-mask_made low high w e f g h j l = rw (h, g, f, e) (mask_bits low high w j l)
+    → (j : ℕ) → j < 16 → bit_at (bit_and (65535 - below) up) j ≡ within low high (16 * w + j)
+mask_made low high w {from} {below} {to} {up} e f g h j l =
+    bit_and_lem (65535 - below) up j
+    ∙ ap₂ ◌&&◌
+    (bit_not below j (omega (arith, pow_mono {i = from} {j = 16} (omega arith))) l ∙ ap not (ap (λ (n : ℕ). bit_at n j) f ∙ bit_ones from j) ∙ begun)
+    (ap (λ (n : ℕ). bit_at n j) h ∙ bit_ones to j ∙ unended)
+  where
+    begun : not (ltb j from) ≡ leb low (16 * w + j)
+    begun = grind (arith, common_steps)
+
+    unended : ltb j to ≡ leb (16 * w + j) high
+    unended = grind (arith, common_steps)
 
 -- the lowest 16 bits, and those above them
-bit_mod : (n r : ℕ) → r < 16 → n / 2 ^ r % 2 ≡ n % 65536 / 2 ^ r % 2
-bit_mod n r l =
-    let e : 16 ≡ 15 - r + 1 + r = omega arith in
-    sym (ap (λ (m : ℕ). n % 2 ^ m / 2 ^ r % 2) e ∙ ap (λ (m : ℕ). m % 2) (field n (15 - r + 1) r) ∙ mod-mod-pow (n / 2 ^ r) (15 - r) 1)
-
 bit_low : (n rest j : ℕ) → j < 16 → bit_at (n + 65536 * rest) j ≡ bit_at n j
 unfolding bit_at
 bit_low n rest j l =
-    let e : (n + 65536 * rest) % 65536 ≡ n % 65536 = omega arith in
-    ap (λ (m : ℕ). eqb m 1) (bit_mod (n + 65536 * rest) j l ∙ ap (λ (m : ℕ). m / 2 ^ j % 2) e ∙ sym (bit_mod n j l))
+    let e : n + 65536 * rest ≡ rest * 2 ^ 16 + n = omega arith in
+    ap (λ (m : ℕ). eqb m 1) (ap (λ (m : ℕ). m / 2 ^ j % 2) e ∙ bit_at_cat_low rest 16 n j l)
 
 bit_high : (n rest j : ℕ) → n < 65536 → bit_at (n + 65536 * rest) (16 + j) ≡ bit_at rest j
 unfolding bit_at
 bit_high n rest j l =
-    let e : (n + 65536 * rest) / 65536 ≡ rest = omega arith in
-    ap (λ (m : ℕ). eqb (m % 2) 1) (sym (shr-shr (n + 65536 * rest) 16 j) ∙ ap (λ (m : ℕ). m / 2 ^ j) e)
+    let e : n + 65536 * rest ≡ rest * 2 ^ 16 + n = omega arith in
+    let f : 16 + j - 16 ≡ j = omega arith in
+    ap (λ (m : ℕ). eqb m 1) (ap (λ (m : ℕ). m / 2 ^ (16 + j) % 2) e ∙ bit_at_cat_high rest 16 n (16 + j) l (omega arith) ∙ ap (λ (m : ℕ). rest / 2 ^ m % 2) f)
 
 -- number q of the four, as a set has it
 bit_in : (set : List ℕ) (j q r i n : ℕ) → n ≡ get_or set (4 * j + q) 0 → i ≡ 16 * q + r → r < 16 → bit_at n r ≡ is_in set (64 * j + i)

@@ -11,6 +11,7 @@ use lib.Seq.{length-take-le, take-append-le, drop-append-le, take_at, drop_at}
 use lib.Dec.{ltb}
 use borrow.Author.Tests.{ltb-true, ltb-false}
 use borrow.Rule.Slice.PartMut.{put_mid, same_len_mid}
+use Rattle.std.specs.List.{list_any, range_with_len}
 use Rattle.rules.specs.Blocks.{stream_length}
 use Rattle.rules.specs.Records.{field_d, heads, row, nth}
 use Rattle.rules.specs.Grammar.{classes, class}
@@ -32,18 +33,15 @@ left_turn : (g : List ℕ) (q count k x : ℕ) (r : Range) → k < count → Ran
 unfolding in_some
 left_turn g q count k x r l e = rw (row_more count q k l, e.from, e.to)
 
--- the search
-module _ (g : List ℕ) (p q count k x : ℕ) (inv : in_some g (row (count - k) (q + k)) x ≡ in_some g (ranges g p) x) where
-  pub search_found : (r : Range) → k < count → RangeAt g (q + k) r → (b : Bool) → b ≡ within r.lowest r.highest x → b ≡ true → true ≡ in_some g (ranges g p) x
-  search_found r l e b f h = sym (left_turn g q count k x r l e ∙ ap (λ (y : Bool). y || in_some g (row (count - (k + 1)) (q + (k + 1))) x) (sym f ∙ h)) ∙ inv
+-- the search through all of them
+in_row : (g : List ℕ) (n q x : ℕ) → list_any (λ i. within (lowest g i) (highest g i) x) (range_with_len q n) ≡ in_some g (row n q) x
+unfolding in_some row heads
+in_row g zero q x = refl
+in_row g (suc n) q x = ap (λ (b : Bool). within (lowest g q) (highest g q) x || b) (in_row g n (q + 1) x)
 
-  pub search_turn : (r : Range) → k < count → RangeAt g (q + k) r → (b : Bool) → b ≡ within r.lowest r.highest x → b ≡ false
-      → in_some g (row (count - (k + 1)) (q + (k + 1))) x ≡ in_some g (ranges g p) x
-  search_turn r l e b f h = sym (left_turn g q count k x r l e ∙ ap (λ (y : Bool). y || in_some g (row (count - (k + 1)) (q + (k + 1))) x) (sym f ∙ h)) ∙ inv
-
-  pub search_end : count ≤ k → false ≡ in_some g (ranges g p) x
-  unfolding in_some
-  search_end l = sym (ap (λ (rs : List ℕ). in_some g rs x) (row_done count q k l)) ∙ inv
+pub search_all : (g : List ℕ) (p count x : ℕ) → count ≡ field_d g p → list_any (λ i. within (lowest g i) (highest g i) x) (range_with_len (p + 1) count) ≡ in_some g (ranges g p) x
+unfolding ranges
+search_all g p count x e = in_row g count (p + 1) x ∙ ap (λ (n : ℕ). in_some g (row n (p + 1)) x) e
 
 -- a range of the class that has the code point
 in_kth : (g : List ℕ) (n k q x : ℕ) → k < n → within (lowest g (q + k)) (highest g (q + k)) x ≡ true → in_some g (row n q) x ≡ true

@@ -2,7 +2,7 @@
 use Prim.Native.Nat.{ℕ, ◌+◌, ◌*◌, ◌/◌, ◌%◌, ◌≤◌, ◌<◌}
 use mathlib.Core.Path.{◌≡◌, refl, ap, ap₂, sym, ◌∙◌}
 use mathlib.Core.List.{List}
-use mathlib.Core.Bool.{Bool, true, false, not, ◌&&◌, and_comm, or-true, true≢false, false≢true}
+use mathlib.Core.Bool.{Bool, true, false, ◌&&◌, and_comm, or-true}
 use native.Mathlib.Omega.{arith}
 use Rattle.std.proofs.lemmas.Grind.{common_steps}
 use native.Mathlib.Nat.{zero-div}
@@ -102,12 +102,10 @@ pub keep_set : (set₀ set₁ set₂ : List ℕ) → XmlKept 0 set₀ set₁ →
 keep_set set₀ set₁ set₂ a b x l = let f : 32 ≤ x → true ≡ is_xml_char x = λ m. from_space x m (omega arith) in grind (arith, common_steps)
 
 -- a character that a set doesn't tell apart
-pub refused_above : (g rs : List ℕ) (x : ℕ) (b : Bool) → b ≡ is_xml_char x → not b ≡ true → false ≡ is_of_class g rs x
+pub refused_above : (g rs : List ℕ) (x : ℕ) (b : Bool) → b ≡ is_xml_char x → b ≡ false → b ≡ is_of_class g rs x
 unfolding is_of_class
-refused_above g rs x true e f = absurd (false≢true f)
-refused_above g rs x false e f = ap (λ (a : Bool). a && in_some g rs x) e
+refused_above g rs x b e f = f ∙ ap (λ (a : Bool). a && in_some g rs x) (sym f ∙ e)
 
-pub judged_above : (g rs : List ℕ) (x : ℕ) (b r : Bool) → b ≡ is_xml_char x → not b ≡ false → r ≡ in_some g rs x → r ≡ is_of_class g rs x
+pub judged_above : (g rs : List ℕ) (x : ℕ) (b r : Bool) → b ≡ is_xml_char x → b ≡ true → r ≡ in_some g rs x → r ≡ is_of_class g rs x
 unfolding is_of_class
-judged_above g rs x true r e f h = h ∙ ap (λ (a : Bool). a && in_some g rs x) e
-judged_above g rs x false r e f h = absurd (true≢false f)
+judged_above g rs x b r e f h = h ∙ ap (λ (a : Bool). a && in_some g rs x) (sym f ∙ e)

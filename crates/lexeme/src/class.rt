@@ -15,18 +15,14 @@ use stream::record::fetch;
 fn is_between(r: Range, x: usize) -> bool
     ensures { result ≡ within r.lowest r.highest x }
 {
-    if x < r.lowest {
-        return false;
-    }
-    x <= r.highest
+    r.lowest <= x && x <= r.highest
 }
 
 pub(crate) fn range_count(g: &[u8], p: u16) -> usize
     requires { stream_length g.now ≡ none }
     ensures { (result ≡ field_d g.now p) × (result < 65536) }
 {
-    let head = fetch(g, p as usize);
-    head.d as usize
+    usize::from(fetch(g, usize::from(p)).d)
 }
 
 // Whether x is in some range of the class whose record is at p: all of them, which are so many, in their order.
@@ -34,16 +30,8 @@ fn search(g: &[u8], p: u16, count: usize, x: usize) -> bool
     requires { (stream_length g.now ≡ none) × (count ≡ field_d g.now p) × (count < 65536) }
     ensures { result ≡ in_some g.now (ranges g.now p) x }
 {
-    let first = p as usize + 1;
-    let mut k = 0;
-    while k < count {
-        let r = range_at(g, first + k);
-        if is_between(r, x) {
-            return true;
-        }
-        k += 1;
-    }
-    false
+    let first = usize::from(p) + 1;
+    (first..first + count).any(|i| is_between(range_at(g, i), x))
 }
 
 // Whether range k of the class has x.
@@ -51,11 +39,7 @@ fn is_kth(g: &[u8], p: u16, count: usize, k: usize, x: usize) -> bool
     requires { (stream_length g.now ≡ none) × (count ≡ field_d g.now p) × (k < 65536) }
     ensures { result ≡ true → in_some g.now (ranges g.now p) x ≡ true }
 {
-    if count <= k {
-        return false;
-    }
-    let r = range_at(g, p as usize + 1 + k);
-    is_between(r, x)
+    k < count && is_between(range_at(g, usize::from(p) + 1 + k), x)
 }
 
 // Whether a range that the hints name has x: of many ranges the one that their pace leads to, then the one that a search among the hints finds.
@@ -64,13 +48,9 @@ fn is_hinted(g: &[u8], p: u16, count: usize, hints: &[u16], pace: u16, x: usize)
     requires hints_nonzero { (0 < length hints.now) × (length hints.now ≤ 65536) }
     ensures { result ≡ true → in_some g.now (ranges g.now p) x ≡ true }
 {
-    let first = p as usize + 1;
-    if MANY <= hints.len() {
-        if is_kth(g, p, count, guess(g, first, hints, pace, x), x) {
-            return true;
-        }
-    }
-    is_kth(g, p, count, find(g, first, hints, x), x)
+    let first = usize::from(p) + 1;
+    let is_guessed = MANY <= hints.len() && is_kth(g, p, count, guess(g, first, hints, pace, x), x);
+    is_guessed || is_kth(g, p, count, find(g, first, hints, x), x)
 }
 
 // First where a hint says, then everywhere. Only a code point of no range, or a table with no room for hints, costs more than the search for a hint.
@@ -96,8 +76,5 @@ pub(crate) fn in_class(g: &[u8], p: u16, count: u16, set: &[u16], table: &[u16],
     if x < CHARACTERS {
         return has(word(set, x / 64), x);
     }
-    if !is_xml_char(x) {
-        return false;
-    }
-    in_ranges(g, p, count as usize, table, x)
+    is_xml_char(x) && in_ranges(g, p, usize::from(count), table, x)
 }

@@ -68,7 +68,7 @@ fn mask(low: usize, high: usize, w: usize) -> u16
     requires { (w < 128) × (high < 2 ^ 32) }
     ensures { (j : ℕ) → j < 16 → bit_at result j ≡ within low high (16 * w + j) }
 {
-    (ones(below(low, w)) ^ ALL) & ones(below(high + 1, w))
+    !ones(below(low, w)) & ones(below(high + 1, w))
 }
 
 // Of the characters from low to high, those of number w go into a set.
@@ -137,7 +137,7 @@ fn class_set(g: &[u8], p: u16, set: &mut [u16])
     ensures { ClassSet g.now p set.new }
 {
     set.fill(0);
-    let first = p as usize + 1;
+    let first = usize::from(p) + 1;
     for k in 0..range_count(g, p) {
         let r = range_at(g, first + k);
         add_range(set, r.lowest, r.highest);

@@ -1,14 +1,15 @@
-use Rattle.lexeme.proofs.ClassLaws.{left_start, search_found, search_turn, search_end}
+use Prim.Native.Nat.{◌+◌, ℕ}
+use mathlib.Core.Path.{◌∙◌}
+use native.Mathlib.Omega.{arith}
+use borrow.Author.Rules.{rules}
+use Rattle.std.proofs.lemmas.Iterator.{YieldsList-from_range}
+use Rattle.std.proofs.lemmas.Iterator.Search.{any_from_yields_List}
+use Rattle.rules.specs.Lexeme.{within, lowest, highest}
+use Rattle.lexeme.proofs.ClassLaws.{search_all}
 use Rattle.lexeme.proofs.class.search.Goals as goal
 
-pub loop-k-init : goal.loop-k-init
-loop-k-init c = left_start _ _ _ _ c.requires.1
-
-pub returns-then-is_between : goal.returns-then-is_between
-returns-then-is_between c = search_found _ _ _ _ _ _ c.loop-k.invariant _ c.loop-k-test.true c.range_at-r.ensures _ c.is_between.ensures c.if-is_between.true
-
-pub loop-k-preserved : goal.loop-k-preserved
-loop-k-preserved c = search_turn _ _ _ _ _ _ c.loop-k.invariant _ c.loop-k-test.true c.range_at-r.ensures _ c.is_between.ensures c.if-is_between.false
-
 pub returns : goal.returns
-returns c = search_end _ _ _ _ _ _ c.loop-k.invariant c.loop-k-test.false
+returns c =
+    any_from_yields_List (λ (i : ℕ). within (lowest c.args.g.now i) (highest c.args.g.now i) c.args.x) _ _ _ c.any.ensures.ran
+    (YieldsList-from_range (c.args.p + 1) (c.args.p + 1 + c.args.count) c.args.count (cc) (omega arith)) (λ x b q k. (search rules, search rules))
+    ∙ search_all _ _ _ _ c.requires.1
