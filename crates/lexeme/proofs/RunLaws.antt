@@ -77,41 +77,6 @@ module _ (g set part : List ℕ) (p : ℕ) (r : ClassSet g p set) (n i : ℕ) wh
       rw (drop_two part i l) (ap (λ (y : Scan). scanned g (ranges g p) y (drop (i + 2) part)) (ap (λ (y : Scan). seen g (ranges g p) y b) s ∙ t))
 
 -- ASCII
-pub plain_none : (words part : List ℕ) (from : ℕ) → from ≤ length part → Plain words part from from
-plain_none words part from l = record { ahead = omega arith; inside = l; each = λ k a b. absurd (omega arith) }
-
-pub plain_more : (words part : List ℕ) (from i j : ℕ) → Plain words part from i → i < length part → j ≡ i + 1 → admitted words (get_or part i 0) ≡ true → Plain words part from j
-plain_more words part from i j h l e f = record { ahead = omega (arith, h.ahead); inside = omega arith; each = λ k a b. go k a b (ltb k i) refl }
-  where
-    go : (k : ℕ) → from ≤ k → k < j → (b : Bool) → ltb k i ≡ b → admitted words (get_or part k 0) ≡ true
-    go k a b true q = h.each k a (ltb-true k i q)
-    go k a b false q = let w : i ≤ k = ltb-false k i q in let z : k ≡ i = omega arith in rw z f
-
--- one run, and another that begins inside it or where it ends
-pub plain_then : (words part : List ℕ) (from a b to : ℕ) → a ≤ b → from ≤ to → Plain words part from b → Plain words part a to → Plain words part from to
-plain_then words part from a b to l m h f = record { ahead = m; inside = f.inside; each = λ k x y. go k x y (ltb k b) refl }
-  where
-    go : (k : ℕ) → from ≤ k → k < to → (t : Bool) → ltb k b ≡ t → admitted words (get_or part k 0) ≡ true
-    go k x y true q = h.each k x (ltb-true k b q)
-    go k x y false q = let w : b ≤ k = ltb-false k b q in f.each k (omega arith) y
-
-pub four_in : (words part : List ℕ) (i : ℕ) → i + 4 ≤ length part → admitted words (get_or part i 0) ≡ true → admitted words (get_or part (i + 1) 0) ≡ true
-    → admitted words (get_or part (i + 2) 0) ≡ true → admitted words (get_or part (i + 3) 0) ≡ true → Plain words part i (i + 4)
-four_in words part i l a b c d =
-    let p1 = plain_more words part i i (i + 1) (plain_none words part i (omega arith)) (omega arith) refl a in
-    let p2 = plain_more words part i (i + 1) (i + 2) p1 (omega arith) (omega arith) b in
-    let p3 = plain_more words part i (i + 2) (i + 3) p2 (omega arith) (omega arith) c in
-    plain_more words part i (i + 3) (i + 4) p3 (omega arith) (omega arith) d
-
-pub plain_join : (words part : List ℕ) (from i to : ℕ) → Plain words part from i → Plain words part i to → Plain words part from to
-plain_join words part from i to h f = plain_then words part from i i to (omega arith) (omega (arith, h.ahead, f.ahead)) h f
-
-pub plain_back : (words part : List ℕ) (from i : ℕ) → Plain words part from i → length part < i + 4 → from + 4 ≤ i
-    → Plain words part (length part - 4) (length part - 4 + 4) → Plain words part from (length part)
-plain_back words part from i h l m f =
-    let e : length part - 4 + 4 ≡ length part = omega (arith, h.inside) in
-    plain_then words part from (length part - 4) i (length part) (omega arith) (omega (arith, h.inside)) h (rw e at f)
-
 plain_words : ℕ → ℕ → List ℕ
 plain_words a b = a ∷ b ∷ 0 ∷ 0 ∷ []
 

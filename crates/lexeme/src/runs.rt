@@ -15,18 +15,12 @@ pub struct TextRun {
     pub count: usize,
 }
 
-pub(crate) fn wide(b: u8) -> usize
-    ensures { (result ≡ b) × (result < 256) }
-{
-    b as usize
-}
-
 // Whether words 0 to 3, two of the class and two of zeros, admit the byte at i.
 fn is_in(part: &[u8], i: usize, words: &[u64; 4]) -> bool
     requires { i < length part.now }
     ensures { result ≡ admitted words.now (get_or part.now i 0) }
 {
-    let b = wide(part[i]);
+    let b = usize::from(part[i]);
     has(words[b / 64], b)
 }
 
@@ -34,30 +28,22 @@ fn are_in(part: &[u8], i: usize, words: &[u64; 4]) -> bool
     requires { i + 4 ≤ length part.now }
     ensures { result ≡ true → Plain words.now part.now i (i + 4) }
 {
-    if !is_in(part, i, words) {
-        return false;
-    }
-    if !is_in(part, i + 1, words) {
-        return false;
-    }
-    if !is_in(part, i + 2, words) {
-        return false;
-    }
-    is_in(part, i + 3, words)
+    is_in(part, i, words)
+        && is_in(part, i + 1, words)
+        && is_in(part, i + 2, words)
+        && is_in(part, i + 3, words)
 }
 
 fn by_one(part: &[u8], from: usize, words: &[u64; 4]) -> usize
     requires { from ≤ length part.now }
     ensures { Plain words.now part.now from result }
 {
-    let mut i = from;
-    while i < part.len() {
+    for i in from..part.len() {
         if !is_in(part, i, words) {
             return i;
         }
-        i += 1;
     }
-    i
+    part.len()
 }
 
 // Four bytes a turn. Where fewer than four are left at the end, the last turn goes back and tests some bytes twice, so that it needs no loop.
@@ -97,11 +83,10 @@ fn mixed(part: &[u8], from: usize, set: &[u16]) -> TextRun
     ensures { RunsTo set.now part.now from result.at result.count }
 {
     let mut words = [word(set, 0), word(set, 1), 0, LEADS, 0, 0, 0, 0];
-    let mut i = from;
     let mut lead = 0;
     let mut leads = 0;
-    while i < part.len() {
-        let b = wide(part[i]);
+    for i in from..part.len() {
+        let b = usize::from(part[i]);
         if !has(words[4 * lead + b / 64], b) {
             return TextRun {
                 at: i - lead,
@@ -111,11 +96,10 @@ fn mixed(part: &[u8], from: usize, set: &[u16]) -> TextRun
         words[6] = word(set, b % 32);
         lead = is_lead(b);
         leads += lead;
-        i += 1;
     }
     TextRun {
-        at: i - lead,
-        count: i - from - leads,
+        at: part.len() - lead,
+        count: part.len() - from - leads,
     }
 }
 
@@ -128,7 +112,7 @@ pub(crate) fn run_from(part: &[u8], from: usize, set: &[u16]) -> TextRun
     let at = by_four(part, from, &words);
     if part.len() <= at {
         return TextRun {
-            at: at,
+            at,
             count: at - from,
         };
     }

@@ -7,7 +7,7 @@ ghost use Rattle.lexeme.specs.Scan.{midway, clean, stopped, judged, seen, scanne
 ghost use Rattle.lexeme.specs.Runs.{RunsTo};
 
 use crate::class::in_class;
-use crate::runs::{TextRun, run_from, wide};
+use crate::runs::{TextRun, run_from};
 use crate::sets::{has, word};
 
 // Between two bytes: whether all was well so far; how many bytes of a character are still due, the next of them from low to high, and
@@ -169,7 +169,7 @@ pub(crate) fn scan_part(
     let mut i = 0;
     while i < part.len() {
         if s.due != 0 {
-            s = later(g, p, many, set, table, s, wide(part[i]));
+            s = later(g, p, many, set, table, s, usize::from(part[i]));
             if !s.good {
                 return s;
             }
@@ -182,7 +182,7 @@ pub(crate) fn scan_part(
         if part.len() <= at {
             return between(count);
         }
-        s = first(g, p, set, count, wide(part[at]));
+        s = first(g, p, set, count, usize::from(part[at]));
         if !s.good {
             return s;
         }

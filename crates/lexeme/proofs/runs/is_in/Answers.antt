@@ -3,4 +3,4 @@ use Rattle.lexeme.proofs.runs.is_in.Goals as goal
 
 pub returns : goal.returns
 unfolding admitted
-returns c = rw (← c.wide-b.ensures.0) c.has.ensures
+returns c = rw (← c.from-b.ensures) c.has.ensures

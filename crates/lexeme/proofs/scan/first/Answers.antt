@@ -6,6 +6,3 @@ use Rattle.lexeme.proofs.scan.first.Goals as goal
 
 pub returns-then-b-lt128 : goal.returns-then-b-lt128
 returns-then-b-lt128 c = plain_judged _ _ _ _ _ c.if-b-lt128.true _ (c.has.ensures ∙ word_says _ _ _ c.word.ensures ∙ c.requires.class_set.same _ (omega (arith, c.if-b-lt128.true))) c.judge.ensures
-
-pub returns : goal.returns
-returns c = c.lead.ensures _ _
