@@ -16,7 +16,7 @@ use Rattle.stream.specs.declared.text.Text.{Text}
 use Rattle.stream.specs.Text.{text_in, Skips}
 use Rattle.stream.proofs.TextLaws.{text_end_lem}
 use Rattle.stream.proofs.SkipLaws.{text_cut}
-use Rattle.entities.specs.Entity.{PlainIn}
+use Rattle.entities.specs.Entity.{NoneIn, OneIn}
 use Rattle.entities.specs.declared.entity.Plain.{Plain}
 use Rattle.lexeme.specs.declared.scan.Scan.{Scan}
 use Rattle.lexeme.specs.Scan.{midway, clean, scanned, Tidy}
@@ -97,16 +97,16 @@ unescape_start g p s t n state f e = rw e record { tidy = tidy_clean 0; most = n
     none_yet : (clean 0).count ≤ field_c g p
     none_yet = unfold clean midway in omega arith
 
-module _ (g : List ℕ) (p : ℕ) (s : List ℕ) (t rest : Text) (state : Scan) (r : Plain) (h : Unescaping g p s t state rest) (q : PlainIn s rest r) where
-  -- no byte's escaped form
-  pub unescape_none : r.length ≡ 0 → false ≡ verdict g p s t
-  unescape_none e = sym (h.same ∙ ap (settles g p state) (q.plain.nothing e) ∙ settles_none g p state)
+-- no byte's escaped form
+pub unescape_none : (g : List ℕ) (p : ℕ) (s : List ℕ) (t rest : Text) (state : Scan) → Unescaping g p s t state rest → NoneIn s rest → false ≡ verdict g p s t
+unescape_none g p s t rest state h q = sym (h.same ∙ ap (settles g p state) q.plain ∙ settles_none g p state)
 
+module _ (g : List ℕ) (p : ℕ) (s : List ℕ) (t rest : Text) (state : Scan) (r : Plain) (h : Unescaping g p s t state rest) (q : OneIn s rest r) where
   -- the text after it has an address
   pub unescape_near : length s < 2 ^ 63 → rest.at + 9 * r.length < 2 ^ 64
   unescape_near m = omega (arith, q.near, q.plain.short)
 
-  module _ (next : Scan) (part : List ℕ) (rest' : Text) (z : r.length ≡ 0 → ⊥) (k : Skips r.length rest rest')
+  module _ (next : Scan) (part : List ℕ) (rest' : Text) (k : Skips r.length rest rest')
       (y : part ≡ r.byte ∷ []) (f : next ≡ scanned g (ranges g p) state part) where
     skipped : text_in s rest' ≡ drop r.length (text_in s rest)
     skipped = k.text s q.plain.inside
@@ -114,7 +114,7 @@ module _ (g : List ℕ) (p : ℕ) (s : List ℕ) (t rest : Text) (state : Scan) 
     onward : settles g p (clean 0) (unescaped (text_in s t)) ≡ settles g p next (unescaped (text_in s rest'))
     onward =
         h.same
-        ∙ ap (settles g p state) (q.plain.one z ∙ ap (λ (x : List ℕ). on_found (unescaped x) none λ x. some (r.byte ∷ x)) (sym skipped))
+        ∙ ap (settles g p state) (q.plain.one ∙ ap (λ (x : List ℕ). on_found (unescaped x) none λ x. some (r.byte ∷ x)) (sym skipped))
         ∙ settles_on g p state r.byte (unescaped (text_in s rest'))
         ∙ ap (λ (x : Scan). settles g p x (unescaped (text_in s rest'))) (sym (f ∙ ap (scanned g (ranges g p) state) y))
 

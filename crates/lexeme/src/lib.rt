@@ -103,10 +103,9 @@ fn admits_escaped(g: &[u8], p: u16, set: &[u16], table: &[u16], s: &[u8], t: Tex
         left: text_len(s, t),
     };
     while 0 < rest.left {
-        let plain = plain_in(s, rest);
-        if plain.length == 0 {
+        let Some(plain) = plain_in(s, rest) else {
             return false;
-        }
+        };
         rest = text_skip(rest, plain.length);
         let byte = [plain.byte];
         state = scan_part(g, p, many, set, table, &byte[..], state);

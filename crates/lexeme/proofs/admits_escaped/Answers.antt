@@ -11,29 +11,29 @@ returns-then-head-ne1 c = by_kind_unescaped _ _ _ (rw c.fetch-head.ensures.kind 
 pub loop-rest-init : goal.loop-rest-init
 loop-rest-init c = unescape_start _ _ _ _ _ _ c.text_len.ensures c.between-state.ensures
 
-pub plain_in-plain-requires : goal.plain_in-plain-requires
-plain_in-plain-requires c = (c.loop-rest-test.true, c.loop-rest.invariant.there)
+pub plain_in-requires : goal.plain_in-requires
+plain_in-requires c = (c.loop-rest-test.true, c.loop-rest.invariant.there)
 
-pub returns-then-plain-eq0 : goal.returns-then-plain-eq0
-returns-then-plain-eq0 c = by_unescaped _ _ _ _ _ _ c.text_len.ensures (sym c.fetch-head.ensures.kind ∙ c.if-head-ne1.false) (unescape_none _ _ _ _ _ _ _ c.loop-rest.invariant c.plain_in-plain.ensures c.if-plain-eq0.true)
+pub returns-in_default : goal.returns-in_default
+returns-in_default c = by_unescaped _ _ _ _ _ _ c.text_len.ensures (sym c.fetch-head.ensures.kind ∙ c.if-head-ne1.false) (unescape_none _ _ _ _ _ _ c.loop-rest.invariant c.in_default.ensures)
 
 pub text_skip-rest-requires : goal.text_skip-rest-requires
-text_skip-rest-requires c = (c.plain_in-plain.ensures.few, unescape_near _ _ _ _ _ _ _ c.loop-rest.invariant c.plain_in-plain.ensures (omega (arith, c.well_formed)))
+text_skip-rest-requires c = (c.in-Some.ensures.few, unescape_near _ _ _ _ _ _ _ c.loop-rest.invariant c.in-Some.ensures (omega (arith, c.well_formed)))
 
 pub scan_part-state-requires : goal.scan_part-state-requires
 scan_part-state-requires c = record { class = c.requires; range_count = c.fetch-head.ensures.d; state = c.loop-rest.invariant.tidy; room = omega (arith, c.loop-rest.invariant.most, c.fetch-head.ensures.c) }
 
 pub returns-then-not-state : goal.returns-then-not-state
-returns-then-not-state c = by_unescaped _ _ _ _ _ _ c.text_len.ensures (sym c.fetch-head.ensures.kind ∙ c.if-head-ne1.false) (unescape_bad _ _ _ _ _ _ _ c.loop-rest.invariant c.plain_in-plain.ensures _ _ _ c.if-plain-eq0.false c.text_skip-rest.ensures refl c.scan_part-state.ensures (not-true _ c.if-not-state.true))
+returns-then-not-state c = by_unescaped _ _ _ _ _ _ c.text_len.ensures (sym c.fetch-head.ensures.kind ∙ c.if-head-ne1.false) (unescape_bad _ _ _ _ _ _ _ c.loop-rest.invariant c.in-Some.ensures _ _ _ c.text_skip-rest.ensures refl c.scan_part-state.ensures (not-true _ c.if-not-state.true))
 
 pub returns-then-most-state : goal.returns-then-most-state
-returns-then-most-state c = by_unescaped _ _ _ _ _ _ c.text_len.ensures (sym c.fetch-head.ensures.kind ∙ c.if-head-ne1.false) (unescape_past _ _ _ _ _ _ _ c.loop-rest.invariant c.plain_in-plain.ensures _ _ _ c.if-plain-eq0.false c.text_skip-rest.ensures refl c.scan_part-state.ensures (rw c.fetch-head.ensures.c at c.if-most-state.true))
+returns-then-most-state c = by_unescaped _ _ _ _ _ _ c.text_len.ensures (sym c.fetch-head.ensures.kind ∙ c.if-head-ne1.false) (unescape_past _ _ _ _ _ _ _ c.loop-rest.invariant c.in-Some.ensures _ _ _ c.text_skip-rest.ensures refl c.scan_part-state.ensures (rw c.fetch-head.ensures.c at c.if-most-state.true))
 
 pub loop-rest-smaller : goal.loop-rest-smaller
-loop-rest-smaller c = omega (arith, c.text_skip-rest.ensures.left)
+loop-rest-smaller c = omega (arith, c.text_skip-rest.ensures.left, c.in-Some.ensures.plain.onward)
 
 pub loop-rest-preserved : goal.loop-rest-preserved
-loop-rest-preserved c = unescape_turn _ _ _ _ _ _ _ c.loop-rest.invariant c.plain_in-plain.ensures _ _ _ c.if-plain-eq0.false c.text_skip-rest.ensures refl c.scan_part-state.ensures (search rules) (not-false _ c.if-not-state.false) (rw c.fetch-head.ensures.c at c.if-most-state.false)
+loop-rest-preserved c = unescape_turn _ _ _ _ _ _ _ c.loop-rest.invariant c.in-Some.ensures _ _ _ c.text_skip-rest.ensures refl c.scan_part-state.ensures (search rules) (not-false _ c.if-not-state.false) (rw c.fetch-head.ensures.c at c.if-most-state.false)
 
 pub returns-then-state-ne0 : goal.returns-then-state-ne0
 returns-then-state-ne0 c = by_unescaped _ _ _ _ _ _ c.text_len.ensures (sym c.fetch-head.ensures.kind ∙ c.if-head-ne1.false) (unescape_short _ _ _ _ _ _ c.loop-rest.invariant c.loop-rest-test.false c.if-state-ne0.true)
