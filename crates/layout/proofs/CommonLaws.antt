@@ -10,7 +10,7 @@ use lib.ListN.{length, get_or, take, drop, length-take, length-drop, length-appe
 use lib.Seq.{get_or-take, get_or-drop, drop-append-add, drop-nil}
 use lib.Pow.{shr-shr}
 use lib.Dec.{eqb, ltb}
-use borrow.Author.Tests.{eq-eqb, ne_eqb, eqb-true, eqb-false, ltb-true, ltb-false, lt-ltb, le-ltb, le-leb, lt-leb}
+use borrow.Author.Tests.{eq-eqb, ne_eqb, eqb-true, eqb-false, ltb-true, ltb-false, le-leb, lt-leb}
 use Rattle.rules.specs.Records.{base, byte_of, record_count, records_from, units, padding_of, zeros}
 use Rattle.rules.specs.Layout.{tail_right}
 use Rattle.stream.specs.declared.record.Record.{Record}
@@ -19,14 +19,6 @@ use Rattle.stream.specs.Record.{bytes_of, Fetched, place_of, Reach}
 use Rattle.laws.specs.Rows.{one_less}
 use Rattle.stream.proofs.RecordLaws.{eight_bytes}
 use Rattle.layout.specs.Common.{number_of}
-
--- Tests in a row, as code that returns at the first that fails
-
-pub and_stop : (a b : Bool) → a ≡ false → false ≡ a && b
-and_stop a b e = rw e
-
-pub and_go : (a b c : Bool) → a ≡ true → c ≡ b → c ≡ a && b
-and_go a b c e h = rw e h
 
 -- Bytes as a number
 
@@ -216,26 +208,11 @@ module _ (s : List ℕ) (p b : ℕ) where
       ∙ ap (λ (k : ℕ). zeros (drop k (records_from s (suc m) (p + 1)))) (sym y)
       ∙ ap (λ (m : ℕ). zeros (drop b (records_from s m (p + 1)))) (sym x ∙ is)
 
--- The records after the last thing, by the tests of the code
+-- Past the end of the stream is no right tail
 
-module _ (s : List ℕ) (p : ℕ) where
-  pub tail_nothing : p < 1 → false ≡ tail_right s p
-  unfolding tail_right
-  tail_nothing l = rw (lt-leb 1 p l)
-
-  module _ (a : 1 ≤ p) (n : ℕ) (c : n ≡ record_count s) where
-    pub tail_past : n < p → false ≡ tail_right s p
-    unfolding tail_right
-    tail_past l = rw (le-leb 1 p a, ← c, lt-leb p n l)
-
-    module _ (b : p ≤ n) where
-      pub tail_long : 63 ≤ n - p → false ≡ tail_right s p
-      unfolding tail_right
-      tail_long l = rw (le-leb 1 p a, ← c, le-leb p n b, le-ltb (n - p) 63 l)
-
-      pub tail_is : n - p < 63 → zeros (records_from s (n - p) p) ≡ tail_right s p
-      unfolding tail_right
-      tail_is l = rw (le-leb 1 p a, ← c, le-leb p n b, lt-ltb (n - p) 63 l)
+pub tail_past : (s : List ℕ) (p : ℕ) → 1 ≤ p → (n : ℕ) → n ≡ record_count s → n < p → false ≡ tail_right s p
+unfolding tail_right
+tail_past s p a n c l = rw (le-leb 1 p a, ← c, lt-leb p n l)
 
 -- Places
 

@@ -108,9 +108,6 @@ module _ {g : List ℕ} {p : ℕ} {r : Record} (f : Fetched g p r) where
     pub a_class : b ≡ true → is_class g p ≡ true
     a_class i = sym (class_is g p r f b e) ∙ i
 
-    pub not_a_class : b ≡ false → is_class g p ≡ false
-    not_a_class i = sym (class_is g p r f b e) ∙ i
-
     pub class_stands : stream_length g ≡ none → b ≡ true → Stands g (is_class g) p
     class_stands w i = record {
       is_one = a_class i;

@@ -10,7 +10,7 @@ use native.Mathlib.Nat.{sub-zero}
 use lib.ListN.{length, take, drop, set, length-set}
 use lib.Seq.{take-suc-set, drop-set-lt, drop-drop}
 use Rattle.rules.specs.Blocks.{stream_length}
-use Rattle.rules.specs.Records.{field_c, field_d, heads, after}
+use Rattle.rules.specs.Records.{field_d, heads, after}
 use Rattle.rules.specs.Grammar.{element_size, production_size}
 use Rattle.stream.specs.Record.{Fetched}
 use Rattle.stream.specs.declared.record.Record.{Record}
@@ -19,7 +19,7 @@ use Rattle.theorems.specs.Heads.{Spans}
 use Rattle.theorems.specs.Sizes.{row_grows}
 use Rattle.laws.specs.Rows.{one_less}
 use Rattle.layout.specs.Common.{most_records}
-use Rattle.layout.specs.Heads.{with_records, RowAhead, RowFilled}
+use Rattle.layout.specs.Heads.{RowAhead, RowFilled}
 
 module _ {is : ℕ → Bool} {size : ℕ → ℕ} where
   -- a row is one thing longer by the thing after it
@@ -98,16 +98,6 @@ module _ {s : List ℕ} {is : ℕ → Bool} {size : ℕ → ℕ} {start : ℕ} {
   pub fill_stop : {table : List ℕ} {n p : ℕ} → is p ≡ false → FillingRow s is size start before table n p
       → RowFilled is size start before table (record { count = n; next = p })
   fill_stop l f = record { row = record { things = f.done; stops = l }; begins = f.begins; rest = f.rest }
-
--- What the records of a head say
-
-module _ {s : List ℕ} {p : ℕ} {r : Record} (f : Fetched s p r) where
-  pub records_next : p + (1 + r.d) ≡ p + with_records s p
-  unfolding with_records
-  records_next = rw f.d
-
-  pub size_next : p + r.c ≡ p + field_c s p
-  size_next = rw f.c
 
 -- the place after n things, of which k are passed
 pub after_grows : (size : ℕ → ℕ) (n p : ℕ) → p ≤ after size n p

@@ -1,14 +1,15 @@
 // What the layout of every stream asks: the rest of a text's last unit is zero, and so are the records after the last thing.
-ghost use Rattle.std.specs.Prelude.{◌≡◌, ◌+◌, ◌-◌, ◌≤◌, ◌<◌, ◌^◌, drop};
+ghost use Rattle.std.specs.Prelude.{◌≡◌, ℕ, List, ◌+◌, ◌-◌, ◌≤◌, ◌<◌, ◌^◌, drop};
 ghost use Rattle.std.proofs.Math.Option.{none};
 ghost use Rattle.rules.specs.Blocks.{stream_length};
-ghost use Rattle.rules.specs.Records.{record_count, records_from, padding_of, zeros};
+ghost use Rattle.rules.specs.Records.{record_count, records_from, padding_of, units, zeros};
 ghost use Rattle.rules.specs.Layout.{tail_right};
-ghost use Rattle.stream.specs.Record.{bytes_of};
+ghost use Rattle.stream.specs.Record.{bytes_of, Fetched};
+ghost use Rattle.stream.specs.declared.record.Record.{Record};
 ghost use Rattle.layout.specs.Common.{number_of};
 
 use records::element::units;
-use stream::record::{Record, fetch, fetch_at, forward, place_of};
+use stream::record::{Record, fetch_at, forward, place_of};
 
 // A block's bytes, and the records that it carries.
 const BLOCK_BYTES: usize = 512;
@@ -38,14 +39,13 @@ pub fn zero_from(r: Record, j: usize) -> bool
     j == 8 || number_of(r) >> (8 * j) == 0
 }
 
-// The padding of the text of b bytes after the head at record p: what is left of its last unit, which alone is looked at.
-pub fn padded(s: &[u8], p: usize, b: u16) -> bool
-    requires s_value { stream_length s.now ≡ none }
-    requires p_bound { p < 2 ^ 32 }
-    ensures { result ≡ zeros (padding_of s.now b p) }
+// The padding of a text of b bytes: what is left of its last unit, which alone is looked at. It is the unit so many records after the text's head.
+pub fn padded<F: FnOnce(usize) -> Record>(b: u16, unit: F) -> bool
+    requires { (n : ℕ) → n ≡ units b → F.pre unit n }
+    ensures { (s : List ℕ) → (p : ℕ) → ((n : ℕ) → (r : Record) → n ≡ units b → F.post unit n r → Fetched s (p + n) r) → result ≡ zeros (padding_of s b p) }
 {
-    let over = b as usize % 8;
-    over == 0 || zero_from(fetch(s, p + units(b as usize)), over)
+    let over = usize::from(b) % 8;
+    over == 0 || zero_from(unit(units(usize::from(b))), over)
 }
 
 // The records from p up to record n are zero.

@@ -54,7 +54,7 @@ fn element_end(g: &[u8], p: usize) -> Option<usize>
         return None;
     }
     let text = text_length(e);
-    if padded(g, p, text) {
+    if padded(text, |n| fetch(g, p + n)) {
         Some(p + 1 + units(text as usize))
     } else {
         None

@@ -7,7 +7,7 @@ ghost use Rattle.rules.specs.Value.{value_size};
 ghost use Rattle.stream.specs.Record.{Fetched, place_of};
 ghost use Rattle.layout.specs.Tree.{chain, Stopped, SizedBefore, text_head, Headed, Chains, LiesIn, HeadIn};
 
-use crate::common::zero_from;
+use crate::common::padded;
 use records::element::units;
 use records::value::size_of;
 use stream::record::{Place, Record, fetch_in, forward};
@@ -50,15 +50,6 @@ pub fn chained(s: &[u8], n: usize, p: usize, at: Place, e: usize) -> bool
     q == e
 }
 
-// The padding of the text of b bytes after the head at a place, where its last unit lies in the stream.
-fn padded_in(s: &[u8], at: Place, b: u16) -> bool
-    requires { LiesIn s.now at (1 + units b) }
-    ensures { (p : ℕ) → at ≡ place_of p → result ≡ zeros (padding_of s.now b p) }
-{
-    let over = b as usize % 8;
-    over == 0 || zero_from(fetch_in(s, forward(at, units(b as usize))), over)
-}
-
 // A head that is followed by a text, and by nothing below it. Its size is held against the text's units first, so that the text lies in the stream.
 pub fn text_head(s: &[u8], at: Place, r: Record, size: usize) -> Option<Head>
     requires { HeadIn s.now at r size }
@@ -67,7 +58,7 @@ pub fn text_head(s: &[u8], at: Place, r: Record, size: usize) -> Option<Head>
     if size != 1 + units(r.b as usize) {
         return None;
     }
-    if padded_in(s, at, r.b) {
+    if padded(r.b, |n| fetch_in(s, forward(at, n))) {
         Some(Head {
             own: size as u32,
             below: 0,
