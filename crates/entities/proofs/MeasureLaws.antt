@@ -20,8 +20,8 @@ use Rattle.entities.specs.declared.entity.Plain.{Plain}
 use Rattle.entities.specs.declared.utf8.Utf8.{Utf8}
 use Rattle.entities.specs.Entity.{plain_in, Read, Begun}
 use Rattle.entities.specs.Utf8.{calm, next_shape, shapes, is_end}
-use Rattle.entities.specs.Measured.{length_from, measured, ended_after, Letter, Letters}
-use Rattle.entities.proofs.PlainLaws.{plain_of_lem, own_form}
+use Rattle.entities.specs.Measured.{length_from, measured, Letter, Letters}
+use Rattle.entities.proofs.PlainLaws.{plain_of_lem, own_form, read_some}
 use Rattle.entities.proofs.EscapeLaws.{own_entity}
 use Rattle.entities.proofs.Utf8Laws.{shape_between}
 
@@ -56,54 +56,8 @@ pub record Measuring (text : List ℕ) (u : Utf8) (n at : ℕ) : Type 0 where
 pub measure_start : (text : List ℕ) (u : Utf8) → u ≡ calm → Measuring text u 0 0
 measure_start text u e = record { inside = omega arith; fewer = omega arith; same = rw e }
 
-pub drop_some : (text : List ℕ) (at : ℕ) → at < length text → 1 ≤ length (drop at text)
+drop_some : (text : List ℕ) (at : ℕ) → at < length text → 1 ≤ length (drop at text)
 drop_some text at l = rw length-drop (omega arith)
-
-module _ {text : List ℕ} {u : Utf8} {n at : ℕ} (h : Measuring text u n at) (l : at < length text) where
-  pub measure_none : plain_in (drop at text) ≡ none → {m : Maybe ℕ} → m ≡ None → measured m ≡ length_from (Some calm) 0 (unescaped text)
-  unfolding length_from on_found
-  measure_none p e = rw e (sym (rw (plain_of_lem (drop at text) None (drop_some text at l) p)) ∙ h.same)
-
-  module _ {r : Plain} (p : Read (drop at text) r) where
-    begun : Begun (drop at text) r
-    begun = plain_of_lem (drop at text) (Some r) (drop_some text at l) p
-
-    turn : length_from (Some u) n (unescaped (drop at text)) ≡ length_from (next_shape u r.byte) (n + 1) (unescaped (drop (at + r.length) text))
-    turn =
-        ap (length_from (Some u) n) begun.one
-        ∙ length_turn u n r.byte (unescaped (drop r.length (drop at text)))
-        ∙ ap (λ (x : List ℕ). length_from (next_shape u r.byte) (n + 1) (unescaped x)) (drop-drop r.length at text)
-
-    pub measure_inside : at + r.length ≤ length text
-    measure_inside = omega (arith, begun.inside, length-drop at text)
-
-    pub measure_grows : at < at + r.length
-    measure_grows = omega (arith, begun.onward)
-
-    pub measure_bad : None ≡ next_shape u r.byte → {m : Maybe ℕ} → m ≡ None → measured m ≡ length_from (Some calm) 0 (unescaped text)
-    measure_bad e f = rw f (sym (turn ∙ rw (← e) (length_bad (n + 1) _)) ∙ h.same)
-
-    pub measure_turn : {v : Utf8} → Some v ≡ next_shape u r.byte → Measuring text v (n + 1) (at + r.length)
-    measure_turn e = record {
-      inside = measure_inside;
-      fewer = omega (arith, h.fewer, measure_grows);
-      same = rw e (sym turn ∙ h.same);
-    }
-
-pub unescaped_nothing : unescaped [] ≡ some []
-unfolding unescaped unescaped_after
-unescaped_nothing = refl
-
-ended_by : (t : Bool) (n : ℕ) → measured (then_some t n) ≡ only_if t n
-unfolding only_if
-ended_by true n = refl
-ended_by false n = refl
-
-pub measure_end : {text : List ℕ} {u : Utf8} {n at : ℕ} → Measuring text u n at → length text ≤ at
-    → {r : Maybe ℕ} → r ≡ ended_after u n → measured r ≡ length_from (Some calm) 0 (unescaped text)
-unfolding length_from on_found shapes is_end
-measure_end {text} {u} {n} {at} h l e =
-    rw (e, ended_by (eqb u.due 0) n) (sym (rw (drop_of_length-le text {i = at} l, unescaped_nothing, add-zero)) ∙ h.same)
 
 -- A run of letters
 
@@ -137,7 +91,7 @@ letters_run text (suc k) at n l h =
     ∙ letters_run text k (at + 1) (n + 1) (omega arith) (λ i x y. h i (omega arith) (omega arith))
     ∙ rw (a, b)
 
-pub measure_run : {text : List ℕ} {u : Utf8} {n at r : ℕ} → Measuring text u n at → Letters text at u.due r → Measuring text u (n + (r - at)) r
+measure_run : {text : List ℕ} {u : Utf8} {n at r : ℕ} → Measuring text u n at → Letters text at u.due r → Measuring text u (n + (r - at)) r
 measure_run {text} {u} {n} {at} {r} h p = record {
   inside = p.inside;
   fewer = omega (arith, h.fewer, p.onward);
@@ -156,6 +110,58 @@ measure_run {text} {u} {n} {at} {r} h p = record {
         ∙ sym (letters_run text (r - at) at n (omega (arith, p.onward, p.inside)) (λ i x y. p.letters i x (omega (arith, p.onward))) ∙ rw k)
         ∙ sym (settled u n _ d)
         ∙ h.same
+
+pub unescaped_nothing : unescaped [] ≡ some []
+unfolding unescaped unescaped_after
+unescaped_nothing = refl
+
+ended_by : (t : Bool) (n : ℕ) → measured (then_some t n) ≡ only_if t n
+unfolding only_if
+ended_by true n = refl
+ended_by false n = refl
+
+-- What a turn of the loop makes of it: first a run of letters, and then a byte more, or the end
+module _ {text : List ℕ} {u : Utf8} {n₀ at₀ at : ℕ} (g : Measuring text u n₀ at₀) (q : Letters text at₀ u.due at) where
+  h : Measuring text u (n₀ + (at - at₀)) at
+  h = measure_run g q
+
+  pub measure_end : at ≡ length text → {m : Maybe ℕ} → m ≡ then_some (eqb u.due 0) (n₀ + (at - at₀)) → measured m ≡ length_from (Some calm) 0 (unescaped text)
+  unfolding length_from on_found shapes is_end
+  measure_end l e =
+      let k : length text ≤ at = omega arith in
+      rw (e, ended_by (eqb u.due 0) (n₀ + (at - at₀))) (sym (rw (drop_of_length-le text {i = at} k, unescaped_nothing, add-zero)) ∙ h.same)
+
+  pub measure_none : (at ≡ length text → ⊥) → plain_in (drop at text) ≡ none → {m : Maybe ℕ} → m ≡ None → measured m ≡ length_from (Some calm) 0 (unescaped text)
+  unfolding length_from on_found
+  measure_none l p e = rw e (sym (rw (plain_of_lem (drop at text) None (drop_some text at (omega (arith, q.inside))) p)) ∙ h.same)
+
+  module _ {r : Plain} (p : Read (drop at text) r) where
+    begun : Begun (drop at text) r
+    begun = plain_of_lem (drop at text) (Some r) (read_some (drop at text) p) p
+
+    turn : length_from (Some u) (n₀ + (at - at₀)) (unescaped (drop at text)) ≡ length_from (next_shape u r.byte) (n₀ + (at - at₀) + 1) (unescaped (drop (at + r.length) text))
+    turn =
+        ap (length_from (Some u) (n₀ + (at - at₀))) begun.one
+        ∙ length_turn u (n₀ + (at - at₀)) r.byte (unescaped (drop r.length (drop at text)))
+        ∙ ap (λ (x : List ℕ). length_from (next_shape u r.byte) (n₀ + (at - at₀) + 1) (unescaped x)) (drop-drop r.length at text)
+
+    pub measure_inside : at + r.length ≤ length text
+    measure_inside = omega (arith, begun.inside, q.inside, length-drop at text)
+
+    pub measure_grows : at₀ < at + r.length
+    measure_grows = omega (arith, begun.onward, q.onward)
+
+    pub measure_bad : None ≡ next_shape u r.byte → {m : Maybe ℕ} → m ≡ None → measured m ≡ length_from (Some calm) 0 (unescaped text)
+    measure_bad e f = rw f (sym (turn ∙ rw (← e) (length_bad (n₀ + (at - at₀) + 1) _)) ∙ h.same)
+
+    pub measure_turn : {v : Utf8} → Some v ≡ next_shape u r.byte → Measuring text v (n₀ + (at - at₀) + 1) (at + r.length)
+    measure_turn e = record {
+      inside = measure_inside;
+      fewer = omega (arith, h.fewer, begun.onward);
+      same = rw e (sym turn ∙ h.same);
+    }
+
+-- The run of letters, letter by letter
 
 pub run_start : (text : List ℕ) (from due : ℕ) → from ≤ length text → Letters text from due from
 run_start text from due l = record { onward = le_refl _; inside = l; letters = λ i x y. absurd (omega arith); idle = λ w. refl }

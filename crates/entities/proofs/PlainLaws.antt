@@ -3,7 +3,7 @@ use Rattle.std.proofs.Common.{◌≡◌, refl, ap, sym, ◌∙◌, ℕ, zero, su
 use Rattle.std.specs.Prelude.{Option as Maybe, Some, None}
 use Rattle.std.proofs.Math.ListN.{drop_of_length-le}
 use Rattle.std.proofs.Math.Seq.{drop-cons}
-use Rattle.std.proofs.Math.Option.{none, some}
+use Rattle.std.proofs.Math.Option.{none, some, none-ne-some}
 use Rattle.rules.specs.Faults.{on_found}
 use Rattle.rules.specs.Escape.{entity, begins, first_of, plain_byte, unescaped_after, unescaped}
 use Rattle.laws.specs.Escapes.{ampersand, less, greater, quote, apostrophe, itself, turned, plain_byte_itself, plain_byte_begins, entity_some, unescaped_after_lem}
@@ -71,6 +71,12 @@ unfolding plain_in
 plain_of_lem [] r l h = absurd (omega arith)
 plain_of_lem (b ∷ bs) None l h = read_none b bs h
 plain_of_lem (b ∷ bs) (Some r) l h = begun b bs r h
+
+-- what begins with a byte's escaped form is not empty
+pub read_some : (text : List ℕ) {r : Plain} → Read text r → 1 ≤ length text
+unfolding plain_in
+read_some [] {r} p = absurd (none-ne-some r.byte p.told)
+read_some (b ∷ bs) p = omega arith
 
 -- six bytes tell
 begins_take : (xs text : List ℕ) (n : ℕ) → length xs ≤ n → begins xs (take n text) ≡ begins xs text

@@ -15,7 +15,7 @@ use Rattle.laws.specs.Writes.{copy_more, copy_all}
 use Rattle.entities.specs.declared.entity.Plain.{Plain}
 use Rattle.entities.specs.Entity.{plain_in, Read, Begun}
 use Rattle.entities.specs.Measured.{Plainly}
-use Rattle.entities.proofs.PlainLaws.{plain_of_lem}
+use Rattle.entities.proofs.PlainLaws.{plain_of_lem, read_some}
 use Rattle.entities.proofs.MeasureLaws.{unescaped_nothing}
 
 -- The plain text, written byte by byte
@@ -32,12 +32,7 @@ pub record Putting (text out₀ out : List ℕ) (n at : ℕ) : Type 0 where
 pub put_start : (text out : List ℕ) → Plainly text (length out) → Putting text out out 0 0
 put_start text out p = record { plain = p.plain; is = p.is; fits = p.fits; few = omega arith; inside = omega arith; rest = p.is; so_far = refl; long = refl }
 
--- what begins with the escaped form of a byte is not empty, and what begins with none is empty here
-read_some : (text : List ℕ) {r : Plain} → Read text r → 1 ≤ length text
-unfolding plain_in
-read_some [] {r} p = absurd (none-ne-some r.byte p.told)
-read_some (b ∷ bs) p = omega arith
-
+-- what begins with no byte's escaped form, and is an escaped form, is empty
 read_none : (text x : List ℕ) → plain_in text ≡ none → unescaped text ≡ some x → text ≡ []
 read_none [] x p e = refl
 read_none (b ∷ bs) x p e = absurd (none-ne-some x (sym (plain_of_lem (b ∷ bs) None (omega arith) p) ∙ e))

@@ -1,6 +1,5 @@
 -- The plain text of an escaped one, measured from a place on.
-use Rattle.std.specs.Prelude.{ℕ, ◌+◌, ◌≤◌, ◌<◌, ◌≡◌, List, length, get_or, true, eqb, Option as Maybe, Some, None}
-use Rattle.std.specs.Bool.{then_some}
+use Rattle.std.specs.Prelude.{ℕ, ◌+◌, ◌≤◌, ◌<◌, ◌≡◌, List, length, get_or, true, Option as Maybe, Some, None}
 use Rattle.std.proofs.Math.Option.{Option, none, some}
 use Rattle.rules.specs.Faults.{on_found, only_if}
 use Rattle.rules.specs.Escape.{unescaped}
@@ -15,10 +14,6 @@ length_from u n o = on_found o none λ x. only_if (is_end (shapes u x)) (n + len
 abbrev pub measured : Maybe ℕ → Option ℕ
 measured None = none
 measured (Some n) = some n
-
--- at the end of a text: no byte is due
-abbrev pub ended_after : Utf8 → ℕ → Maybe ℕ
-ended_after u n = then_some (eqb u.due 0) n
 
 -- a byte that is a character by itself and its own escaped form; there are only such bytes from a place to another, and inside a character none
 pub record Letter (b : ℕ) : Type 0 where

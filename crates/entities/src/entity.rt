@@ -4,7 +4,7 @@ ghost use Rattle.rules.specs.Escape.{entity};
 ghost use Rattle.stream.specs.Text.{text_in};
 ghost use Rattle.entities.specs.Entity.{EntityOf, own, Reads, PlainIn};
 
-use stream::text::{Text, text_part, text_skip};
+use stream::text::{Text, copy_text};
 
 // What a byte is turned into, if it is one of the five that don't stand for themselves.
 #[tactic(auto, unfolding(rules::specs::Escape::entity))]
@@ -73,11 +73,7 @@ pub fn plain_in(s: &[u8], t: Text) -> Option<Plain>
     ensures { PlainIn s.now t result }
 {
     let n = t.left.min(LONGEST);
-    let mut window = [0u8; LONGEST];
-    let mut rest = t;
-    for i in 0..n {
-        window[i] = text_part(s, rest)[0];
-        rest = text_skip(rest, 1);
-    }
+    let mut window = [0; LONGEST];
+    copy_text(s, Text { at: t.at, left: n }, &mut window);
     plain_at(&window[..n], 0)
 }

@@ -4,19 +4,12 @@ ghost use Rattle.std.proofs.Math.Option.{some};
 ghost use Rattle.rules.specs.Escape.{unescaped};
 ghost use Rattle.rules.specs.Answers.{answer, unescape};
 ghost use Rattle.entities.specs.Utf8.{calm};
-ghost use Rattle.entities.specs.Measured.{length_from, measured, ended_after, Plainly, Letter, Letters};
+ghost use Rattle.entities.specs.Measured.{length_from, measured, Plainly, Letter, Letters};
 
 use crate::entity::{is_own, plain_at};
-use crate::utf8::{Utf8, between, next};
+use crate::utf8::{between, next};
 use rules::Answer;
 use stream::copy::copy_into;
-
-// At the end of the text, n bytes of plain text behind: none is well-formed if a byte of a character is due.
-fn ended(u: Utf8, n: usize) -> Option<usize>
-    ensures { result ≡ ended_after u n }
-{
-    (u.due == 0).then_some(n)
-}
 
 // A byte that is a character by itself and its own escaped form.
 fn is_letter(b: u8) -> bool
@@ -48,19 +41,18 @@ fn measure(text: &[u8]) -> Option<usize>
     let mut u = between();
     let mut n = 0;
     let mut at = 0;
-    while at < text.len() {
+    loop {
         let here = ahead(text, at, u.due);
         n += here - at;
         at = here;
-        if text.len() <= at {
-            return ended(u, n);
+        if at == text.len() {
+            return (u.due == 0).then_some(n);
         }
         let plain = plain_at(text, at)?;
         u = next(u, plain.byte)?;
         at += plain.length;
         n += 1;
     }
-    ended(u, n)
 }
 
 // The plain text to the beginning of out, which has room for it.
