@@ -1,12 +1,14 @@
 -- An escaped text, byte by byte of the plain text, to the verdict.
-use Prim.Native.Nat.{ℕ, zero, suc, ◌+◌, ◌*◌, ◌≤◌, ◌<◌, ◌^◌}
+use Prim.Native.Nat.{ℕ, zero, suc, ◌+◌, ◌*◌, ◌^◌, ◌≤◌, ◌<◌}
 use mathlib.Core.Path.{◌≡◌, refl, ap, sym, ◌∙◌}
 use mathlib.Core.List.{List, [], ◌∷◌}
-use mathlib.Core.Bool.{Bool, true, false}
+use mathlib.Core.Bool.{Bool, false}
 use mathlib.Core.Option.{Option, none, some}
 use native.Mathlib.Omega.{arith}
 use lib.ListN.{length, get_or, drop, length-drop}
-use lib.Dec.{leb}
+use lib.Dec.{eqb, leb}
+use borrow.Author.Tests.{ne_eqb}
+use Rattle.std.specs.Prelude.{Some, None, option_and_then}
 use Rattle.rules.specs.Faults.{on_found}
 use Rattle.rules.specs.Records.{kind_of, field_b, field_c}
 use Rattle.rules.specs.Grammar.{class}
@@ -19,9 +21,9 @@ use Rattle.stream.proofs.SkipLaws.{text_cut}
 use Rattle.entities.specs.Entity.{NoneIn, OneIn}
 use Rattle.entities.specs.declared.entity.Plain.{Plain}
 use Rattle.lexeme.specs.declared.scan.Scan.{Scan}
-use Rattle.lexeme.specs.Scan.{midway, clean, scanned, Tidy}
-use Rattle.lexeme.proofs.ScanLaws.{passes, plain_scan, plain_other}
-use Rattle.lexeme.proofs.PartLaws.{tidy_clean, tidy_scanned, passes_bad, passes_past}
+use Rattle.lexeme.specs.Scan.{clean, scanned, Tidy}
+use Rattle.lexeme.proofs.ScanLaws.{passes, scanned_append, plain_scan, plain_other}
+use Rattle.lexeme.proofs.PartLaws.{tidy_clean, tidy_scanned, passes_past}
 use Rattle.lexeme.proofs.LexemeLaws.{ends_short, ends_whole}
 
 -- what a scan from a state on says of a plain text, if there is one
@@ -58,26 +60,29 @@ settles_none : (g : List ℕ) (p : ℕ) (state : Scan) → settles g p state non
 unfolding settles on_found
 settles_none g p state = refl
 
-settles_bad : (g : List ℕ) (p : ℕ) (state : Scan) (o : Option (List ℕ)) → state.good ≡ false → settles g p state o ≡ false
-unfolding settles on_found
-settles_bad g p state none e = refl
-settles_bad g p state (some x) e = passes_bad g p (ranges g p) x state e
-
 settles_past : (g : List ℕ) (p : ℕ) (state : Scan) (o : Option (List ℕ)) → field_c g p < state.count → settles g p state o ≡ false
 unfolding settles on_found
 settles_past g p state none l = refl
 settles_past g p state (some x) l = passes_past g p (ranges g p) x state l
 
-settles_end : (g : List ℕ) (p : ℕ) (state : Scan) → settles g p state (unescaped []) ≡ passes g p state
+settles_end : (g : List ℕ) (p : ℕ) (state : Scan) → settles g p state (unescaped []) ≡ passes g p (Some state)
 unfolding settles on_found unescaped unescaped_after scanned
 settles_end g p state = refl
 
 -- a plain byte more
-settles_on : (g : List ℕ) (p : ℕ) (state : Scan) (b : ℕ) (o : Option (List ℕ))
-    → settles g p state (on_found o none λ x. some (b ∷ x)) ≡ settles g p (scanned g (ranges g p) state (b ∷ [])) o
-unfolding settles on_found scanned
-settles_on g p state b none = refl
-settles_on g p state b (some x) = refl
+settles_on : (g : List ℕ) (p : ℕ) (state next : Scan) (b : ℕ) (o : Option (List ℕ)) → Some next ≡ scanned g (ranges g p) state (b ∷ [])
+    → settles g p state (on_found o none λ x. some (b ∷ x)) ≡ settles g p next o
+unfolding settles on_found
+settles_on g p state next b none f = refl
+settles_on g p state next b (some x) f =
+    ap (passes g p) (scanned_append g (ranges g p) state (b ∷ []) x ∙ ap (option_and_then (λ y. scanned g (ranges g p) y x)) (sym f))
+
+settles_off : (g : List ℕ) (p : ℕ) (state : Scan) (b : ℕ) (o : Option (List ℕ)) → None ≡ scanned g (ranges g p) state (b ∷ [])
+    → settles g p state (on_found o none λ x. some (b ∷ x)) ≡ false
+unfolding settles on_found passes
+settles_off g p state b none f = refl
+settles_off g p state b (some x) f =
+    ap (passes g p) (scanned_append g (ranges g p) state (b ∷ []) x ∙ ap (option_and_then (λ y. scanned g (ranges g p) y x)) (sym f))
 
 one_byte : (b : ℕ) → b < 256 → (i : ℕ) → get_or (b ∷ []) i 0 < 256
 one_byte b l zero = l
@@ -92,10 +97,7 @@ pub record Unescaping (g : List ℕ) (p : ℕ) (s : List ℕ) (t : Text) (state 
 
 pub unescape_start : (g : List ℕ) (p : ℕ) (s : List ℕ) (t : Text) (n : ℕ) (state : Scan) → n ≡ length (text_in s t) → state ≡ clean 0
     → Unescaping g p s (record { at = t.at; left = n }) state (record { at = t.at; left = n })
-unescape_start g p s t n state f e = rw e record { tidy = tidy_clean 0; most = none_yet; there = ap length (text_cut s t n f) ∙ sym f; same = refl }
-  where
-    none_yet : (clean 0).count ≤ field_c g p
-    none_yet = unfold clean midway in omega arith
+unescape_start g p s t n state f e = rw e record { tidy = tidy_clean 0; most = omega arith; there = ap length (text_cut s t n f) ∙ sym f; same = refl }
 
 -- no byte's escaped form
 pub unescape_none : (g : List ℕ) (p : ℕ) (s : List ℕ) (t rest : Text) (state : Scan) → Unescaping g p s t state rest → NoneIn s rest → false ≡ verdict g p s t
@@ -106,39 +108,38 @@ module _ (g : List ℕ) (p : ℕ) (s : List ℕ) (t rest : Text) (state : Scan) 
   pub unescape_near : length s < 2 ^ 63 → rest.at + 9 * r.length < 2 ^ 64
   unescape_near m = omega (arith, q.near, q.plain.short)
 
-  module _ (next : Scan) (part : List ℕ) (rest' : Text) (k : Skips r.length rest rest')
-      (y : part ≡ r.byte ∷ []) (f : next ≡ scanned g (ranges g p) state part) where
+  module _ (part : List ℕ) (rest' : Text) (k : Skips r.length rest rest') (y : part ≡ r.byte ∷ []) where
     skipped : text_in s rest' ≡ drop r.length (text_in s rest)
     skipped = k.text s q.plain.inside
 
-    onward : settles g p (clean 0) (unescaped (text_in s t)) ≡ settles g p next (unescaped (text_in s rest'))
-    onward =
-        h.same
-        ∙ ap (settles g p state) (q.plain.one ∙ ap (λ (x : List ℕ). on_found (unescaped x) none λ x. some (r.byte ∷ x)) (sym skipped))
-        ∙ settles_on g p state r.byte (unescaped (text_in s rest'))
-        ∙ ap (λ (x : Scan). settles g p x (unescaped (text_in s rest'))) (sym (f ∙ ap (scanned g (ranges g p) state) y))
+    onward : settles g p (clean 0) (unescaped (text_in s t)) ≡ settles g p state (on_found (unescaped (text_in s rest')) none λ x. some (r.byte ∷ x))
+    onward = h.same ∙ ap (settles g p state) (q.plain.one ∙ ap (λ (x : List ℕ). on_found (unescaped x) none λ x. some (r.byte ∷ x)) (sym skipped))
 
-    pub unescape_turn : r.byte < 256 → next.good ≡ true → next.count ≤ field_c g p → Unescaping g p s t next rest'
-    unescape_turn b o m = record {
-      tidy = rw f (tidy_scanned g (ranges g p) part state h.tidy (rw y (one_byte r.byte b)) (rw f at o));
-      most = m;
-      there = rw (skipped, length-drop) (omega (arith, h.there, k.left));
-      same = onward;
-    }
+    pub unescape_bad : None ≡ scanned g (ranges g p) state part → false ≡ verdict g p s t
+    unescape_bad f = sym (onward ∙ settles_off g p state r.byte (unescaped (text_in s rest')) (f ∙ ap (scanned g (ranges g p) state) y))
 
-    pub unescape_bad : next.good ≡ false → false ≡ verdict g p s t
-    unescape_bad o = sym (onward ∙ settles_bad g p next (unescaped (text_in s rest')) o)
+    module _ (next : Scan) (f : Some next ≡ scanned g (ranges g p) state part) where
+      onto : settles g p (clean 0) (unescaped (text_in s t)) ≡ settles g p next (unescaped (text_in s rest'))
+      onto = onward ∙ settles_on g p state next r.byte (unescaped (text_in s rest')) (f ∙ ap (scanned g (ranges g p) state) y)
 
-    pub unescape_past : field_c g p < next.count → false ≡ verdict g p s t
-    unescape_past m = sym (onward ∙ settles_past g p next (unescaped (text_in s rest')) m)
+      pub unescape_turn : r.byte < 256 → next.count ≤ field_c g p → Unescaping g p s t next rest'
+      unescape_turn b m = record {
+        tidy = tidy_scanned g (ranges g p) part state next h.tidy (rw y (one_byte r.byte b)) f;
+        most = m;
+        there = rw (skipped, length-drop) (omega (arith, h.there, k.left));
+        same = onto;
+      }
+
+      pub unescape_past : field_c g p < next.count → false ≡ verdict g p s t
+      unescape_past m = sym (onto ∙ settles_past g p next (unescaped (text_in s rest')) m)
 
 -- at the end of the text
 module _ (g : List ℕ) (p : ℕ) (s : List ℕ) (t : Text) (state : Scan) (rest : Text) (h : Unescaping g p s t state rest) (l : rest.left ≤ 0) where
-  all_read : settles g p (clean 0) (unescaped (text_in s t)) ≡ passes g p state
+  all_read : settles g p (clean 0) (unescaped (text_in s t)) ≡ passes g p (Some state)
   all_read = h.same ∙ ap (λ (x : List ℕ). settles g p state (unescaped x)) (text_end_lem s rest l) ∙ settles_end g p state
 
-  pub unescape_short : (state.due ≡ 0 → ⊥) → false ≡ verdict g p s t
-  unescape_short d = sym (all_read ∙ ends_short g p state h.tidy d)
+  pub unescape_short : (state.due ≡ 0 → ⊥) → eqb state.due 0 ≡ verdict g p s t
+  unescape_short d = ne_eqb state.due 0 d ∙ sym (all_read ∙ ends_short g p state d)
 
   pub unescape_whole : state.due ≡ 0 → leb (field_b g p) state.count ≡ verdict g p s t
-  unescape_whole d = sym (all_read ∙ ends_whole g p state h.tidy h.most d)
+  unescape_whole d = sym (all_read ∙ ends_whole g p state h.most d)

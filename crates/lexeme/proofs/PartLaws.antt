@@ -1,22 +1,24 @@
 -- The scan of a part: what its states are like, and one part behind another.
 use Prim.Native.Nat.{ℕ, suc, ◌+◌, ◌-◌, ◌*◌, ◌≤◌, ◌<◌, ◌^◌}
-use mathlib.Core.Path.{◌≡◌, refl, ap, sym, ◌∙◌}
+use mathlib.Core.Path.{◌≡◌, refl, ap, sym, subst, ◌∙◌}
 use mathlib.Core.List.{List, [], ◌∷◌}
-use mathlib.Core.Bool.{Bool, true, false, cond, not, ◌&&◌, and-false, false≢true, true≢false}
+use mathlib.Core.Logic.{◌⊎◌, inl, inr}
+use mathlib.Core.Bool.{Bool, true, false, cond, not, ◌&&◌, and-false, true≢false}
 use native.Mathlib.Omega.{arith}
 use native.Mathlib.Numerals.{add-one}
 use lib.ListN.{length, get_or, drop, drop_of_length-le}
 use lib.Seq.{drop-cons}
 use lib.Dec.{eqb, leb}
-use lib.Pow.{pow-add, pow_mono}
+use lib.Pow.{pow-add}
 use borrow.Author.Tests.{lt-leb, eqb-true, eqb-false, leb-true}
+use Rattle.std.specs.Prelude.{Option as Maybe, Some, None, option_and_then}
 use Rattle.rules.specs.Records.{field_b, field_c}
 use Rattle.rules.specs.Lexeme.{Decoding, between, inside, broken, first_byte, later_byte, next_byte, is_of_class, all_of_class, within, ranges}
 use Rattle.lexeme.specs.declared.scan.Scan.{Scan}
 use Rattle.lexeme.specs.Sets.{ClassSet}
-use Rattle.lexeme.specs.Scan.{midway, clean, stopped, judged, resumed, seen, scanned, Tidy}
+use Rattle.lexeme.specs.Scan.{midway, clean, judged, resumed, seen, scanned, Tidy}
 use Rattle.lexeme.specs.Runs.{RunsTo}
-use Rattle.lexeme.proofs.ScanLaws.{passes, by_test, scanned_stopped}
+use Rattle.lexeme.proofs.ScanLaws.{passes, by_test}
 use Rattle.lexeme.proofs.StepLaws.{seen_first, seen_later, later_low, later_high, later_last, later_more, judge_stop, judge_char, judge_midway}
 
 -- a decoding after one byte of a text whose characters were forgotten
@@ -73,43 +75,43 @@ whole_later due low high bits b z s l h f =
     below true false q e = absurd (true≢false e)
     below false y q e = absurd (true≢false e)
 
--- a state after one byte
+-- a state after one byte, n characters having gone before
+record After (n : ℕ) (t : Scan) : Type 0 where
+  tidy : Tidy t
+  few : t.count ≤ n + 1
+
 module _ (g rs : List ℕ) (n : ℕ) (d : Decoding) where
-  tidy_judged : Whole d → (judged g rs n d).good ≡ true → Tidy (judged g rs n d)
-  unfolding judged midway stopped clean
-  tidy_judged w = by_test (λ (s : Scan). s.good ≡ true → Tidy s) (d.valid && all_of_class g rs d.characters) (λ e f. record {
-    good = refl;
-    fresh = λ z. let q = w.fresh z in rw (z, q.0, q.1, q.2);
-    from = w.from;
-    to = w.to;
-    short = w.short;
-    few = w.few;
-  }) (λ e f. absurd (false≢true f))
+  -- what it is, if it is one
+  state : Scan
+  state = midway (n + length d.characters) d.due d.low d.high d.bits
 
-  count_judged : Whole d → (judged g rs n d).count ≤ n + 1
-  unfolding judged midway stopped
-  count_judged w = by_test (λ (s : Scan). s.count ≤ n + 1) (d.valid && all_of_class g rs d.characters) (λ e. omega (arith, w.single)) (λ e. omega arith)
+  of_judged : (P : Scan → Type 0) → P state → (t : Scan) → Some t ≡ judged g rs n d → P t
+  unfolding judged state
+  of_judged P h t = by_test (λ (o : Maybe Scan). Some t ≡ o → P t) (d.valid && all_of_class g rs d.characters) (λ e f. let q : state ≡ t = cc in subst P q h) (λ e f. cc)
 
-  grow_judged : (judged g rs n d).good ≡ true → n ≤ (judged g rs n d).count
-  unfolding judged midway stopped
-  grow_judged = by_test (λ (s : Scan). s.good ≡ true → n ≤ s.count) (d.valid && all_of_class g rs d.characters) (λ e f. omega arith) (λ e f. absurd (false≢true f))
+  after_judged : Whole d → (t : Scan) → Some t ≡ judged g rs n d → After n t
+  unfolding state
+  after_judged w = of_judged (After n) record {
+    tidy = record {
+      fresh = λ z. let x = w.fresh z in rw (z, x.0, x.1, x.2);
+      from = w.from;
+      to = w.to;
+      short = w.short;
+      few = w.few;
+    };
+    few = omega (arith, w.single);
+  }
 
-  stop_judged : (judged g rs n d).good ≡ false → judged g rs n d ≡ stopped
-  unfolding judged midway
-  stop_judged = by_test (λ (s : Scan). s.good ≡ false → s ≡ stopped) (d.valid && all_of_class g rs d.characters) (λ e f. absurd (true≢false f)) (λ e f. refl)
-
-good_midway : (s : Scan) → s.good ≡ true → s ≡ midway s.count s.due s.low s.high s.bits
-unfolding midway
-good_midway s e = ap (λ (v : Bool). record { good = v; due = s.due; low = s.low; high = s.high; bits = s.bits; count = s.count }) e
+  grow_judged : (t : Scan) → Some t ≡ judged g rs n d → n ≤ t.count
+  unfolding state
+  grow_judged = of_judged (λ t. n ≤ t.count) (omega arith)
 
 -- the ways of a step
 step_first : (g rs : List ℕ) (s : Scan) (b : ℕ) → Tidy s → s.due ≡ 0 → seen g rs s b ≡ judged g rs s.count (first_byte [] b)
 step_first g rs s b t e = ap (λ (x : Scan). seen g rs x b) (t.fresh e) ∙ seen_first g rs s.count b
 
 step_later : (g rs : List ℕ) (s : Scan) (b : ℕ) → Tidy s → 0 < s.due → seen g rs s b ≡ judged g rs s.count (later_byte (inside [] s.due s.low s.high s.bits) b)
-step_later g rs s b t l =
-    ap (λ (x : Scan). seen g rs x b) (good_midway s t.good)
-    ∙ seen_later g rs s.count s.due s.low s.high s.bits b (λ e. absurd (omega arith))
+step_later g rs s b t l = seen_later g rs s.count s.due s.low s.high s.bits b (λ e. absurd (omega arith))
 
 -- after a byte
 step_whole : (g rs : List ℕ) (s : Scan) (b : ℕ) → Tidy s → b < 256 → (d : Decoding) × (Whole d × (seen g rs s b ≡ judged g rs s.count d))
@@ -122,24 +124,16 @@ step_whole g rs s b t l = go (eqb s.due 0) refl
         let z : 0 < s.due = omega arith in
         (later_byte (inside [] s.due s.low s.high s.bits) b, (whole_later s.due s.low s.high s.bits b z t.short (t.from z) (t.to z) t.few, step_later g rs s b t z))
 
-module _ (g rs : List ℕ) (s : Scan) (b : ℕ) where
-  tidy_seen : Tidy s → b < 256 → (seen g rs s b).good ≡ true → Tidy (seen g rs s b)
-  tidy_seen t l f = let (d, (w, e)) = step_whole g rs s b t l in rw e (tidy_judged g rs s.count d w (rw e at f))
+module _ (g rs : List ℕ) (s : Scan) (b : ℕ) (t : Scan) (f : Some t ≡ seen g rs s b) where
+  after_seen : Tidy s → b < 256 → After s.count t
+  after_seen h l = let (d, (w, e)) = step_whole g rs s b h l in after_judged g rs s.count d w t (f ∙ e)
 
-  count_seen : Tidy s → b < 256 → (seen g rs s b).count ≤ s.count + 1
-  count_seen t l = let (d, (w, e)) = step_whole g rs s b t l in rw e (count_judged g rs s.count d w)
-
-  grow_seen : (seen g rs s b).good ≡ true → s.count ≤ (seen g rs s b).count
+  grow_seen : s.count ≤ t.count
   unfolding seen
-  grow_seen = grow_judged g rs s.count (next_byte (resumed s) b)
-
-  stop_seen : (seen g rs s b).good ≡ false → seen g rs s b ≡ stopped
-  unfolding seen
-  stop_seen = stop_judged g rs s.count (next_byte (resumed s) b)
+  grow_seen = grow_judged g rs s.count (next_byte (resumed s) b) t f
 
 pub tidy_clean : (n : ℕ) → Tidy (clean n)
-unfolding clean midway
-tidy_clean n = record { good = refl; fresh = λ e. refl; from = λ l. absurd (omega arith); to = λ l. absurd (omega arith); short = omega arith; few = omega arith }
+tidy_clean n = record { fresh = λ e. refl; from = λ l. absurd (omega arith); to = λ l. absurd (omega arith); short = omega arith; few = omega arith }
 
 -- the bytes of a part before i are scanned
 pub record Scanning (g rs part : List ℕ) (start s : Scan) (i : ℕ) : Type 0 where
@@ -148,13 +142,9 @@ pub record Scanning (g rs part : List ℕ) (start s : Scan) (i : ℕ) : Type 0 w
   pub few : s.count ≤ start.count + i
   pub same : scanned g rs start part ≡ scanned g rs s (drop i part)
 
-pub scan_start : (g rs part : List ℕ) (start : Scan) → Tidy start → Scanning g rs part start start 0
-scan_start g rs part start t = record { near = omega arith; state = t; few = omega arith; same = refl }
-
 -- a run begins between two characters
 pub scan_run : (g set part : List ℕ) (p i : ℕ) (start s : Scan) (at count : ℕ) → ClassSet g p set → Scanning g (ranges g p) part start s i → s.due ≡ 0
     → RunsTo set part i at count → Scanning g (ranges g p) part start (clean (s.count + count)) at
-unfolding clean midway
 scan_run g set part p i start s at count c h e r = record {
   near = r.inside;
   state = tidy_clean (s.count + count);
@@ -162,88 +152,65 @@ scan_run g set part p i start s at count c h e r = record {
   same = h.same ∙ ap (λ (x : Scan). scanned g (ranges g p) x (drop i part)) (h.state.fresh e) ∙ r.same g p c s.count;
 }
 
-module _ (g rs part : List ℕ) (start here s : Scan) (at b : ℕ) (h : Scanning g rs part start here at) (l : at < length part) (e : b ≡ get_or part at 0) (f : s ≡ seen g rs here b) where
-  one_on : scanned g rs start part ≡ scanned g rs s (drop (at + 1) part)
+module _ (g rs part : List ℕ) (start here : Scan) (at b : ℕ) (h : Scanning g rs part start here at) (l : at < length part) (e : b ≡ get_or part at 0) where
+  one_on : scanned g rs start part ≡ option_and_then (λ t. scanned g rs t (drop (at + 1) part)) (seen g rs here b)
   unfolding scanned
-  one_on = h.same ∙ rw (drop-cons part at 0 l, add-one at, f, e)
+  one_on = h.same ∙ rw (drop-cons part at 0 l, add-one at, e)
 
-  pub scan_turn : b < 256 → s.good ≡ true → Scanning g rs part start s (at + 1)
-  scan_turn m o = record {
-    near = omega arith;
-    state = rw f (tidy_seen g rs here b h.state m (rw f at o));
-    few = rw f (omega (arith, count_seen g rs here b h.state m, h.few));
-    same = one_on;
-  }
+  pub scan_turn : (s : Scan) → b < 256 → Some s ≡ seen g rs here b → Scanning g rs part start s (at + 1)
+  scan_turn s m f =
+      let a = after_seen g rs here b s f h.state m in
+      record {
+        near = omega arith;
+        state = a.tidy;
+        few = omega (arith, a.few, h.few);
+        same = one_on ∙ ap (option_and_then (λ t. scanned g rs t (drop (at + 1) part))) (sym f);
+      }
 
-  pub scan_stop : s.good ≡ false → s ≡ scanned g rs start part
-  scan_stop o =
-      let z : s ≡ stopped = f ∙ stop_seen g rs here b (rw f at o) in
-      z ∙ sym (one_on ∙ rw z (scanned_stopped g rs (drop (at + 1) part)))
+  pub scan_stop : None ≡ seen g rs here b → None ≡ scanned g rs start part
+  scan_stop f = sym (one_on ∙ ap (option_and_then (λ t. scanned g rs t (drop (at + 1) part))) (sym f))
 
-pub scan_done : (g rs part : List ℕ) (start s : Scan) (i : ℕ) → Scanning g rs part start s i → length part ≤ i → s ≡ scanned g rs start part
+pub scan_done : (g rs part : List ℕ) (start s : Scan) (i : ℕ) → Scanning g rs part start s i → length part ≤ i → Some s ≡ scanned g rs start part
 unfolding scanned
 scan_done g rs part start s i h l = sym (h.same ∙ rw (drop_of_length-le part l))
 
 -- a tidy state stays tidy over a whole part
-stopped_not_good : stopped.good ≡ false
-unfolding stopped
-stopped_not_good = refl
-
-pub tidy_scanned : (g rs xs : List ℕ) (s : Scan) → Tidy s → ((k : ℕ) → get_or xs k 0 < 256) → (scanned g rs s xs).good ≡ true → Tidy (scanned g rs s xs)
+pub tidy_scanned : (g rs xs : List ℕ) (s t : Scan) → Tidy s → ((k : ℕ) → get_or xs k 0 < 256) → Some t ≡ scanned g rs s xs → Tidy t
 unfolding scanned
-tidy_scanned g rs [] s t l e = t
-tidy_scanned g rs (b ∷ bs) s t l e = go (seen g rs s b).good refl (λ f. tidy_scanned g rs bs (seen g rs s b) (tidy_seen g rs s b t (l 0) f) (λ k. l (suc k)) e)
+tidy_scanned g rs [] s t h l e = let q : s ≡ t = cc in rw (← q) h
+tidy_scanned g rs (b ∷ bs) s t h l e = go (seen g rs s b) refl (λ u f. tidy_scanned g rs bs u t (after_seen g rs s b u f h (l 0)).tidy (λ k. l (suc k))) e
   where
-    go : (x : Bool) → (seen g rs s b).good ≡ x → ((seen g rs s b).good ≡ true → Tidy (scanned g rs (seen g rs s b) bs)) → Tidy (scanned g rs (seen g rs s b) bs)
-    go true f k = k f
-    go false f k = absurd (false≢true (sym stopped_not_good ∙ sym (ap (λ (y : Scan). y.good) (ap (λ (y : Scan). scanned g rs y bs) (stop_seen g rs s b f) ∙ scanned_stopped g rs bs)) ∙ e))
+    go : (o : Maybe Scan) → o ≡ seen g rs s b → ((u : Scan) → Some u ≡ seen g rs s b → Some t ≡ scanned g rs u bs → Tidy t)
+        → Some t ≡ option_and_then (λ u. scanned g rs u bs) o → Tidy t
+    go None f k q = cc
+    go (Some u) f k q = k u f q
 
 -- a text that can't be a lexeme any more
-bad_seen : (g rs : List ℕ) (s : Scan) (b : ℕ) → s.good ≡ false → seen g rs s b ≡ stopped
-unfolding seen resumed next_byte broken judged
-bad_seen g rs s b e = rw e
-
-past_most : (g : List ℕ) (p : ℕ) (s : Scan) → field_c g p < s.count → passes g p s ≡ false
+past_most : (g : List ℕ) (p : ℕ) (s : Scan) → field_c g p < s.count → passes g p (Some s) ≡ false
 unfolding passes
-past_most g p s l = rw (lt-leb s.count (field_c g p) l, and-false (leb (field_b g p) s.count), and-false (eqb s.due 0), and-false s.good)
-
-pub passes_bad : (g : List ℕ) (p : ℕ) (rs xs : List ℕ) (s : Scan) → s.good ≡ false → passes g p (scanned g rs s xs) ≡ false
-unfolding scanned passes
-passes_bad g p rs [] s e = rw e
-passes_bad g p rs (b ∷ bs) s e =
-    let d : seen g rs s b ≡ stopped = bad_seen g rs s b e in
-    let f : (scanned g rs (seen g rs s b) bs).good ≡ false = ap (λ (y : Scan). y.good) (ap (λ (y : Scan). scanned g rs y bs) d ∙ scanned_stopped g rs bs) ∙ stopped_not_good in
-    rw f
+past_most g p s l = rw (lt-leb s.count (field_c g p) l, and-false (leb (field_b g p) s.count), and-false (eqb s.due 0))
 
 pub passes_past : (g : List ℕ) (p : ℕ) (rs xs : List ℕ) (s : Scan) → field_c g p < s.count → passes g p (scanned g rs s xs) ≡ false
-unfolding scanned
+unfolding scanned passes
 passes_past g p rs [] s l = past_most g p s l
-passes_past g p rs (b ∷ bs) s l = go (seen g rs s b).good refl (passes_past g p rs bs (seen g rs s b))
+passes_past g p rs (b ∷ bs) s l = go (seen g rs s b) refl (λ u. passes_past g p rs bs u)
   where
-    go : (x : Bool) → (seen g rs s b).good ≡ x → (field_c g p < (seen g rs s b).count → passes g p (scanned g rs (seen g rs s b) bs) ≡ false)
-        → passes g p (scanned g rs (seen g rs s b) bs) ≡ false
-    go true f k = k (omega (arith, grow_seen g rs s b f))
-    go false f k = passes_bad g p rs bs (seen g rs s b) f
+    go : (o : Maybe Scan) → o ≡ seen g rs s b → ((u : Scan) → field_c g p < u.count → passes g p (scanned g rs u bs) ≡ false)
+        → passes g p (option_and_then (λ u. scanned g rs u bs) o) ≡ false
+    go None f k = refl
+    go (Some u) f k = k u (omega (arith, grow_seen g rs s b u f))
 
 -- a later byte, as the code has it
-module _ (g rs : List ℕ) (s r : Scan) (b : ℕ) (t : Tidy s) (z : 0 < s.due) where
-  pub later_under : b < s.low → r ≡ stopped → r ≡ seen g rs s b
-  later_under l e = e ∙ sym (step_later g rs s b t z ∙ ap (judged g rs s.count) (later_low s.due s.low s.high s.bits b l) ∙ judge_stop g rs s.count)
+module _ (g rs : List ℕ) (s : Scan) (b : ℕ) (t : Tidy s) (z : 0 < s.due) where
+  pub later_none : (b < s.low) ⊎ ((s.low ≤ b) × (s.high < b)) → None ≡ seen g rs s b
+  later_none (inl l) = sym (step_later g rs s b t z ∙ ap (judged g rs s.count) (later_low s.due s.low s.high s.bits b l) ∙ judge_stop g rs s.count)
+  later_none (inr l) = sym (step_later g rs s b t z ∙ ap (judged g rs s.count) (later_high s.due s.low s.high s.bits b l.1) ∙ judge_stop g rs s.count)
 
-  pub later_over : s.high < b → r ≡ stopped → r ≡ seen g rs s b
-  later_over l e = e ∙ sym (step_later g rs s b t z ∙ ap (judged g rs s.count) (later_high s.due s.low s.high s.bits b l) ∙ judge_stop g rs s.count)
+  pub later_ends : (r : Maybe Scan) (x : ℕ) → s.low ≤ b → b ≤ s.high → s.due ≡ 1 → x ≡ s.bits * 64 + (b - 0x80) → (v : Bool) → v ≡ is_of_class g rs x
+      → r ≡ cond v (Some (clean (s.count + 1))) None → r ≡ seen g rs s b
+  later_ends r x l m d w v f e =
+      e ∙ sym (step_later g rs s b t z ∙ ap (judged g rs s.count) (later_last s.due s.low s.high s.bits b l m d) ∙ judge_char g rs s.count (s.bits * 64 + (b - 0x80)) v (f ∙ ap (is_of_class g rs) w))
 
-  pub later_ends : s.low ≤ b → b ≤ s.high → s.due ≡ 1 → (v : Bool) → v ≡ is_of_class g rs (s.bits * 64 + (b - 0x80)) → r ≡ cond v (clean (s.count + 1)) stopped → r ≡ seen g rs s b
-  later_ends l m d v f e =
-      e ∙ sym (step_later g rs s b t z ∙ ap (judged g rs s.count) (later_last s.due s.low s.high s.bits b l m d) ∙ judge_char g rs s.count (s.bits * 64 + (b - 0x80)) v f)
-
-  pub later_goes : s.low ≤ b → b ≤ s.high → (s.due ≡ 1 → ⊥) → r ≡ midway s.count (s.due - 1) 0x80 0xbf (s.bits * 64 + (b - 0x80)) → r ≡ seen g rs s b
-  later_goes l m d e =
-      e ∙ sym (step_later g rs s b t z ∙ ap (judged g rs s.count) (later_more s.due s.low s.high s.bits b l m d) ∙ judge_midway g rs s.count (s.due - 1) 0x80 0xbf (s.bits * 64 + (b - 0x80)))
-
--- bits that six more can follow
-pub bits_few : (s : Scan) → Tidy s → s.bits < 2 ^ 26
-bits_few s t = omega (arith, t.few, pow_mono (less s.due))
-  where
-    less : (d : ℕ) → 26 - 6 * d ≤ 26
-    less d = omega arith
+  pub later_goes : (r : Scan) (x : ℕ) → s.low ≤ b → b ≤ s.high → (s.due ≡ 1 → ⊥) → x ≡ s.bits * 64 + (b - 0x80) → r ≡ midway s.count (s.due - 1) 0x80 0xbf x → Some r ≡ seen g rs s b
+  later_goes r x l m d w e =
+      rw (e, w) (sym (step_later g rs s b t z ∙ ap (judged g rs s.count) (later_more s.due s.low s.high s.bits b l m d) ∙ judge_midway g rs s.count (s.due - 1) 0x80 0xbf (s.bits * 64 + (b - 0x80))))

@@ -11,8 +11,8 @@ use lib.Seq.{drop-cons}
 use lib.Dec.{ltb}
 use lib.Pow.{pow_mono}
 use borrow.Author.Tests.{ltb-true, ltb-false}
+use Rattle.std.specs.Prelude.{Some, option_and_then}
 use Rattle.rules.specs.Lexeme.{ranges}
-use Rattle.lexeme.specs.declared.scan.Scan.{Scan}
 use Rattle.lexeme.specs.Sets.{bit_at, is_in, WordOf, ClassSet}
 use Rattle.lexeme.specs.Scan.{midway, clean, judged, seen, scanned}
 use Rattle.lexeme.specs.Runs.{admitted, Plain, RunsTo}
@@ -52,11 +52,11 @@ module _ (g set part : List ℕ) (p : ℕ) (r : ClassSet g p set) (n i : ℕ) wh
   unfolding scanned
   one_more l m e =
       let b : ℕ = get_or part i 0 in
-      let s : seen g (ranges g p) (clean n) b ≡ clean (n + 1) =
+      let s : seen g (ranges g p) (clean n) b ≡ Some (clean (n + 1)) =
       seen_first g (ranges g p) n b
       ∙ ap (judged g (ranges g p) n) (first_plain b m)
       ∙ judge_char g (ranges g p) n b true (sym e ∙ r.same b (omega arith)) in
-      rw (add-one i, drop-cons part i 0 l) (ap (λ (x : Scan). scanned g (ranges g p) x (drop (suc i) part)) s)
+      rw (add-one i, drop-cons part i 0 l) (ap (option_and_then (λ x. scanned g (ranges g p) x (drop (suc i) part))) s)
 
   pub two_more : i + 1 < length part → 0xc2 ≤ get_or part i 0 → get_or part i 0 < 0xe0 → 0x80 ≤ get_or part (i + 1) 0 → get_or part (i + 1) 0 < 0xc0
       → is_in set ((get_or part i 0 - 0xc0) * 64 + (get_or part (i + 1) 0 - 0x80)) ≡ true
@@ -66,15 +66,15 @@ module _ (g set part : List ℕ) (p : ℕ) (r : ClassSet g p set) (n i : ℕ) wh
       let a : ℕ = get_or part i 0 in
       let b : ℕ = get_or part (i + 1) 0 in
       let x : ℕ = (a - 0xc0) * 64 + (b - 0x80) in
-      let s : seen g (ranges g p) (clean n) a ≡ midway n 1 0x80 0xbf (a - 0xc0) =
+      let s : seen g (ranges g p) (clean n) a ≡ Some (midway n 1 0x80 0xbf (a - 0xc0)) =
       seen_first g (ranges g p) n a
       ∙ ap (judged g (ranges g p) n) (first_two a a1 a2)
       ∙ judge_midway g (ranges g p) n 1 0x80 0xbf (a - 0xc0) in
-      let t : seen g (ranges g p) (midway n 1 0x80 0xbf (a - 0xc0)) b ≡ clean (n + 1) =
+      let t : seen g (ranges g p) (midway n 1 0x80 0xbf (a - 0xc0)) b ≡ Some (clean (n + 1)) =
       seen_later g (ranges g p) n 1 0x80 0xbf (a - 0xc0) b (λ q. absurd (omega arith))
       ∙ ap (judged g (ranges g p) n) (later_last 1 0x80 0xbf (a - 0xc0) b b1 (omega arith) refl)
       ∙ judge_char g (ranges g p) n x true (sym e ∙ r.same x (omega arith)) in
-      rw (drop_two part i l) (ap (λ (y : Scan). scanned g (ranges g p) y (drop (i + 2) part)) (ap (λ (y : Scan). seen g (ranges g p) y b) s ∙ t))
+      rw (drop_two part i l) (ap (option_and_then (λ y. option_and_then (λ z. scanned g (ranges g p) z (drop (i + 2) part)) (seen g (ranges g p) y b))) s ∙ ap (option_and_then (λ z. scanned g (ranges g p) z (drop (i + 2) part))) t)
 
 -- ASCII
 plain_words : ℕ → ℕ → List ℕ

@@ -8,6 +8,7 @@ use native.Mathlib.Nat.{add-zero, zero-add, add_assoc}
 use lib.ListN.{length, length-append}
 use lib.Dec.{eqb, leb}
 use borrow.Author.Tests.{ne_eqb}
+use Rattle.std.specs.Prelude.{Option as Maybe, Some, None, option_and_then}
 use Rattle.rules.specs.Faults.{on_found}
 use Rattle.rules.specs.Records.{kind_of, field_b, field_c}
 use Rattle.rules.specs.Grammar.{class, plain_class}
@@ -15,7 +16,7 @@ use Rattle.rules.specs.Lexeme.{Decoding, between, inside, broken, first_byte, la
 use Rattle.laws.specs.Faults.{on_some, on_none, only_no}
 use Rattle.laws.specs.Sorts.{plain_class_iff}
 use Rattle.lexeme.specs.declared.scan.Scan.{Scan}
-use Rattle.lexeme.specs.Scan.{midway, clean, stopped, judged, resumed, seen, scanned}
+use Rattle.lexeme.specs.Scan.{midway, clean, judged, resumed, seen, scanned}
 
 -- ways through a test
 pub by_test : {A : Type 0} (P : A → Type 0) (b : Bool) {x y : A} → (b ≡ true → P x) → (b ≡ false → P y) → P (cond b x y)
@@ -33,16 +34,16 @@ module _ (g rs : List ℕ) where
   all_append (x ∷ xs) ys = ap (λ (b : Bool). is_of_class g rs x && b) (all_append xs ys) ∙ sym (and_assoc (is_of_class g rs x) (all_of_class g rs xs) (all_of_class g rs ys))
 
   -- characters are judged once and need not be kept
-  kept : List ℕ → ℕ → Decoding → Scan
-  kept cs n d = cond (all_of_class g rs cs) (judged g rs (n + length cs) d) stopped
+  kept : List ℕ → ℕ → Decoding → Maybe Scan
+  kept cs n d = cond (all_of_class g rs cs) (judged g rs (n + length cs) d) None
 
   judge_ended : (cs : List ℕ) (x n : ℕ) → judged g rs n (between (cs ++ x ∷ [])) ≡ kept cs n (between (x ∷ []))
   unfolding judged between kept
   judge_ended cs x n = rw (all_append cs (x ∷ []), length-append cs (x ∷ []), ← add_assoc n (length cs) 1) (go (all_of_class g rs cs))
     where
       go : (a : Bool)
-          → cond (a && all_of_class g rs (x ∷ [])) (midway (n + length cs + 1) 0 0 0 0) stopped
-          ≡ cond a (cond (all_of_class g rs (x ∷ [])) (midway (n + length cs + 1) 0 0 0 0) stopped) stopped
+          → ◌≡◌ {A = Maybe Scan} (cond (a && all_of_class g rs (x ∷ [])) (Some (midway (n + length cs + 1) 0 0 0 0)) None)
+          (cond a (cond (all_of_class g rs (x ∷ [])) (Some (midway (n + length cs + 1) 0 0 0 0)) None) None)
       go true = refl
       go false = refl
 
@@ -54,15 +55,15 @@ module _ (g rs : List ℕ) where
   unfolding judged broken kept
   judge_broken cs n = go (all_of_class g rs cs)
     where
-      go : (a : Bool) → stopped ≡ cond a stopped stopped
+      go : (a : Bool) → ◌≡◌ {A = Maybe Scan} None (cond a None None)
       go true = refl
       go false = refl
 
   judge_first : (cs : List ℕ) (n b : ℕ) → judged g rs n (first_byte cs b) ≡ kept cs n (first_byte [] b)
   unfolding first_byte
   judge_first cs n b =
-      let f : Decoding → Scan = judged g rs n in
-      let h : Decoding → Scan = kept cs n in
+      let f : Decoding → Maybe Scan = judged g rs n in
+      let h : Decoding → Maybe Scan = kept cs n in
       same_test f h (leb b 0x7f) (judge_ended cs b n)
       (same_test f h (within 0xc2 0xdf b) (judge_inside cs 1 0x80 0xbf (b - 0xc0) n)
       (same_test f h (eqb b 0xe0) (judge_inside cs 2 0xa0 0xbf (b - 0xe0) n)
@@ -80,8 +81,8 @@ module _ (g rs : List ℕ) where
   unfolding later_byte bare
   judge_later d n b =
       let cs : List ℕ = d.characters in
-      let f : Decoding → Scan = judged g rs n in
-      let h : Decoding → Scan = kept cs n in
+      let f : Decoding → Maybe Scan = judged g rs n in
+      let h : Decoding → Maybe Scan = kept cs n in
       same_test f h (not (within d.low d.high b)) (judge_broken cs n)
       (same_test f h (eqb d.due 1) (judge_ended cs (d.bits * 64 + (b - 0x80)) n)
       (judge_inside cs (d.due - 1) 0x80 0xbf (d.bits * 64 + (b - 0x80)) n))
@@ -90,26 +91,22 @@ module _ (g rs : List ℕ) where
   unfolding next_byte bare
   judge_next d n b =
       let cs : List ℕ = d.characters in
-      let f : Decoding → Scan = judged g rs n in
-      let h : Decoding → Scan = kept cs n in
+      let f : Decoding → Maybe Scan = judged g rs n in
+      let h : Decoding → Maybe Scan = kept cs n in
       same_test f h (not d.valid) (judge_broken cs n)
       (same_test f h (eqb d.due 0) (judge_first cs n b) (judge_later d n b))
 
-  pub seen_stopped : (b : ℕ) → seen g rs stopped b ≡ stopped
-  unfolding seen stopped resumed next_byte broken judged
-  seen_stopped b = refl
-
   pub seen_midway : (n due low high bits b : ℕ) → seen g rs (midway n due low high bits) b ≡ judged g rs n (next_byte (inside [] due low high bits) b)
-  unfolding seen midway resumed inside
+  unfolding seen resumed inside
   seen_midway n due low high bits b = refl
 
   -- a byte more of a decoding is a byte more of its scan
   live : (d : Decoding) → d.valid ≡ true → all_of_class g rs d.characters ≡ true
-      → judged g rs 0 d ≡ midway (length d.characters) d.due d.low d.high d.bits
+      → judged g rs 0 d ≡ Some (midway (length d.characters) d.due d.low d.high d.bits)
   unfolding judged
   live d e f = rw (e, f, zero-add)
 
-  dead : (d : Decoding) → (d.valid && all_of_class g rs d.characters) ≡ false → judged g rs 0 d ≡ stopped
+  dead : (d : Decoding) → (d.valid && all_of_class g rs d.characters) ≡ false → judged g rs 0 d ≡ None
   unfolding judged
   dead d e = rw e
 
@@ -121,57 +118,63 @@ module _ (g rs : List ℕ) where
   unfolding kept
   kept_all cs d e = rw (e, zero-add)
 
-  kept_none : (cs : List ℕ) (d : Decoding) → all_of_class g rs cs ≡ false → kept cs 0 d ≡ stopped
+  kept_none : (cs : List ℕ) (d : Decoding) → all_of_class g rs cs ≡ false → kept cs 0 d ≡ None
   unfolding kept
   kept_none cs d e = rw e
 
-  next_invalid : (d : Decoding) (b : ℕ) → d.valid ≡ false → judged g rs 0 (next_byte d b) ≡ stopped
+  next_invalid : (d : Decoding) (b : ℕ) → d.valid ≡ false → judged g rs 0 (next_byte d b) ≡ None
   unfolding next_byte broken judged
   next_invalid d b e = rw e
 
-  view_next : (d : Decoding) (b : ℕ) → judged g rs 0 (next_byte d b) ≡ seen g rs (judged g rs 0 d) b
+  view_next : (d : Decoding) (b : ℕ) → judged g rs 0 (next_byte d b) ≡ option_and_then (λ s. seen g rs s b) (judged g rs 0 d)
   view_next d b = go d.valid refl (all_of_class g rs d.characters) refl
     where
-      cs : List ℕ
-      cs = d.characters
+      stop : (d.valid && all_of_class g rs d.characters) ≡ false → judged g rs 0 (next_byte d b) ≡ None → judged g rs 0 (next_byte d b) ≡ option_and_then (λ s. seen g rs s b) (judged g rs 0 d)
+      stop e f = f ∙ sym (ap (option_and_then (λ s. seen g rs s b)) (dead d e))
 
-      stop : (d.valid && all_of_class g rs d.characters) ≡ false → judged g rs 0 (next_byte d b) ≡ stopped → judged g rs 0 (next_byte d b) ≡ seen g rs (judged g rs 0 d) b
-      stop e f = f ∙ sym (ap (λ (s : Scan). seen g rs s b) (dead d e) ∙ seen_stopped b)
-
-      go : (v : Bool) → d.valid ≡ v → (a : Bool) → all_of_class g rs d.characters ≡ a → judged g rs 0 (next_byte d b) ≡ seen g rs (judged g rs 0 d) b
+      go : (v : Bool) → d.valid ≡ v → (a : Bool) → all_of_class g rs d.characters ≡ a → judged g rs 0 (next_byte d b) ≡ option_and_then (λ s. seen g rs s b) (judged g rs 0 d)
       go true e true f =
           judge_next d 0 b
           ∙ kept_all d.characters (next_byte (bare d) b) f
           ∙ ap (λ (x : Decoding). judged g rs (length d.characters) (next_byte x b)) (bare_valid d e)
-          ∙ sym (ap (λ (s : Scan). seen g rs s b) (live d e f) ∙ seen_midway (length d.characters) d.due d.low d.high d.bits b)
+          ∙ sym (ap (option_and_then (λ s. seen g rs s b)) (live d e f) ∙ seen_midway (length d.characters) d.due d.low d.high d.bits b)
       go true e false f = stop (rw (e, f)) (judge_next d 0 b ∙ kept_none d.characters (next_byte (bare d) b) f)
       go false e a f = stop (rw e) (next_invalid d b e)
 
-  view_decode : (d : Decoding) (xs : List ℕ) → judged g rs 0 (decode d xs) ≡ scanned g rs (judged g rs 0 d) xs
+  view_decode : (d : Decoding) (xs : List ℕ) → judged g rs 0 (decode d xs) ≡ option_and_then (λ s. scanned g rs s xs) (judged g rs 0 d)
   unfolding decode scanned
-  view_decode d [] = refl
-  view_decode d (b ∷ bs) = view_decode (next_byte d b) bs ∙ ap (λ (s : Scan). scanned g rs s bs) (view_next d b)
+  view_decode d [] = go (judged g rs 0 d)
+    where
+      go : (o : Maybe Scan) → o ≡ option_and_then (λ s. Some s) o
+      go None = refl
+      go (Some s) = refl
+  view_decode d (b ∷ bs) = view_decode (next_byte d b) bs ∙ ap (option_and_then (λ s. scanned g rs s bs)) (view_next d b) ∙ go (judged g rs 0 d)
+    where
+      go : (o : Maybe Scan) → option_and_then (λ s. scanned g rs s bs) (option_and_then (λ s. seen g rs s b) o) ≡ option_and_then (λ s. option_and_then (λ t. scanned g rs t bs) (seen g rs s b)) o
+      go None = refl
+      go (Some s) = refl
 
-  view_start : judged g rs 0 (between []) ≡ clean 0
-  unfolding judged between clean midway all_of_class
+  view_start : judged g rs 0 (between []) ≡ Some (clean 0)
+  unfolding judged between all_of_class
   view_start = refl
 
-  pub scanned_append : (s : Scan) (xs ys : List ℕ) → scanned g rs s (xs ++ ys) ≡ scanned g rs (scanned g rs s xs) ys
+  pub scanned_append : (s : Scan) (xs ys : List ℕ) → scanned g rs s (xs ++ ys) ≡ option_and_then (λ t. scanned g rs t ys) (scanned g rs s xs)
   unfolding scanned
   scanned_append s [] ys = refl
-  scanned_append s (x ∷ xs) ys = scanned_append (seen g rs s x) xs ys
-
-  pub scanned_stopped : (xs : List ℕ) → scanned g rs stopped xs ≡ stopped
-  unfolding scanned
-  scanned_stopped [] = refl
-  scanned_stopped (b ∷ bs) = ap (λ (s : Scan). scanned g rs s bs) (seen_stopped b) ∙ scanned_stopped bs
+  scanned_append s (x ∷ xs) ys = go (seen g rs s x) (λ t. scanned_append t xs ys)
+    where
+      go : (o : Maybe Scan) → ((t : Scan) → scanned g rs t (xs ++ ys) ≡ option_and_then (λ u. scanned g rs u ys) (scanned g rs t xs))
+          → option_and_then (λ t. scanned g rs t (xs ++ ys)) o ≡ option_and_then (λ u. scanned g rs u ys) (option_and_then (λ t. scanned g rs t xs) o)
+      go None h = refl
+      go (Some t) h = h t
 
 -- the scan of a whole text says that it is a lexeme of the class whose record is at p
-unfoldable pub passes : List ℕ → ℕ → Scan → Bool
-passes g p s = s.good && (eqb s.due 0 && within (field_b g p) (field_c g p) s.count)
+unfoldable pub passes : List ℕ → ℕ → Maybe Scan → Bool
+passes g p None = false
+passes g p (Some s) = eqb s.due 0 && within (field_b g p) (field_c g p) s.count
 
 judges : (g : List ℕ) (p : ℕ) (d : Decoding) → on_found (decoded d) false (admits g p) ≡ passes g p (judged g (ranges g p) 0 d)
-unfolding decoded on_found admits passes judged midway stopped
+unfolding decoded on_found admits passes judged
 judges g p d = go d.valid refl (eqb d.due 0) refl (all_of_class g (ranges g p) d.characters) refl
   where
     go : (v : Bool) → d.valid ≡ v → (e : Bool) → eqb d.due 0 ≡ e → (a : Bool) → all_of_class g (ranges g p) d.characters ≡ a
@@ -188,7 +191,7 @@ unfolding is_plain_lexeme characters_of
 plain_scan g c p text e k =
     on_some false _ ((plain_class_iff g c p).1 (e, k))
     ∙ judges g p (decode (between []) text)
-    ∙ ap (passes g p) (view_decode g (ranges g p) (between []) text ∙ ap (λ (s : Scan). scanned g (ranges g p) s text) (view_start g (ranges g p)))
+    ∙ ap (passes g p) (view_decode g (ranges g p) (between []) text ∙ ap (option_and_then (λ s. scanned g (ranges g p) s text)) (view_start g (ranges g p)))
 
 pub plain_other : (g : List ℕ) (c p : ℕ) (text : List ℕ) → class g c ≡ some p → (kind_of g p ≡ 1 → ⊥) → is_plain_lexeme g c text ≡ false
 unfolding is_plain_lexeme plain_class

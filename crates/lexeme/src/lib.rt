@@ -39,26 +39,21 @@ fn admits_parts(g: &[u8], p: u16, set: &[u16], table: &[u16], s: &[u8], t: Text)
     if head.kind != 1 {
         return false;
     }
-    let least = head.b as usize;
     let most = head.c as usize;
-    let many = head.d;
     let mut state = between(0);
     let mut rest = t;
     while 0 < rest.left {
         let part = text_part(s, rest);
         rest = text_rest(s, rest);
-        state = scan_part(g, p, many, set, table, part, state);
-        if !state.good {
+        let Some(next) = scan_part(g, p, head.d, set, table, part, state) else {
+            return false;
+        };
+        if most < next.count {
             return false;
         }
-        if most < state.count {
-            return false;
-        }
+        state = next;
     }
-    if state.due != 0 {
-        return false;
-    }
-    least <= state.count
+    state.due == 0 && head.b as usize <= state.count
 }
 
 // The same. Most texts lie in one block and have no character of more than two bytes: one run settles them, and no state is carried.
@@ -72,13 +67,7 @@ fn admits_text(g: &[u8], p: u16, set: &[u16], table: &[u16], s: &[u8], t: Text) 
         let run = run_from(part, 0, set);
         if part.len() <= run.at {
             let head = fetch(g, p as usize);
-            if head.kind != 1 {
-                return false;
-            }
-            if (head.c as usize) < run.count {
-                return false;
-            }
-            return head.b as usize <= run.count;
+            return head.kind == 1 && head.b as usize <= run.count && run.count <= head.c as usize;
         }
     }
     admits_parts(g, p, set, table, s, t)
@@ -108,18 +97,15 @@ fn admits_escaped(g: &[u8], p: u16, set: &[u16], table: &[u16], s: &[u8], t: Tex
         };
         rest = text_skip(rest, plain.length);
         let byte = [plain.byte];
-        state = scan_part(g, p, many, set, table, &byte[..], state);
-        if !state.good {
+        let Some(next) = scan_part(g, p, many, set, table, &byte[..], state) else {
+            return false;
+        };
+        if most < next.count {
             return false;
         }
-        if most < state.count {
-            return false;
-        }
+        state = next;
     }
-    if state.due != 0 {
-        return false;
-    }
-    least <= state.count
+    state.due == 0 && least <= state.count
 }
 
 // What a class takes its lexemes from: a plain class, itself or the one that an escaped class names; and whether they are escaped.

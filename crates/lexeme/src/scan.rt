@@ -1,38 +1,36 @@
 // The scan of a text, part by part: UTF-8 with its characters counted and held against a class as they come.
-ghost use Rattle.std.specs.Prelude.{◌≡◌, cond, List, [], ℕ, ◌+◌, ◌≤◌, ◌<◌, ◌^◌, length};
+ghost use Rattle.std.specs.Prelude.{◌≡◌, cond, List, [], ℕ, Some, None, ◌+◌, ◌≤◌, ◌<◌, ◌^◌, length};
 ghost use Rattle.rules.specs.Lexeme.{ranges, first_byte};
-ghost use Rattle.laws.specs.FirstBytes.{least_next, most_next};
 ghost use Rattle.lexeme.specs.Sets.{ClassSet};
-ghost use Rattle.lexeme.specs.Scan.{midway, clean, stopped, judged, seen, scanned, LaterByte, Scans};
+ghost use Rattle.lexeme.specs.Scan.{midway, clean, judged, seen, scanned, LaterByte, Scans};
 ghost use Rattle.lexeme.specs.Runs.{RunsTo};
 
 use crate::class::in_class;
 use crate::runs::{TextRun, run_from};
 use crate::sets::{has, word};
+use entities::first_bytes::{least_next, most_next};
 
-// Between two bytes: whether all was well so far; how many bytes of a character are still due, the next of them from low to high, and
-// its bits so far; and the characters before it.
+// Between two bytes, if all was well so far: how many bytes of a character are still due, the next of them from low to high, and its bits so
+// far; and the characters before it.
 #[derive(Clone, Copy)]
 pub struct Scan {
-    pub good: bool,
     pub due: usize,
-    pub low: usize,
-    pub high: usize,
+    pub low: u8,
+    pub high: u8,
     pub bits: usize,
     pub count: usize,
 }
 
 // Inside a character.
-fn inside(count: usize, due: usize, low: usize, high: usize, bits: usize) -> Scan
+fn inside(count: usize, due: usize, low: u8, high: u8, bits: usize) -> Scan
     ensures { result ≡ midway count due low high bits }
 {
     Scan {
-        good: true,
-        due: due,
-        low: low,
-        high: high,
-        bits: bits,
-        count: count,
+        due,
+        low,
+        high,
+        bits,
+        count,
     }
 }
 
@@ -43,100 +41,65 @@ pub(crate) fn between(count: usize) -> Scan
     inside(count, 0, 0, 0, 0)
 }
 
-fn stop() -> Scan
-    ensures { result ≡ stopped }
-{
-    Scan {
-        good: false,
-        due: 0,
-        low: 0,
-        high: 0,
-        bits: 0,
-        count: 0,
-    }
-}
-
 // At the end of a character.
-fn judge(admitted: bool, count: usize) -> Scan
+fn judge(admitted: bool, count: usize) -> Option<Scan>
     requires { count + 1 < 2 ^ 64 }
-    ensures { result ≡ cond admitted (clean (count + 1)) stopped }
+    ensures { result ≡ cond admitted (Some (clean (count + 1))) None }
 {
     if admitted {
-        return between(count + 1);
-    }
-    stop()
-}
-
-// RFC 3629, section 4: some first bytes narrow the range of the second, so that no character has two spellings, none is a surrogate and none is
-// past U+10FFFF.
-fn least_next(b: usize) -> usize
-    ensures { result ≡ least_next b }
-{
-    match b {
-        0xe0 => 0xa0,
-        0xf0 => 0x90,
-        _ => 0x80,
+        Some(between(count + 1))
+    } else {
+        None
     }
 }
 
-fn most_next(b: usize) -> usize
-    ensures { result ≡ most_next b }
-{
-    match b {
-        0xed => 0x9f,
-        0xf4 => 0x8f,
-        _ => 0xbf,
-    }
-}
+// The bytes that can be the first of a character of several.
+const LEAST_LEAD: u8 = 0xc2;
+
+const MOST_LEAD: u8 = 0xf4;
 
 // The first byte of a character of several.
-#[tactic(auto, using(crate::proofs::StepLaws::lead_low))]
-fn lead(count: usize, b: usize) -> Scan
+fn lead(count: usize, b: u8) -> Option<Scan>
     requires { 0x80 ≤ b }
     ensures { (g rs : List ℕ) → result ≡ judged g rs count (first_byte [] b) }
 {
-    if b < 0xc2 {
-        return stop();
-    }
-    if 0xf4 < b {
-        return stop();
+    if b < LEAST_LEAD || MOST_LEAD < b {
+        return None;
     }
     if b < 0xe0 {
-        return inside(count, 1, 0x80, 0xbf, b - 0xc0);
+        return Some(inside(count, 1, 0x80, 0xbf, usize::from(b - 0xc0)));
     }
     if b < 0xf0 {
-        return inside(count, 2, least_next(b), most_next(b), b - 0xe0);
+        return Some(inside(count, 2, least_next(b), most_next(b), usize::from(b - 0xe0)));
     }
-    inside(count, 3, least_next(b), most_next(b), b - 0xf0)
+    Some(inside(count, 3, least_next(b), most_next(b), usize::from(b - 0xf0)))
 }
 
-fn first(g: &[u8], p: u16, set: &[u16], count: usize, b: usize) -> Scan
+fn first(g: &[u8], p: u16, set: &[u16], count: usize, b: u8) -> Option<Scan>
     requires class_set { ClassSet g.now p set.now }
     requires count_bound { count + 1 < 2 ^ 64 }
     ensures { result ≡ judged g.now (ranges g.now p) count (first_byte [] b) }
 {
     if b < 0x80 {
-        return judge(has(word(set, b / 64), b), count);
+        let x = usize::from(b);
+        return judge(has(word(set, x / 64), x), count);
     }
     lead(count, b)
 }
 
 // A later byte of a character brings six bits. The class has so many ranges.
-fn later(g: &[u8], p: u16, many: u16, set: &[u16], table: &[u16], s: Scan, b: usize) -> Scan
-    requires { LaterByte g.now p many set.now s b }
+fn later(g: &[u8], p: u16, many: u16, set: &[u16], table: &[u16], s: Scan, b: u8) -> Option<Scan>
+    requires { LaterByte g.now p many set.now s }
     ensures { result ≡ seen g.now (ranges g.now p) s b }
 {
-    if b < s.low {
-        return stop();
+    if b < s.low || s.high < b {
+        return None;
     }
-    if s.high < b {
-        return stop();
-    }
-    let bits = s.bits * 64 + (b - 0x80);
+    let bits = s.bits * 64 + usize::from(b - 0x80);
     if s.due == 1 {
         return judge(in_class(g, p, many, set, table, bits), s.count);
     }
-    inside(s.count, s.due - 1, 0x80, 0xbf, bits)
+    Some(inside(s.count, s.due - 1, 0x80, 0xbf, bits))
 }
 
 // How far the hot loops get from a place between two characters. A byte that begins a character of three or four isn't for them.
@@ -161,7 +124,7 @@ pub(crate) fn scan_part(
     table: &[u16],
     part: &[u8],
     start: Scan,
-) -> Scan
+) -> Option<Scan>
     requires { Scans g.now p many set.now start }
     ensures { result ≡ scanned g.now (ranges g.now p) start part.now }
 {
@@ -169,24 +132,17 @@ pub(crate) fn scan_part(
     let mut i = 0;
     while i < part.len() {
         if s.due != 0 {
-            s = later(g, p, many, set, table, s, usize::from(part[i]));
-            if !s.good {
-                return s;
-            }
+            s = later(g, p, many, set, table, s, part[i])?;
             i += 1;
             continue;
         }
         let run = ahead(part, i, set);
-        let at = run.at;
         let count = s.count + run.count;
-        if part.len() <= at {
-            return between(count);
+        if part.len() <= run.at {
+            return Some(between(count));
         }
-        s = first(g, p, set, count, usize::from(part[at]));
-        if !s.good {
-            return s;
-        }
-        i = at + 1;
+        s = first(g, p, set, count, part[run.at])?;
+        i = run.at + 1;
     }
-    s
+    Some(s)
 }

@@ -1,8 +1,7 @@
 use mathlib.Core.Path.{refl, sym, ◌∙◌}
 use native.Mathlib.Omega.{arith}
-use borrow.Author.Tests.{not-true, not-false}
-use Rattle.lexeme.proofs.EscapedLaws.{by_unescaped, by_kind_unescaped, unescape_start, unescape_none, unescape_near, unescape_turn, unescape_bad, unescape_past, unescape_short, unescape_whole}
 use borrow.Author.Rules.{rules}
+use Rattle.lexeme.proofs.EscapedLaws.{by_unescaped, by_kind_unescaped, unescape_start, unescape_none, unescape_near, unescape_turn, unescape_bad, unescape_past, unescape_short, unescape_whole}
 use Rattle.lexeme.proofs.admits_escaped.Goals as goal
 
 pub returns-then-head-ne1 : goal.returns-then-head-ne1
@@ -20,23 +19,20 @@ returns-in_default c = by_unescaped _ _ _ _ _ _ c.text_len.ensures (sym c.fetch-
 pub text_skip-rest-requires : goal.text_skip-rest-requires
 text_skip-rest-requires c = (c.in-Some.ensures.few, unescape_near _ _ _ _ _ _ _ c.loop-rest.invariant c.in-Some.ensures (omega (arith, c.well_formed)))
 
-pub scan_part-state-requires : goal.scan_part-state-requires
-scan_part-state-requires c = record { class = c.requires; range_count = c.fetch-head.ensures.d; state = c.loop-rest.invariant.tidy; room = omega (arith, c.loop-rest.invariant.most, c.fetch-head.ensures.c) }
-
-pub returns-then-not-state : goal.returns-then-not-state
-returns-then-not-state c = by_unescaped _ _ _ _ _ _ c.text_len.ensures (sym c.fetch-head.ensures.kind ∙ c.if-head-ne1.false) (unescape_bad _ _ _ _ _ _ _ c.loop-rest.invariant c.in-Some.ensures _ _ _ c.text_skip-rest.ensures refl c.scan_part-state.ensures (not-true _ c.if-not-state.true))
-
-pub returns-then-most-state : goal.returns-then-most-state
-returns-then-most-state c = by_unescaped _ _ _ _ _ _ c.text_len.ensures (sym c.fetch-head.ensures.kind ∙ c.if-head-ne1.false) (unescape_past _ _ _ _ _ _ _ c.loop-rest.invariant c.in-Some.ensures _ _ _ c.text_skip-rest.ensures refl c.scan_part-state.ensures (rw c.fetch-head.ensures.c at c.if-most-state.true))
-
 pub loop-rest-smaller : goal.loop-rest-smaller
 loop-rest-smaller c = omega (arith, c.text_skip-rest.ensures.left, c.in-Some.ensures.plain.onward)
 
+pub returns-in_default-scan_part : goal.returns-in_default-scan_part
+returns-in_default-scan_part c = by_unescaped _ _ _ _ _ _ c.text_len.ensures (sym c.fetch-head.ensures.kind ∙ c.if-head-ne1.false) (unescape_bad _ _ _ _ _ _ _ c.loop-rest.invariant c.in-Some.ensures _ _ c.text_skip-rest.ensures refl c.in_default-scan_part.ensures)
+
+pub returns-then-most-next : goal.returns-then-most-next
+returns-then-most-next c = by_unescaped _ _ _ _ _ _ c.text_len.ensures (sym c.fetch-head.ensures.kind ∙ c.if-head-ne1.false) (unescape_past _ _ _ _ _ _ _ c.loop-rest.invariant c.in-Some.ensures _ _ c.text_skip-rest.ensures refl _ c.in-Some-scan_part.ensures (rw c.fetch-head.ensures.c at c.if-most-next.true))
+
 pub loop-rest-preserved : goal.loop-rest-preserved
-loop-rest-preserved c = unescape_turn _ _ _ _ _ _ _ c.loop-rest.invariant c.in-Some.ensures _ _ _ c.text_skip-rest.ensures refl c.scan_part-state.ensures (search rules) (not-false _ c.if-not-state.false) (rw c.fetch-head.ensures.c at c.if-most-state.false)
+loop-rest-preserved c = unescape_turn _ _ _ _ _ _ _ c.loop-rest.invariant c.in-Some.ensures _ _ c.text_skip-rest.ensures refl _ c.in-Some-scan_part.ensures (search rules) (rw c.fetch-head.ensures.c at c.if-most-next.false)
 
-pub returns-then-state-ne0 : goal.returns-then-state-ne0
-returns-then-state-ne0 c = by_unescaped _ _ _ _ _ _ c.text_len.ensures (sym c.fetch-head.ensures.kind ∙ c.if-head-ne1.false) (unescape_short _ _ _ _ _ _ c.loop-rest.invariant c.loop-rest-test.false c.if-state-ne0.true)
+pub returns-then-state-eq0 : goal.returns-then-state-eq0
+returns-then-state-eq0 c = by_unescaped _ _ _ _ _ _ c.text_len.ensures (sym c.fetch-head.ensures.kind ∙ c.if-head-ne1.false) (rw c.fetch-head.ensures.b (unescape_whole _ _ _ _ _ _ c.loop-rest.invariant c.loop-rest-test.false c.if-state-eq0.true))
 
-pub returns : goal.returns
-returns c = by_unescaped _ _ _ _ _ _ c.text_len.ensures (sym c.fetch-head.ensures.kind ∙ c.if-head-ne1.false) (rw c.fetch-head.ensures.b (unescape_whole _ _ _ _ _ _ c.loop-rest.invariant c.loop-rest-test.false c.if-state-ne0.false))
+pub returns-else-state-eq0 : goal.returns-else-state-eq0
+returns-else-state-eq0 c = by_unescaped _ _ _ _ _ _ c.text_len.ensures (sym c.fetch-head.ensures.kind ∙ c.if-head-ne1.false) (unescape_short _ _ _ _ _ _ c.loop-rest.invariant c.loop-rest-test.false c.if-state-eq0.false)
