@@ -147,8 +147,8 @@ set_room g list table n r l =
     let e : class g n ≡ some (get_or list n 0) = found g list n r.heads l in
     omega (arith, simp (length-take, length-drop) at (r.sets.each n (get_or list n 0) e).size)
 
-pub set_there : (g list table : List ℕ) (n : ℕ) → LexemesReady g list table → n < length list → ClassSet g (get_or list n 0) (take (128 * n + 128 - 128 * n) (drop (128 * n) table))
+pub set_there : (g list table : List ℕ) (n p : ℕ) → LexemesReady g list table → n < length list → p ≡ get_or list n 0 → ClassSet g p (take (128 * n + 128 - 128 * n) (drop (128 * n) table))
 unfolding set_of
-set_there g list table n r l =
+set_there g list table n p r l k =
     let e : 128 * n + 128 - 128 * n ≡ 128 = omega arith in
-    rw e (r.sets.each n (get_or list n 0) (found g list n r.heads l))
+    rw e (r.sets.each n p (found g list n r.heads l ∙ ap some (sym k)))

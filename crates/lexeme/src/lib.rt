@@ -12,7 +12,7 @@ ghost use Rattle.rules.specs.Escape.{unescaped};
 ghost use Rattle.rules.specs.Lexeme.{is_plain_lexeme, is_lexeme};
 ghost use Rattle.stream.specs.Text.{text_in};
 ghost use Rattle.lexeme.specs.Sets.{ClassSet, LexemesReady};
-ghost use Rattle.lexeme.specs.Sources.{ClassesLent, SourceOf, admitted};
+ghost use Rattle.lexeme.specs.Sources.{ClassesLent, SourceOf, plain_in, admitted};
 
 mod class;
 mod hints;
@@ -108,31 +108,35 @@ fn admits_escaped(g: &[u8], p: u16, set: &[u16], table: &[u16], s: &[u8], t: Tex
     state.due == 0 && least <= state.count
 }
 
-// What a class takes its lexemes from: a plain class, itself or the one that an escaped class names; and whether they are escaped.
+// What a class takes its lexemes from: a plain class, itself or the one that an escaped class names, whose lexemes are then escaped.
 #[derive(Clone, Copy)]
-pub struct Source {
-    pub plain: u16,
-    pub escaped: bool,
+pub enum Source {
+    Plain(u16),
+    Escaped(u16),
+}
+
+impl Source {
+    // The number of the plain class.
+    pub fn plain(self) -> u16
+        ensures { result ≡ plain_in self }
+    {
+        match self {
+            Source::Plain(c) | Source::Escaped(c) => c,
+        }
+    }
 }
 
 pub fn source_of(g: &[u8], classes: &[u16], c: u16) -> Source
     requires { ClassesLent g.now classes.now }
     ensures { SourceOf g.now c result }
 {
-    let n = c as usize;
-    if n < classes.len() {
-        let head = fetch(g, classes[n] as usize);
+    if let Some(p) = classes.get(c as usize) {
+        let head = fetch(g, *p as usize);
         if is_escaped(head) {
-            return Source {
-                plain: head.b,
-                escaped: true,
-            };
+            return Source::Escaped(head.b);
         }
     }
-    Source {
-        plain: c,
-        escaped: false,
-    }
+    Source::Plain(c)
 }
 
 // Whether a text is a lexeme of the plain class of a source, or, if that is escaped, the escaped form of one. There are no lexemes of a class that
@@ -141,18 +145,16 @@ pub fn admits(g: &[u8], classes: &[u16], sets: &[u16], source: Source, s: &[u8],
     requires { LexemesReady g.now classes.now sets.now }
     ensures { result ≡ admitted g.now source (text_in s.now t) }
 {
-    let n = source.plain as usize;
-    if classes.len() <= n {
+    let n = source.plain() as usize;
+    let Some(p) = classes.get(n) else {
         return false;
-    }
-    let p = classes[n];
+    };
     let from = SET * n;
-    let to = from + SET;
-    let set = &sets[from..to];
-    if source.escaped {
-        return admits_escaped(g, p, set, sets, s, t);
+    let set = &sets[from..from + SET];
+    match source {
+        Source::Plain(_) => admits_text(g, *p, set, sets, s, t),
+        Source::Escaped(_) => admits_escaped(g, *p, set, sets, s, t),
     }
-    admits_text(g, p, set, sets, s, t)
 }
 
 // Whether the text of the head at record i of s, of as many bytes as its field b says, is a lexeme of class c.
