@@ -27,6 +27,7 @@ use Rattle.stream.proofs.BlockLaws.{found, unfound}
 use Rattle.stream.specs.declared.record.Record.{Record}
 use Rattle.stream.specs.declared.text.Text.{Text as StreamText}
 use Rattle.records.specs.Sizes.{ValueSize}
+use Rattle.lexeme.specs.declared.Source.TheVariants.{Plain}
 use Rattle.lexeme.specs.Sources.{admitted}
 use Rattle.lexeme.proofs.SourceLaws.{admitted_plain}
 use Rattle.typing.specs.Answers.{kind_form, child_count, kind_below, child_type, row_of, typed_in}
@@ -50,8 +51,8 @@ module _ (g v t : List ℕ) (w : ℕ) (r : Record) (f : Fetched v w r) where
 
   -- the same of the text as it was read, which comes from a plain class
   pub text_read : (c : ℕ) (x : StreamText) {n : ℕ} → Begins v (text_of v r.b w) n x → r.kind ≡ 1
-      → admitted g (record { plain = c; escaped = false }) (text_in v x) ≡ has_form g v (kind_form t (Text c)) w
-  text_read c x b h = admitted_plain g _ (text_in v x) refl ∙ ap (is_plain_lexeme g c) (b.text ∙ ap (λ (n : ℕ). text_of v n w) f.b) ∙ text_is c h
+      → admitted g (Plain c) (text_in v x) ≡ has_form g v (kind_form t (Text c)) w
+  text_read c x b h = admitted_plain g c (text_in v x) ∙ ap (is_plain_lexeme g c) (b.text ∙ ap (λ (n : ℕ). text_of v n w) f.b) ∙ text_is c h
 
   pub text_other : (c : ℕ) → (r.kind ≡ 1 → ⊥) → false ≡ has_form g v (kind_form t (Text c)) w
   unfolding has_form as_text on_found only_if

@@ -117,7 +117,7 @@ impl Checker<'_> {
             return false;
         };
         match path_kind(self.t, self.types, scope, f.count, f.node + 1) {
-            Kind::Text(d) => source_of(self.g, self.classes, c).plain == d,
+            Kind::Text(d) => source_of(self.g, self.classes, c).plain() == d,
             _ => false,
         }
     }

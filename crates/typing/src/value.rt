@@ -34,19 +34,8 @@ fn has_form(
 {
     match kind {
         Kind::Text(c) => {
-            let source = Source {
-                plain: c,
-                escaped: false,
-            };
-            r.kind == 1
-                && admits(
-                    g,
-                    classes,
-                    sets,
-                    source,
-                    v,
-                    text_after(v, w, usize::from(r.b)),
-                )
+            let text = text_after(v, w, r.b as usize);
+            r.kind == 1 && admits(g, classes, sets, Source::Plain(c), v, text)
         }
         Kind::YesNo => r.kind == 2,
         Kind::Items(_) => r.kind == 3,

@@ -4,7 +4,7 @@ use Rattle.typing.proofs.ValueLaws.{by_kind, text_read, text_other, yes_no_is, i
 use Rattle.typing.proofs.value.has_form.Goals as goal
 
 pub returns-then-r-eq1 : goal.returns-then-r-eq1
-returns-then-r-eq1 c = λ t. c.admits.ensures ∙ text_read _ _ t _ _ c.requires.1 _ _ (rw c.from.ensures at c.text_after.ensures) c.if-r-eq1.true ∙ by_kind _ _ t _ c.in-Text.is
+returns-then-r-eq1 c = λ t. c.admits.ensures ∙ text_read _ _ t _ _ c.requires.1 _ _ c.text_after-text.ensures c.if-r-eq1.true ∙ by_kind _ _ t _ c.in-Text.is
 
 pub returns-else-r-eq1 : goal.returns-else-r-eq1
 returns-else-r-eq1 c = λ t. ne_eqb _ _ c.if-r-eq1.false ∙ text_other _ _ t _ _ c.requires.1 _ c.if-r-eq1.false ∙ by_kind _ _ t _ c.in-Text.is
@@ -22,7 +22,7 @@ pub returns-else-r-eq4 : goal.returns-else-r-eq4
 returns-else-r-eq4 c = λ t. ne_eqb _ _ c.if-r-eq4.false ∙ fields_other _ _ t _ _ c.requires.1 _ _ c.if-r-eq4.false ∙ by_kind _ _ t _ c.in-Fields.is
 
 pub returns-then-r-eq5 : goal.returns-then-r-eq5
-returns-then-r-eq5 c = λ t. rw c.from-then-r-eq5.ensures (cases_is _ _ t _ _ c.requires.1 _ _ c.if-r-eq5.true ∙ by_kind _ _ t _ c.in-Cases.is)
+returns-then-r-eq5 c = λ t. rw c.from.ensures (cases_is _ _ t _ _ c.requires.1 _ _ c.if-r-eq5.true ∙ by_kind _ _ t _ c.in-Cases.is)
 
 pub returns-else-r-eq5 : goal.returns-else-r-eq5
 returns-else-r-eq5 c = λ t. ne_eqb _ _ c.if-r-eq5.false ∙ cases_other _ _ t _ _ c.requires.1 _ _ c.if-r-eq5.false ∙ by_kind _ _ t _ c.in-Cases.is

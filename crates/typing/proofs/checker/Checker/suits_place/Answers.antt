@@ -12,7 +12,7 @@ returns-in_default c = place_nothing _ _ _ (sym c.in_default.ensures)
 
 pub returns-in-Text : goal.returns-in-Text
 unfolding text_class on_found
-returns-in-Text c = rw c.source_of.ensures.plain (place_is _ _ _ _ c.in-Text.ensures _ (sym c.in-Some.ensures))
+returns-in-Text c = rw (c.plain.ensures, c.source_of.ensures.plain) (place_is _ _ _ _ c.in-Text.ensures _ (sym c.in-Some.ensures))
 
 pub returns-in_default-path_kind : goal.returns-in_default-path_kind
 returns-in_default-path_kind c = sym (on_none false _ (no_text _ _ c.in_default-path_kind.not-Text)) ∙ place_is _ _ _ _ c.path_kind.ensures _ (sym c.in-Some.ensures)
