@@ -22,11 +22,9 @@ use std::io::Read;
 
 // A proved loop has to end, and nothing says that a file does, so its turns are counted, up to a number that no run uses up.
 fn all_parts(rt: &impl Print, file: &mut impl Read) -> io::Result<()> {
-    let mut first = [0u8; 66048];
-    let mut second = [0u8; 66048];
-    let mut third = [0u8; 66048];
+    let mut streams = [[0u8; 66048]; 3];
     for _ in 0..u64::MAX {
-        if !next_part(rt, file, &mut first, &mut second, &mut third)? {
+        if !next_part(rt, file, &mut streams)? {
             break;
         }
     }

@@ -1,28 +1,25 @@
 // The parts of the file, as main.rt describes them.
+ghost use Rattle.std.specs.Prelude.{◌<◌};
 ghost use Rattle.std.specs.Io.{ReadsAtMost};
 
 use crate::call::{Lent, make_call};
-use crate::print::text;
 use std::io;
 use std::io::{ErrorKind, Read};
 
-fn little(a: u8, b: u8, c: u8, d: u8) -> u32 {
-    a as u32 + 256 * b as u32 + 65536 * c as u32 + 16777216 * d as u32
-}
+// The three streams.
+pub type Streams = [[u8; 66048]; 3];
 
-// The number at a place of a head, from 0 on.
-fn number(head: &[u8; 32], place: usize) -> u32 {
-    if place > 7 {
-        return 0;
-    }
+// The number at a place of a head.
+fn number(head: &[u8; 32], place: usize) -> u32
+    requires { place < 8 }
+{
     let at = 4 * place;
-    little(head[at], head[at + 1], head[at + 2], head[at + 3])
+    u32::from_le_bytes([head[at], head[at + 1], head[at + 2], head[at + 3]])
 }
 
-// The first n bytes.
+// The first n bytes, or as many as there are.
 fn front(s: &[u8], n: u32) -> &[u8] {
-    let end = n as usize;
-    if end <= s.len() { &s[0..end] } else { s }
+    s.get(..n as usize).unwrap_or(s)
 }
 
 // Fills s with a run.
@@ -47,11 +44,8 @@ fn read_full(file: &mut impl Read, buf: &mut [u8]) -> io::Result<usize>
         match file.read(&mut buf[n..]) {
             Ok(0) => break,
             Ok(got) => n += got,
-            Err(e) => {
-                if e.kind() != ErrorKind::Interrupted {
-                    return Err(e);
-                }
-            }
+            Err(e) if e.kind() == ErrorKind::Interrupted => {}
+            Err(e) => return Err(e),
         }
     }
     Ok(n)
@@ -69,59 +63,39 @@ fn put(file: &mut impl Read, head: &[u8; 32], s: &mut [u8]) -> io::Result<()> {
     Ok(())
 }
 
-// Reads a label that fills the space, and prints it.
-fn label(rt: &impl Print, file: &mut impl Read, space: &mut [u8]) -> io::Result<()> {
-    let n = read_full(file, space)?;
-    text(rt, &space[..n])
-}
-
-// Prints a case's line.
+// Prints a case's line: its label, and the call.
 fn ask(
     rt: &impl Print,
     file: &mut impl Read,
     head: &[u8; 32],
-    first: &[u8],
-    second: &[u8],
-    third: &[u8],
+    streams: &Streams,
 ) -> io::Result<()> {
     let mut space = [0u8; 256];
     let length = (number(head, 1) % 256) as usize;
-    label(rt, file, &mut space[0..length])?;
-    text(rt, b" ->")?;
+    let n = read_full(file, &mut space[..length])?;
+    rt.write_all(&space[..n])?;
+    print!(rt; " ->")?;
     let lent = Lent {
+        first: front(&streams[0], number(head, 3)),
+        second: front(&streams[1], number(head, 4)),
+        third: front(&streams[2], number(head, 5)),
         number: number(head, 2),
         room: number(head, 6) as usize,
         numbers: number(head, 7) as usize,
     };
-    make_call(
-        rt,
-        head[0],
-        lent,
-        front(first, number(head, 3)),
-        front(second, number(head, 4)),
-        front(third, number(head, 5)),
-    )?;
-    text(rt, b"\n")
+    make_call(rt, head[0], &lent)?;
+    println!(rt)
 }
 
 // Reads a part and does what it says. False where there is no other.
-pub fn next_part(
-    rt: &impl Print,
-    file: &mut impl Read,
-    first: &mut [u8; 66048],
-    second: &mut [u8; 66048],
-    third: &mut [u8; 66048],
-) -> io::Result<bool> {
+pub fn next_part(rt: &impl Print, file: &mut impl Read, streams: &mut Streams) -> io::Result<bool> {
     let mut head = [0u8; 32];
-    let n = read_full(file, &mut head)?;
-    if n < 32 {
+    if read_full(file, &mut head)? < head.len() {
         return Ok(false);
     }
     match head[0] {
-        1 => put(file, &head, first)?,
-        2 => put(file, &head, second)?,
-        3 => put(file, &head, third)?,
-        _ => ask(rt, file, &head, first, second, third)?,
+        1..=3 => put(file, &head, &mut streams[head[0] as usize - 1])?,
+        _ => ask(rt, file, &head, streams)?,
     }
     Ok(true)
 }
