@@ -1,5 +1,5 @@
 use Rattle.std.proofs.Common.{◌≤◌, length}
-use Rattle.harbour.proofs.file.read_all.Given as goal
+use Rattle.harbour.proofs.file.read_full.Given as goal
 
 abbrev pub invariant-loop : goal.invariant-loop
 invariant-loop g l = l.n ≤ length l.buf
