@@ -1,6 +1,5 @@
 use mathlib.Core.Path.{sym, ◌∙◌}
 use native.Mathlib.Omega.{arith}
-use lib.ListN.{length-set}
 use Rattle.layout.proofs.CommonLaws.{reach, in_stream}
 use Rattle.layout.proofs.TreeTurns.{one_start, one_not, turn_long, turn_wrong, turn_stop, turn_go, own_some, head_right}
 use Rattle.layout.proofs.ChildrenRows.{one_chain, no_chain, table_start, table_not, table_few, table_go, table_end, head_room, row_lent, near_end}
@@ -15,32 +14,14 @@ loop-q-init c = (c.place_of-at.ensures, one_start _ _ _ _ c.requires.inside (one
 pub fetch_in-r-requires : goal.fetch_in-r-requires
 fetch_in-r-requires c = in_stream c.args.v.now c.loop-q.invariant.0 (omega (arith, c.loop-q-test.true, c.requires.inside))
 
-pub overflow_add-end : goal.overflow_add-end
-overflow_add-end c = omega (arith, near_end c.requires, c.loop-q-test.true, c.size_of-size.ensures.small)
-
-pub shape_of-firsts-then-e-end : goal.shape_of-firsts-then-e-end
-shape_of-firsts-then-e-end c = c.loop-q.invariant.2.long_firsts
-
-pub shape_of-places-then-e-end : goal.shape_of-places-then-e-end
-shape_of-places-then-e-end c = c.loop-q.invariant.2.long_places
-
 pub returns-then-e-end : goal.returns-then-e-end
 returns-then-e-end c = table_not (sym (turn_long _ _ _ _ _ c.loop-q-test.true (c.size_of-size.ensures.is _ _ (c.fetch_in-r.ensures _ c.loop-q.invariant.0)) c.if-e-end.true) ∙ c.loop-q.invariant.1)
 
 pub value_head-requires : goal.value_head-requires
 value_head-requires c = record { sized = c.requires.sized; within = record { index = c.loop-q.q; place_is = c.loop-q.invariant.0; near = omega (arith, near_end c.requires, c.loop-q-test.true); inside = omega (arith, c.if-e-end.false, c.requires.inside) }; size_of = c.size_of-size.ensures }
 
-pub shape_of-firsts-in_default : goal.shape_of-firsts-in_default
-shape_of-firsts-in_default c = c.loop-q.invariant.2.long_firsts
-
-pub shape_of-places-in_default : goal.shape_of-places-in_default
-shape_of-places-in_default c = c.loop-q.invariant.2.long_places
-
 pub returns-in_default : goal.returns-in_default
 returns-in_default c = table_not (sym (turn_wrong _ _ _ _ _ c.loop-q-test.true (c.size_of-size.ensures.is _ _ (c.fetch_in-r.ensures _ c.loop-q.invariant.0)) c.if-e-end.false _ (c.value_head.ensures _ c.loop-q.invariant.0 (c.fetch_in-r.ensures _ c.loop-q.invariant.0)) c.in_default.is) ∙ c.loop-q.invariant.1)
-
-pub overflow_add-next : goal.overflow_add-next
-overflow_add-next c = omega (arith, near_end c.requires, c.loop-q-test.true)
 
 pub forward-at-requires : goal.forward-at-requires
 forward-at-requires c = reach _ c.loop-q.invariant.0 (omega (arith, near_end c.requires, c.loop-q-test.true)) (omega arith)
@@ -48,20 +29,8 @@ forward-at-requires c = reach _ c.loop-q.invariant.0 (omega (arith, near_end c.r
 pub overflow_cast-firsts : goal.overflow_cast-firsts
 overflow_cast-firsts c = omega (arith, table_few c.loop-q.invariant.2, near_end c.requires)
 
-pub offset_bounds-firsts-q : goal.offset_bounds-firsts-q
-offset_bounds-firsts-q c = omega (arith, near_end c.requires, c.loop-q-test.true)
-
-pub bounds-firsts-q : goal.bounds-firsts-q
-bounds-firsts-q c = head_room c.loop-q.invariant.2 c.loop-q-test.true c.requires
-
 pub put_row-requires : goal.put_row-requires
 put_row-requires c = row_lent c.loop-q.invariant.2 c.loop-q-test.true c.requires (c.size_of-size.ensures.is _ _ (c.fetch_in-r.ensures _ c.loop-q.invariant.0)) c.if-e-end.false (own_some _ _ _ _ _ c.loop-q-test.true (c.size_of-size.ensures.is _ _ (c.fetch_in-r.ensures _ c.loop-q.invariant.0)) c.if-e-end.false _ (c.value_head.ensures _ c.loop-q.invariant.0 (c.fetch_in-r.ensures _ c.loop-q.invariant.0)) _ c.in-Some.is) (omega (arith, near_end c.requires, c.loop-q-test.true)) (c.forward-at.ensures _ c.loop-q.invariant.0)
-
-pub shape_of-firsts-then-not-put_row : goal.shape_of-firsts-then-not-put_row
-shape_of-firsts-then-not-put_row c = simp length-set c.loop-q.invariant.2.long_firsts
-
-pub shape_of-places-then-not-put_row : goal.shape_of-places-then-not-put_row
-shape_of-places-then-not-put_row c = c.put_row.auto.places ∙ c.loop-q.invariant.2.long_places
 
 pub returns-then-not-put_row : goal.returns-then-not-put_row
 returns-then-not-put_row c = table_not (sym (turn_stop _ _ _ _ _ c.loop-q-test.true (c.size_of-size.ensures.is _ _ (c.fetch_in-r.ensures _ c.loop-q.invariant.0)) c.if-e-end.false _ (c.value_head.ensures _ c.loop-q.invariant.0 (c.fetch_in-r.ensures _ c.loop-q.invariant.0)) _ c.in-Some.is _ c.put_row.ensures.is (c.if-not-put_row.true)) ∙ c.loop-q.invariant.1)
@@ -74,12 +43,6 @@ loop-q-smaller c = omega (arith, c.loop-q-test.true, (own_some _ _ _ _ _ c.loop-
 
 pub loop-q-preserved : goal.loop-q-preserved
 loop-q-preserved c = (c.forward-at.ensures _ c.loop-q.invariant.0, sym (turn_go _ _ _ _ _ c.loop-q-test.true (c.size_of-size.ensures.is _ _ (c.fetch_in-r.ensures _ c.loop-q.invariant.0)) c.if-e-end.false _ (c.value_head.ensures _ c.loop-q.invariant.0 (c.fetch_in-r.ensures _ c.loop-q.invariant.0)) _ c.in-Some.is _ c.put_row.ensures.is (c.if-not-put_row.false)) ∙ c.loop-q.invariant.1, table_go c.loop-q.invariant.2 c.loop-q-test.true (head_room c.loop-q.invariant.2 c.loop-q-test.true c.requires) (c.size_of-size.ensures.is _ _ (c.fetch_in-r.ensures _ c.loop-q.invariant.0)) (head_right _ _ _ _ (c.value_head.ensures _ c.loop-q.invariant.0 (c.fetch_in-r.ensures _ c.loop-q.invariant.0)) _ c.in-Some.is).0 (head_right _ _ _ _ (c.value_head.ensures _ c.loop-q.invariant.0 (c.fetch_in-r.ensures _ c.loop-q.invariant.0)) _ c.in-Some.is).1 c.put_row.ensures (c.if-not-put_row.false) c.put_row.auto.places)
-
-pub shape_of-firsts : goal.shape_of-firsts
-shape_of-firsts c = c.loop-q.invariant.2.long_firsts
-
-pub shape_of-places : goal.shape_of-places
-shape_of-places c = c.loop-q.invariant.2.long_places
 
 pub returns : goal.returns
 returns c = table_end c.loop-q.invariant.2 c.requires c.if-e-lt1.false c.loop-q-test.false c.loop-q.invariant.1

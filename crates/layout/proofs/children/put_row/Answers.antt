@@ -7,9 +7,6 @@ use Rattle.layout.proofs.children.put_row.Goals as goal
 pub loop-k-init : goal.loop-k-init
 loop-k-init c = put_start c.requires
 
-pub size_before-requires : goal.size_before-requires
-size_before-requires c = c.loop-k.invariant.chains
-
 pub returns-in_default : goal.returns-in_default
 returns-in_default c = put_stop c.loop-k.invariant c.loop-k-test.true c.in_default.ensures
 

@@ -1,21 +1,12 @@
-use Rattle.std.proofs.Common.{arith, sym, ◌∙◌}
-use Rattle.layout.proofs.GrammarLaws.{left_start, left_stop, left_go, left_broken, stands}
+use Rattle.std.proofs.Common.{sym, ◌∙◌}
+use Rattle.layout.proofs.GrammarLaws.{left_stop, left_go, left_broken, stands}
 use Rattle.layout.proofs.grammar.row_end.Goals as goal
-
-pub loop-head-init : goal.loop-head-init
-loop-head-init g c = left_start _
 
 pub returns-then-not-is_head : goal.returns-then-not-is_head
 returns-then-not-is_head g c = left_stop (sym (c.is_head.ensures.told _ _ c.fetch-head.ensures) ∙ c.if-not-is_head.true) c.loop-head.invariant
 
-pub end-requires : goal.end-requires
-end-requires g c = record { sized = c.requires; fetched = c.fetch-head.ensures; inside = c.is_head.ensures.inside _ _ c.requires c.fetch-head.ensures c.if-not-is_head.false }
-
 pub returns-in_err-p : goal.returns-in_err-p
 returns-in_err-p g c = rw c.from_residual.ensures (left_broken (stands c.is_head.ensures c.requires c.fetch-head.ensures c.if-not-is_head.false) c.loop-head.invariant (sym c.in_err-p.ensures.is))
-
-pub loop-head-smaller : goal.loop-head-smaller
-loop-head-smaller g c = omega (arith, c.is_head.ensures.inside _ _ c.requires c.fetch-head.ensures c.if-not-is_head.false, c.in_ok-p.ensures.further _ (sym c.in_ok-p.ensures.is))
 
 pub loop-head-preserved : goal.loop-head-preserved
 loop-head-preserved g c = left_go (stands c.is_head.ensures c.requires c.fetch-head.ensures c.if-not-is_head.false) c.loop-head.invariant _ (sym c.in_ok-p.ensures.is) (c.in_ok-p.ensures.further _ (sym c.in_ok-p.ensures.is))

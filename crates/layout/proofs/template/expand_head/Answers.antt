@@ -1,14 +1,10 @@
 use native.Mathlib.Omega.{arith}
 use Rattle.layout.proofs.CommonLaws.{reach}
-use Rattle.layout.proofs.TemplateHeads.{near_next, expand_right, expand_wrong}
-use borrow.Author.Rules.{rules}
+use Rattle.layout.proofs.TemplateHeads.{expand_right, expand_wrong}
 use Rattle.layout.proofs.template.expand_head.Goals as goal
 
 pub forward-requires : goal.forward-requires
 forward-requires c = reach 1 c.requires.place_is (omega (arith, c.requires.near)) (omega arith)
-
-pub in_row-requires : goal.in_row-requires
-in_row-requires c = near_next c.requires (c.forward.ensures _ c.requires.place_is) _ (search rules)
 
 pub returns-then-in_row : goal.returns-then-in_row
 returns-then-in_row c = λ p e f. rw c.from.ensures (expand_right _ p _ f.d _ (c.in_row.ensures _ (c.forward.ensures p e)) c.if-in_row.true)

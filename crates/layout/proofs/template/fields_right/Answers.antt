@@ -1,15 +1,11 @@
-use Rattle.std.proofs.Common.{arith, rules}
+use Rattle.std.proofs.Common.{arith}
 use borrow.Author.Tests.{ne_eqb}
 use Rattle.layout.proofs.CommonLaws.{reach}
-use Rattle.layout.proofs.TemplateHeads.{near_next}
 use Rattle.layout.proofs.TypeLaws.{fields_used_b, fields_row}
 use Rattle.layout.proofs.template.fields_right.Goals as goal
 
 pub forward-requires : goal.forward-requires
 forward-requires c = reach 1 c.requires.counts_on.place_is (omega (arith, c.requires.counts_on.near)) (omega arith)
-
-pub in_row-requires : goal.in_row-requires
-in_row-requires c = near_next c.requires.counts_on (c.forward.ensures _ c.requires.counts_on.place_is) _ (search rules)
 
 pub returns-then-r-eq0 : goal.returns-then-r-eq0
 returns-then-r-eq0 c = λ p e f. fields_row _ p _ f c.requires.c_value c.if-r-eq0.true _ (c.in_row.ensures _ (c.forward.ensures p e))

@@ -5,12 +5,6 @@ use Rattle.layout.proofs.CommonLaws.{reach, in_stream}
 use Rattle.layout.proofs.TreeTurns.{one_start, one_not, one_end, turn_long, turn_wrong, turn_stop, turn_go, own_some}
 use Rattle.layout.proofs.template.one_node.Goals as goal
 
-pub place_of-at-requires : goal.place_of-at-requires
-place_of-at-requires c = omega (arith, c.requires.near)
-
-pub chained-requires : goal.chained-requires
-chained-requires c = record { place_is = c.place_of-at.ensures; within = c.requires }
-
 pub returns-then-not-chained : goal.returns-then-not-chained
 returns-then-not-chained c = one_not _ _ _ _ c.requires.inside (sym c.chained.ensures ∙ c.if-not-chained.true)
 
@@ -20,20 +14,11 @@ loop-q-init c = (c.place_of-at.ensures, c.requires.near, one_start _ _ _ _ c.req
 pub fetch_in-r-requires : goal.fetch_in-r-requires
 fetch_in-r-requires c = in_stream c.args.t.now c.loop-q.invariant.0 (omega (arith, c.requires.inside, c.loop-q-test.true))
 
-pub overflow_add-end : goal.overflow_add-end
-overflow_add-end c = omega (arith, c.size_of-size.ensures.small, c.loop-q.invariant.1)
-
 pub returns-then-e-end : goal.returns-then-e-end
 returns-then-e-end c = sym (turn_long _ _ _ _ _ c.loop-q-test.true (c.size_of-size.ensures.is _ _ (c.fetch_in-r.ensures _ c.loop-q.invariant.0)) c.if-e-end.true) ∙ c.loop-q.invariant.2
 
-pub node_head-requires : goal.node_head-requires
-node_head-requires c = record { sized = c.requires.sized; within = record { index = c.loop-q.q; place_is = c.loop-q.invariant.0; near = c.loop-q.invariant.1; inside = omega (arith, c.if-e-end.false, c.requires.inside) }; size_of = c.size_of-size.ensures }
-
 pub returns-in_default : goal.returns-in_default
 returns-in_default c = sym (turn_wrong _ _ _ _ _ c.loop-q-test.true (c.size_of-size.ensures.is _ _ (c.fetch_in-r.ensures _ c.loop-q.invariant.0)) c.if-e-end.false _ (c.node_head.ensures _ c.loop-q.invariant.0 (c.fetch_in-r.ensures _ c.loop-q.invariant.0)) c.in_default.is) ∙ c.loop-q.invariant.2
-
-pub overflow_add-next : goal.overflow_add-next
-overflow_add-next c = omega (arith, c.loop-q-test.true, few_records _ c.requires.sized, c.requires.inside)
 
 pub forward-at-requires : goal.forward-at-requires
 forward-at-requires c = reach _ c.loop-q.invariant.0 (omega (arith, c.loop-q.invariant.1)) (omega arith)

@@ -1,11 +1,8 @@
 use mathlib.Core.Path.{sym, ◌∙◌}
 use native.Mathlib.Omega.{arith}
 use Rattle.layout.proofs.GrammarLaws.{near, inside, kind_here}
-use Rattle.layout.proofs.TemplateLaws.{templates_start, templates_stop, templates_wrong, templates_go}
+use Rattle.layout.proofs.TemplateLaws.{templates_stop, templates_wrong, templates_go}
 use Rattle.layout.proofs.template.templates_from.Goals as goal
-
-pub loop-r-init : goal.loop-r-init
-loop-r-init c = templates_start _ _
 
 pub returns-then-r-ne3 : goal.returns-then-r-ne3
 returns-then-r-ne3 c = c.tail_right.ensures ∙ templates_stop c.requires _ c.fetch-r.ensures c.loop-r.invariant c.if-r-ne3.true

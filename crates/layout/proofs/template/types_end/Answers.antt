@@ -11,14 +11,8 @@ loop-at-init c = (omega arith, c.place_of-at.ensures, types_start _)
 pub returns-then-r-ne1 : goal.returns-then-r-ne1
 returns-then-r-ne1 c = types_stop c.requires (c.fetch_at-r.ensures _ c.loop-at.invariant.1) c.loop-at.invariant.2 c.if-r-ne1.true
 
-pub type_right-requires : goal.type_right-requires
-type_right-requires c = record { sized = c.requires; index = c.loop-at.p; place_is = c.loop-at.invariant.1; near = omega (arith, c.loop-at.invariant.0) }
-
 pub returns-then-not-type_right : goal.returns-then-not-type_right
 returns-then-not-type_right c = types_broken c.requires (c.fetch_at-r.ensures _ c.loop-at.invariant.1) c.loop-at.invariant.2 c.if-r-ne1.false _ (c.type_right.ensures _ c.loop-at.invariant.1 (c.fetch_at-r.ensures _ c.loop-at.invariant.1)) (c.if-not-type_right.true)
-
-pub overflow_add-p : goal.overflow_add-p
-overflow_add-p c = omega (arith, c.loop-at.invariant.0)
 
 pub forward-at-requires : goal.forward-at-requires
 forward-at-requires c = reach _ c.loop-at.invariant.1 (omega (arith, c.loop-at.invariant.0)) (search rules)

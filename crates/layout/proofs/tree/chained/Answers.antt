@@ -1,13 +1,10 @@
 use Rattle.std.proofs.Common.{sym, ◌∙◌, arith}
 use Rattle.layout.proofs.CommonLaws.{reach}
-use Rattle.layout.proofs.TreeTurns.{chain_done, chain_stop, chain_go, chains_on, chains_near}
+use Rattle.layout.proofs.TreeTurns.{chain_done, chain_stop, chain_go, chains_on}
 use Rattle.layout.proofs.tree.chained.Goals as goal
 
 pub returns-in_default : goal.returns-in_default
 returns-in_default c = sym (chain_stop _ _ _ _ _ c.loop-test.true c.in_default.ensures) ∙ c.loop.invariant.1
-
-pub overflow_add-q : goal.overflow_add-q
-overflow_add-q c = omega (arith, c.in-Some.ensures.small, chains_near c.loop.invariant.0 c.in-Some.ensures)
 
 pub forward-here-requires : goal.forward-here-requires
 forward-here-requires c = reach _ c.loop.invariant.0.place_is (omega (arith, c.loop.invariant.0.within.near)) (omega (arith, c.in-Some.ensures.small))
