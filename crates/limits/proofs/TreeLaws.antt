@@ -6,17 +6,15 @@ use mathlib.Core.Bool.{Bool, true, false}
 use mathlib.Core.Option.{Option, none, some}
 use borrow.Author.Tests.{le-leb, lt-leb}
 use Rattle.rules.specs.Faults.{both, every, tree, at}
-use Rattle.rules.specs.Records.{field_b, field_c, field_d, heads}
+use Rattle.rules.specs.Records.{field_b, field_c, heads}
 use Rattle.rules.specs.Value.{value_size, values_below}
-use Rattle.rules.specs.Templates.{form_of, nodes, nodes_of, nodes_below, first, second, arms}
+use Rattle.rules.specs.Templates.{form_of, nodes_below}
 use Rattle.rules.specs.Limits.{Looped, looped, loops_below, looped_below, few_loops}
 use Rattle.rules.specs.Names.{form_named, node_named}
 use Rattle.rules.specs.declared.Form.{Form}
-use Rattle.rules.specs.declared.Form.TheVariants.{If, For, Match}
 use Rattle.laws.specs.Faults.{tree_right, tree_wrong, tree_deep, at_both}
 use Rattle.laws.specs.Rows.{every_none}
 use Rattle.limits.specs.Rows.{values_within, node_within, nodes_within, nodes_named}
-use Rattle.limits.proofs.FormLaws.{Among, several, bare, many_nodes, no_nodes}
 
 -- a value: all depends on the row of values below it, or none is below it
 module _ (v : List ℕ) (left w : ℕ) (more : 0 < left) (count : ℕ) (hr : heads (value_size v) count (w + 1) ≡ values_below v w) where
@@ -27,28 +25,6 @@ module _ (v : List ℕ) (left w : ℕ) (more : 0 < left) (count : ℕ) (hr : hea
   pub value_leaf : count ≡ 0 → tree (λ x. true) (values_below v) left w ≡ none
   unfolding values_within
   value_leaf e = value_below ∙ sym (every_none _ _ count (w + 1) e)
-
--- the nodes below a node are a row, by its form
-module _ (t : List ℕ) (p : ℕ) (form : Form) (hf : form ≡ form_of t p) where
-  pub below_many : Among several form → (d : ℕ) → d ≡ field_d t p → heads (field_c t) d (p + 1) ≡ nodes_below t p
-  unfolding nodes_below nodes
-  below_many h d hd = sym (rw (← hf, hd) (many_nodes t form p h))
-
-  pub below_if : form ≡ If → heads (field_c t) 2 (p + 2) ≡ nodes_below t p
-  unfolding nodes_below nodes_of first second heads
-  below_if e = rw (← hf, e)
-
-  pub below_for : form ≡ For → heads (field_c t) 1 (p + 2) ≡ nodes_below t p
-  unfolding nodes_below nodes_of first heads
-  below_for e = rw (← hf, e)
-
-  pub below_match : form ≡ Match → (d : ℕ) → d ≡ field_d t p → heads (field_c t) d (p + 2) ≡ nodes_below t p
-  unfolding nodes_below nodes_of arms first
-  below_match e d hd = rw (← hf, e, hd)
-
-  pub below_none : Among bare form → heads (field_c t) 0 (p + 1) ≡ nodes_below t p
-  unfolding nodes_below heads
-  below_none h = sym (rw (← hf) (no_nodes t form p h))
 
 -- the place of what offends among nodes with the same loops around them
 every_at : (f : Looped → Option Looped) (loops : ℕ) (ps : List ℕ)
@@ -70,7 +46,7 @@ module _ (t : List ℕ) (left loops q : ℕ) where
   pub node_below : 0 < left → loops ≤ 16 → (form : Form) (inside count from : ℕ) → form ≡ form_of t q → inside ≡ loops_below form loops
       → heads (field_c t) count from ≡ nodes_below t q → node_within t left loops q ≡ nodes_within t (left - 1) inside count from
   unfolding node_within nodes_within looped looped_below few_loops
-  node_below h l form inside count from hf hi hr =
+  node_below h l _ inside count from hf hi hr =
       ap (at (λ x. x.node)) (tree_right few_loops (looped_below t) left (looped loops q) h (le-leb loops 16 l))
       ∙ every_at (tree few_loops (looped_below t) (left - 1)) (loops_below (form_of t q) loops) (nodes_below t q) ∙ rw (hi, hf, hr)
 

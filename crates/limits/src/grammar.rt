@@ -14,6 +14,7 @@ use stream::record::{Record, fetch};
 
 // Whether what the element at e names exists: a class, or a nonterminal. A keyword names nothing, and neither does an element whose form there
 // isn't.
+#[tactic(auto, using(crate::proofs::NameLaws::class_there), unfolding(rules::specs::Names::element_named, rules::specs::Grammar::element_at, rules::specs::Grammar::element_numbered))]
 fn is_named(
     g: &[u8],
     e: usize,

@@ -82,6 +82,7 @@ fn types_named(g: &[u8], t: &[u8], classes: &[u16], types: &[u16]) -> Result<(),
 }
 
 // A build names a production, an expand a template.
+#[tactic(auto, unfolding(rules::specs::Names::form_named))]
 fn is_named(node: Node, productions: usize, templates: usize) -> bool
     ensures { (g t : List ℕ) → NodeCounts g t productions templates → result ≡ form_named g t node.form node.names }
 {

@@ -19,6 +19,7 @@ const PARAMETERS: u8 = 8;
 const LOOPS: usize = 16;
 
 // The loops around the nodes below a node: an arm counts as one.
+#[tactic(auto, unfolding(rules::specs::Limits::loops_below))]
 fn loops_inside(form: Form, loops: usize) -> usize
     requires { loops < 17 }
     ensures { result ≡ loops_below form loops }

@@ -8,9 +8,6 @@ use Rattle.finite.proofs.FoundLaws.{in_table, rounding_start, rounding_next, rou
 use Rattle.finite.proofs.round.Goals as goal
 use Rattle.finite.proofs.round.Goals.{then-back, else-back}
 
-pub loop-turn-init : goal.loop-turn-init
-loop-turn-init c = rounding_start _ _ _ _ c.requires.sound
-
 pub try_production-more-requires : goal.try_production-more-requires
 try_production-more-requires c =
     let l : c.if-back.i < length c.args.productions.now = elim c.if-back.branch [ then-back w ↦ omega arith | else-back w ↦ omega arith ] in

@@ -7,14 +7,8 @@ use Rattle.finite.proofs.rounds.Goals as goal
 pub loop-init : goal.loop-init
 loop-init c = rounds_start _ _ _ refl c.requires.sound
 
-pub round-requires : goal.round-requires
-round-requires c = record { readable = c.requires.readable; productions_are = c.requires.productions_are; sound = c.loop.invariant.sound }
-
 pub returns-then-not-round : goal.returns-then-not-round
 returns-then-not-round c = rounds_closed _ _ _ _ c.round.ensures (c.if-not-round.true)
-
-pub by_lists-requires : goal.by_lists-requires
-by_lists-requires c = record { readable = c.requires.readable; productions_are = c.requires.productions_are; sound = c.round.ensures.sound }
 
 pub loop-preserved : goal.loop-preserved
 loop-preserved c = rounds_next _ _ _ _ _ _ _ c.loop.invariant c.round.ensures c.by_lists.ensures (omega arith)

@@ -11,17 +11,8 @@ pub loop-turn-init : goal.loop-turn-init
 unfolding row_derivable
 loop-turn-init c = (omega arith, rw sub-zero)
 
-pub fetch-element-requires : goal.fetch-element-requires
-fetch-element-requires c = c.requires.0.sized
-
-pub is_derivable-requires : goal.is_derivable-requires
-is_derivable-requires c = record { noted = c.requires.0.noted; fetched = c.fetch-element.ensures }
-
 pub returns-then-not-is_derivable : goal.returns-then-not-is_derivable
 returns-then-not-is_derivable c = some_left 0 _ (omega arith) ∙ derivable_stop _ _ c.loop-turn.invariant.1 (heads_more _ _ _ _ c.loop-turn-test.true _ refl) (sym c.is_derivable.ensures ∙ c.if-not-is_derivable.true)
-
-pub overflow_add-at : goal.overflow_add-at
-overflow_add-at c = omega (arith, c.size_of-at.ensures.small)
 
 pub loop-turn-preserved : goal.loop-turn-preserved
 loop-turn-preserved c = (omega (arith, c.size_of-at.ensures.small), derivable_next _ _ c.loop-turn.invariant.1 (heads_more _ _ _ _ c.loop-turn-test.true _ (c.size_of-at.ensures.is _ _ c.fetch-element.ensures)) (sym c.is_derivable.ensures ∙ c.if-not-is_derivable.false))

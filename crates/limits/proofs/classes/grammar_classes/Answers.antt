@@ -1,22 +1,24 @@
 -- What is wrong in the classes from the next on is what is wrong in all of them.
-use mathlib.Core.Path.{sym}
-use Rattle.laws.specs.Faults.{every_next, every_stop, every_end}
+use borrow.Author.Rules.{rules}
+use Rattle.std.proofs.Common.{arith}
+use Rattle.std.proofs.lemmas.Grind.{common_steps}
 use Rattle.laws.specs.Lists.{drop_more, drop_done}
-use Rattle.limits.proofs.TurnLaws.{handed_on}
-use Rattle.rules.specs.Classes.{bounds_right, grammar_classes}
-use Rattle.rules.specs.Faults.{every}
-use mathlib.Core.Path.{ap}
+use Rattle.rules.specs.Faults.{every, both}
+use Rattle.rules.specs.Classes.{grammar_classes}
 use Rattle.limits.proofs.classes.grammar_classes.Goals as goal
 
 pub loop-p-init : goal.loop-p-init
 unfolding grammar_classes
-loop-p-init c = ap (every (bounds_right _)) c.requires.classes_are
+loop-p-init c = search rules
 
 pub returns-in_err-bounds_right : goal.returns-in_err-bounds_right
-returns-in_err-bounds_right c = handed_on _ c.in_err-bounds_right.field-0.0 c.from_residual.ensures.1 (every_stop _ c.loop-p.invariant (drop_more _ _ c.loop-p-test.true) (sym c.in_err-bounds_right.ensures))
+unfolding every both
+returns-in_err-bounds_right c = search (rules, drop_more)
 
 pub loop-p-preserved : goal.loop-p-preserved
-loop-p-preserved c = every_next _ c.loop-p.invariant (drop_more _ _ c.loop-p-test.true) (sym c.in_ok-bounds_right.ensures)
+unfolding every both
+loop-p-preserved c = grind (arith, common_steps, drop_more)
 
 pub returns : goal.returns
-returns c = every_end _ c.loop-p.invariant (drop_done _ _ c.loop-p-test.false)
+unfolding every
+returns c = search (rules, drop_done)

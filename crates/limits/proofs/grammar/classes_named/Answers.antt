@@ -1,19 +1,24 @@
 -- What is wrong in the classes from n on is what is wrong in all of them.
-use mathlib.Core.Path.{refl, sym, ◌∙◌}
-use Rattle.limits.specs.Rows.{classes_named}
-use Rattle.laws.specs.Faults.{need_right, need_wrong, every_next, every_stop, every_end}
+use borrow.Author.Rules.{rules}
+use Rattle.std.proofs.Common.{arith}
+use Rattle.std.proofs.lemmas.Grind.{common_steps}
 use Rattle.laws.specs.Lists.{numbered_more, numbered_done}
+use Rattle.rules.specs.Faults.{every, both, need}
+use Rattle.limits.specs.Rows.{classes_named}
 use Rattle.limits.proofs.grammar.classes_named.Goals as goal
 
 pub loop-n-init : goal.loop-n-init
 unfolding classes_named
-loop-n-init c = refl
+loop-n-init c = search rules
 
 pub returns-then-not-class_named : goal.returns-then-not-class_named
-returns-then-not-class_named c = every_stop _ c.loop-n.invariant (numbered_more _ _ c.loop-n-test.true) (need_wrong _ (sym c.class_named.ensures ∙ c.if-not-class_named.true))
+unfolding every both need
+returns-then-not-class_named c = search (rules, numbered_more)
 
 pub loop-n-preserved : goal.loop-n-preserved
-loop-n-preserved c = every_next _ c.loop-n.invariant (numbered_more _ _ c.loop-n-test.true) (need_right _ (sym c.class_named.ensures ∙ c.if-not-class_named.false))
+unfolding every both need
+loop-n-preserved c = grind (arith, common_steps, numbered_more)
 
 pub returns : goal.returns
-returns c = every_end _ c.loop-n.invariant (numbered_done _ _ c.loop-n-test.false)
+unfolding every
+returns c = search (rules, numbered_done)

@@ -1,22 +1,29 @@
 -- The classes first. What is wrong in the productions from the next on is what is wrong in all of them.
-use mathlib.Core.Path.{sym}
-use Rattle.laws.specs.Faults.{every_next, every_stop, every_end}
+use borrow.Author.Rules.{rules}
+use Rattle.std.proofs.Common.{arith}
+use Rattle.std.proofs.lemmas.Grind.{common_steps}
 use Rattle.laws.specs.Lists.{drop_more, drop_done}
-use Rattle.limits.proofs.TurnLaws.{handed_on}
-use Rattle.limits.proofs.RuleLaws.{grammar_classes_lem, grammar_elements}
+use Rattle.rules.specs.Faults.{every, both}
+use Rattle.rules.specs.Names.{grammar_names}
+use Rattle.limits.specs.Rows.{classes_named, elements_named}
 use Rattle.limits.proofs.grammar.grammar_names.Goals as goal
 
 pub returns-in_err-classes_named : goal.returns-in_err-classes_named
-returns-in_err-classes_named c = handed_on _ c.in_err-classes_named.field-0.0 c.from_residual.ensures.1 (grammar_classes_lem _ _ _ c.requires.classes_are c.requires.productions_are (sym c.in_err-classes_named.ensures))
+unfolding grammar_names classes_named both
+returns-in_err-classes_named c = search rules
 
 pub loop-p-init : goal.loop-p-init
-loop-p-init c = grammar_elements _ _ _ c.requires.classes_are c.requires.productions_are (sym c.in_ok-classes_named.ensures)
+unfolding grammar_names classes_named elements_named both
+loop-p-init c = search rules
 
 pub returns-in_err-elements_named : goal.returns-in_err-elements_named
-returns-in_err-elements_named c = handed_on _ c.in_err-elements_named.field-0.0 c.from_residual-in_err-elements_named.ensures.1 (every_stop _ c.loop-p.invariant (drop_more _ _ c.loop-p-test.true) (sym c.in_err-elements_named.ensures))
+unfolding every both
+returns-in_err-elements_named c = search (rules, drop_more)
 
 pub loop-p-preserved : goal.loop-p-preserved
-loop-p-preserved c = every_next _ c.loop-p.invariant (drop_more _ _ c.loop-p-test.true) (sym c.in_ok-elements_named.ensures)
+unfolding every both
+loop-p-preserved c = grind (arith, common_steps, drop_more)
 
 pub returns : goal.returns
-returns c = every_end _ c.loop-p.invariant (drop_done _ _ c.loop-p-test.false)
+unfolding every
+returns c = search (rules, drop_done)

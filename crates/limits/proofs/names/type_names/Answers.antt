@@ -1,10 +1,15 @@
 -- A type: its head, then its fields.
-use mathlib.Core.Path.{◌∙◌}
-use Rattle.limits.proofs.RuleLaws.{type_wrong, type_fields}
+use borrow.Author.Rules.{rules}
+use Rattle.rules.specs.Faults.{need, both}
+use Rattle.rules.specs.Templates.{field_heads}
+use Rattle.rules.specs.Names.{type_names}
+use Rattle.limits.specs.Rows.{types_below}
 use Rattle.limits.proofs.names.type_names.Goals as goal
 
 pub returns-then-not-type_named : goal.returns-then-not-type_named
-returns-then-not-type_named c = type_wrong _ _ _ _ _ c.type_named.ensures c.if-not-type_named.true
+unfolding type_names both need types_below field_heads
+returns-then-not-type_named c = search rules
 
 pub returns : goal.returns
-returns c = c.types_below.ensures ∙ type_fields _ _ _ _ _ c.type_named.ensures c.if-not-type_named.false _ c.fetch-head.ensures.d
+unfolding type_names both need types_below field_heads
+returns c = search rules

@@ -1,21 +1,24 @@
 -- What is wrong in the types from n on is what is wrong in all of them.
-use mathlib.Core.Path.{sym}
-use Rattle.laws.specs.Faults.{every_next, every_stop, every_end}
+use borrow.Author.Rules.{rules}
+use Rattle.std.proofs.Common.{arith}
+use Rattle.std.proofs.lemmas.Grind.{common_steps}
 use Rattle.laws.specs.Lists.{numbered_more, numbered_done}
-use Rattle.limits.proofs.TurnLaws.{handed_on}
+use Rattle.rules.specs.Faults.{every, both}
 use Rattle.limits.specs.Rows.{types_named}
-use mathlib.Core.Path.{refl}
 use Rattle.limits.proofs.names.types_named.Goals as goal
 
 pub loop-n-init : goal.loop-n-init
 unfolding types_named
-loop-n-init c = refl
+loop-n-init c = search rules
 
 pub returns-in_err-type_names : goal.returns-in_err-type_names
-returns-in_err-type_names c = handed_on _ c.in_err-type_names.field-0.0 c.from_residual.ensures.1 (every_stop _ c.loop-n.invariant (numbered_more _ _ c.loop-n-test.true) (sym c.in_err-type_names.ensures))
+unfolding every both
+returns-in_err-type_names c = search (rules, numbered_more)
 
 pub loop-n-preserved : goal.loop-n-preserved
-loop-n-preserved c = every_next _ c.loop-n.invariant (numbered_more _ _ c.loop-n-test.true) (sym c.in_ok-type_names.ensures)
+unfolding every both
+loop-n-preserved c = grind (arith, common_steps, numbered_more)
 
 pub returns : goal.returns
-returns c = every_end _ c.loop-n.invariant (numbered_done _ _ c.loop-n-test.false)
+unfolding every
+returns c = search (rules, numbered_done)

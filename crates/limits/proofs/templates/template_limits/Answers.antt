@@ -1,14 +1,17 @@
 -- A template's limits: its parameters, then its body.
-use mathlib.Core.Path.{◌∙◌}
-use native.Mathlib.Omega.{arith}
-use Rattle.limits.proofs.RuleLaws.{template_many, template_within}
+use borrow.Author.Rules.{rules}
+use Rattle.laws.specs.Faults.{every_one}
+use Rattle.rules.specs.Faults.{need, both}
+use Rattle.rules.specs.Records.{heads}
+use Rattle.rules.specs.Templates.{body}
+use Rattle.rules.specs.Limits.{deepest, template_limits}
+use Rattle.limits.specs.Rows.{node_within, nodes_within}
 use Rattle.limits.proofs.templates.template_limits.Goals as goal
 
 pub returns-then-head-gt-PARAMETERS : goal.returns-then-head-gt-PARAMETERS
-returns-then-head-gt-PARAMETERS c = template_many _ _ _ c.fetch-head.ensures.a (omega arith)
-
-pub nodes_within-requires : goal.nodes_within-requires
-nodes_within-requires c = record { sized = c.requires; near = record { place = omega arith; few = omega arith } }
+unfolding template_limits both need
+returns-then-head-gt-PARAMETERS c = search rules
 
 pub returns : goal.returns
-returns c = c.nodes_within.ensures ∙ template_within _ _ _ c.fetch-head.ensures.a (omega arith)
+unfolding template_limits both need nodes_within deepest body node_within heads
+returns c = search (rules, every_one)
