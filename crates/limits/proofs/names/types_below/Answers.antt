@@ -1,8 +1,8 @@
 -- What is wrong in the records from the next on is what is wrong in all of them.
 use borrow.Author.Rules.{rules}
-use Rattle.std.proofs.Common.{arith, tests}
-use Rattle.std.proofs.lemmas.Grind.{common_steps}
-use Rattle.rules.specs.Faults.{every, both, need}
+use borrow.Author.Tests.{lt-ltb, le-ltb}
+use Rattle.laws.specs.Faults.{need_right, need_wrong, every_next, every_stop}
+use Rattle.rules.specs.Faults.{every}
 use Rattle.limits.specs.Rows.{types_below}
 use Rattle.limits.proofs.TurnLaws.{row_start, row_turn, row_over}
 use Rattle.limits.proofs.names.types_below.Goals as goal
@@ -12,12 +12,10 @@ unfolding types_below
 loop-at-init c = search (rules, row_start)
 
 pub returns-then-bound-naming : goal.returns-then-bound-naming
-unfolding every both need
-returns-then-bound-naming c = search (rules, tests, row_turn)
+returns-then-bound-naming c = every_stop _ c.loop-at.invariant (row_turn _ _ c.loop-at-test.true) (need_wrong _ (rw (← c.fetch-naming.ensures.b) (le-ltb _ _ c.if-bound-naming.true)))
 
 pub loop-at-preserved : goal.loop-at-preserved
-unfolding every both need
-loop-at-preserved c = grind (arith, common_steps, tests, row_turn)
+loop-at-preserved c = every_next _ c.loop-at.invariant (row_turn _ _ c.loop-at-test.true) (need_right _ (rw (← c.fetch-naming.ensures.b) (lt-ltb _ _ c.if-bound-naming.false)))
 
 pub returns : goal.returns
 unfolding every
