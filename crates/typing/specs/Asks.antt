@@ -56,6 +56,12 @@ pub record CheckerTables (g t cs sets ps asked tys ts : List ℕ) : Type 0 where
   pub types : TypeTable t tys
   pub templates_are : ts ≡ templates t
 
+-- what every check of a value is lent
+pub record ValueTables (g t v cs sets tys : List ℕ) : Type 0 where
+  pub lexemes : LexemesReady g cs sets
+  pub types : TypeTable t tys
+  pub sized : stream_length v ≡ none
+
 -- the place is small enough that the places of `levels` levels below it are numbers of 64 bits
 abbrev pub RoomBelow : ℕ → ℕ → Type 0
 RoomBelow levels place = place + levels * 4294967296 ≤ 1099511627776

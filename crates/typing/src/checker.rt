@@ -1,10 +1,10 @@
-// What a check of the templates is lent.
-ghost use Rattle.typing.specs.Asks.{CheckerTables};
+// What the checks are lent.
+ghost use Rattle.typing.specs.Asks.{CheckerTables, ValueTables};
 
 use crate::RECORDS;
 
-// The grammar and the templates, and the tables that hold their heads by their numbers: the classes with the sets of their characters, the
-// productions with their asked elements, the types and the templates.
+// For the templates: the grammar and the templates, and the tables of their heads by their numbers: the classes with the sets of their characters,
+// the productions with their asked elements, the types and the templates.
 #[derive(Clone, Copy)]
 pub struct Checker<'a> {
     pub g: &'a [u8],
@@ -16,4 +16,16 @@ pub struct Checker<'a> {
     pub types: &'a [u16],
     pub templates: &'a [u16],
     ghost ready: { CheckerTables g.now t.now classes.now sets.now productions.now asked.now types.now templates.now },
+}
+
+// For the value: the grammar, the templates and the value, and the tables of the classes, with the sets of their characters, and of the types.
+#[derive(Clone, Copy)]
+pub struct ValueChecker<'a> {
+    pub g: &'a [u8],
+    pub t: &'a [u8],
+    pub v: &'a [u8],
+    pub classes: &'a [u16],
+    pub sets: &'a [u16],
+    pub types: &'a [u16],
+    ghost ready: { ValueTables g.now t.now v.now classes.now sets.now types.now },
 }

@@ -60,8 +60,8 @@ impl Checker<'_> {
         }
     }
 
-    // The first node that does not suit its position, of a row of nodes with so many variables in scope beside what they bring, and of all that stands
-    // below them.
+    // Offends at the first node that does not suit its position, of a row of nodes with so many variables in scope beside what they bring, and of all
+    // that stands below them.
     #[cycle(nodes)]
     fn row(
         &self,
@@ -83,7 +83,7 @@ impl Checker<'_> {
         Ok(())
     }
 
-    // The first node from the frame's on that does not suit its position, where `left` levels are left. A build, an if, a for, a sequence and a match
+    // Offends at the first node from the frame's on that does not suit its position, where `left` levels are left. A build, an if, a for, a sequence and a match
     // differ only in the row that stands below them. The node's head comes from the caller: a row needs it too, for the node's size.
     #[cycle(nodes)]
     pub fn check(

@@ -3,14 +3,14 @@ ghost use Rattle.std.specs.Prelude.{◌≡◌, List, ℕ, ◌<◌};
 ghost use Rattle.std.proofs.Math.Option.{none};
 ghost use Rattle.rules.specs.Blocks.{stream_length};
 ghost use Rattle.rules.specs.Faults.{every, at};
-ghost use Rattle.lexeme.specs.Sets.{LexemesReady};
 ghost use Rattle.rules.specs.Typing.{has_form, mistyped, value_typing};
 ghost use Rattle.rules.specs.Value.{value_size};
 ghost use Rattle.stream.specs.Fault.{fault_of};
 ghost use Rattle.stream.specs.Record.{Fetched};
 ghost use Rattle.typing.specs.Answers.{kind_form, child_count, kind_below, child_type, row_of, typed_in};
-ghost use Rattle.typing.specs.Asks.{TypeTable, ValueRow, ValueAsks};
+ghost use Rattle.typing.specs.Asks.{ValueRow, ValueAsks};
 
+use crate::checker::ValueChecker;
 use crate::kinds::type_of;
 use crate::templates::declared_type;
 use crate::{Kind, LEVELS};
@@ -18,32 +18,6 @@ use lexeme::{Source, admits};
 use records::value::size_of;
 use stream::record::{Record, fetch};
 use stream::text::text_after;
-
-// Whether the value at w, whose record is r, is of a kind, whatever stands below it.
-fn has_form(
-    g: &[u8],
-    v: &[u8],
-    classes: &[u16],
-    sets: &[u16],
-    kind: Kind,
-    w: usize,
-    r: Record,
-) -> bool
-    requires { (LexemesReady g.now classes.now sets.now) × (Fetched v.now w r) × (stream_length v.now ≡ none) }
-    ensures { (t : List ℕ) → result ≡ has_form g.now v.now (kind_form t kind) w }
-{
-    match kind {
-        Kind::Text(c) => {
-            let text = text_after(v, w, r.b as usize);
-            r.kind == 1 && admits(g, classes, sets, Source::Plain(c), v, text)
-        }
-        Kind::YesNo => r.kind == 2,
-        Kind::Items(_) => r.kind == 3,
-        Kind::Fields(_, n) => r.kind == 4 && r.d == n,
-        Kind::Cases(_, n) => r.kind == 5 && u16::from(r.a) < n,
-        Kind::Missing => false,
-    }
-}
 
 // How many values stand directly below one of a kind whose record is r.
 fn child_count(kind: Kind, r: Record) -> usize
@@ -80,45 +54,62 @@ fn child_type(t: &[u8], kind: Kind, i: usize) -> u16
     }
 }
 
-// The place of the first value that is not of its type, among n values in a row from a place on and all that stands below them, where `left`
-// levels are left. They are the children of a value of a kind.
-fn values_typed(
-    g: &[u8],
-    t: &[u8],
-    v: &[u8],
-    classes: &[u16],
-    sets: &[u16],
-    types: &[u16],
-    kind: Kind,
-    first: usize,
-    n: usize,
-    left: usize,
-) -> Result<(), usize>
-    requires { (LexemesReady g.now classes.now sets.now) × (TypeTable t.now types.now) × (stream_length v.now ≡ none) × (ValueRow first n left) }
-    ensures { fault_of result ≡ at (λ x. x.value) (every (mistyped g.now t.now v.now left) (row_of (typed_in t.now kind) (value_size v.now) n 0 first)) }
-{
-    let mut next = first;
-    for i in 0..n {
-        let w = next;
-        let r = fetch(v, w);
-        let own = type_of(t, types, child_type(t, kind, i));
-        if left == 0 || !has_form(g, v, classes, sets, own, w, r) {
-            return Err(w);
-        }
-        let count = child_count(own, r);
-        let number = r.a;
-        // All that the next turn needs of this value's record is read here, so that no frame keeps a record over its call.
-        next += size_of(r);
-        // Most values are texts, which have nothing below them and cost no call.
-        if count != 0 {
-            let below = kind_below(t, own, number);
-            values_typed(g, t, v, classes, sets, types, below, w + 1, count, left - 1)?;
+impl ValueChecker<'_> {
+    // Whether the value at w, whose record is r, is of a kind, whatever stands below it.
+    fn has_form(&self, kind: Kind, w: usize, r: Record) -> bool
+        requires { Fetched self.now.v.now w r }
+        ensures { (t : List ℕ) → result ≡ has_form self.now.g.now self.now.v.now (kind_form t kind) w }
+    {
+        match kind {
+            Kind::Text(c) => {
+                let text = text_after(self.v, w, r.b as usize);
+                r.kind == 1
+                    && admits(
+                        self.g,
+                        self.classes,
+                        self.sets,
+                        Source::Plain(c),
+                        self.v,
+                        text,
+                    )
+            }
+            Kind::YesNo => r.kind == 2,
+            Kind::Items(_) => r.kind == 3,
+            Kind::Fields(_, n) => r.kind == 4 && r.d == n,
+            Kind::Cases(_, n) => r.kind == 5 && u16::from(r.a) < n,
+            Kind::Missing => false,
         }
     }
-    Ok(())
+
+    // Offends at the place of the first value that is not of its type, among n values in a row from a place on and all that stands below them,
+    // where `left` levels are left. They are the children of a value of a kind.
+    fn values_typed(&self, kind: Kind, first: usize, n: usize, left: usize) -> Result<(), usize>
+        requires { ValueRow first n left }
+        ensures { fault_of result ≡ at (λ x. x.value) (every (mistyped self.now.g.now self.now.t.now self.now.v.now left) (row_of (typed_in self.now.t.now kind) (value_size self.now.v.now) n 0 first)) }
+    {
+        let mut next = first;
+        for i in 0..n {
+            let w = next;
+            let r = fetch(self.v, w);
+            let own = type_of(self.t, self.types, child_type(self.t, kind, i));
+            if left == 0 || !self.has_form(own, w, r) {
+                return Err(w);
+            }
+            let count = child_count(own, r);
+            let number = r.a;
+            // All that the next turn needs of this value's record is read here, so that no frame keeps a record over its call.
+            next += size_of(r);
+            // Most values are texts, which have nothing below them and cost no call.
+            if count != 0 {
+                let below = kind_below(self.t, own, number);
+                self.values_typed(below, w + 1, count, left - 1)?;
+            }
+        }
+        Ok(())
+    }
 }
 
-// The place of the first value that is not of its type: the whole value is to be of the declared type, as a row of one.
+// Offends at the place of the first value that is not of its type: the whole value is to be of the declared type, as a row of one.
 pub fn value_typing(
     g: &[u8],
     t: &[u8],
@@ -134,5 +125,13 @@ pub fn value_typing(
     let Some(ty) = declared_type(t, templates) else {
         return Err(0);
     };
-    values_typed(g, t, v, classes, sets, types, Kind::Items(ty), 0, 1, LEVELS)
+    let checker = ValueChecker {
+        g,
+        t,
+        v,
+        classes,
+        sets,
+        types,
+    };
+    checker.values_typed(Kind::Items(ty), 0, 1, LEVELS)
 }
