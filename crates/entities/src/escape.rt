@@ -7,7 +7,7 @@ ghost use Rattle.entities.specs.Put.{Put};
 
 use crate::entity::{LONGEST, entity_of, is_own};
 use stream::copy::copy_into;
-use stream::text::{Text, text_part, text_rest};
+use stream::text::{Text, parts_of};
 
 // Whether a part has no byte of the five.
 fn is_own_form_part(part: &[u8]) -> bool
@@ -21,12 +21,10 @@ fn is_own_form_part(part: &[u8]) -> bool
 pub fn is_own_form(s: &[u8], t: Text) -> bool
     ensures { result ≡ true → escape (text_in s.now t) ≡ text_in s.now t }
 {
-    let mut rest = t;
-    while 0 < rest.left {
-        if !is_own_form_part(text_part(s, rest)) {
+    for part in parts_of(s, t) {
+        if !is_own_form_part(part) {
             return false;
         }
-        rest = text_rest(s, rest);
     }
     true
 }
@@ -58,11 +56,8 @@ fn escaped_len(s: &[u8], t: Text) -> usize
     requires { t.left ≤ 65535 }
     ensures { result ≡ length (escape (text_in s.now t)) }
 {
-    let mut rest = t;
     let mut n = 0;
-    while 0 < rest.left {
-        let part = text_part(s, rest);
-        rest = text_rest(s, rest);
+    for part in parts_of(s, t) {
         n += part_len(part);
     }
     n
@@ -102,11 +97,8 @@ fn escape_parts(s: &[u8], t: Text, out: &mut [u8]) -> usize
     requires { length (escape (text_in s.now t)) ≤ length out.old }
     ensures { Put (escape (text_in s.now t)) out.old out.new result }
 {
-    let mut rest = t;
     let mut done = 0;
-    while 0 < rest.left {
-        let part = text_part(s, rest);
-        rest = text_rest(s, rest);
+    for part in parts_of(s, t) {
         done += escape_part(part, &mut out[done..]);
     }
     done

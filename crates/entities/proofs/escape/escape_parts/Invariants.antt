@@ -1,8 +1,8 @@
+use mathlib.Core.Path.{◌≡◌}
 use Rattle.entities.proofs.EscapeLaws.{Writing}
 use Rattle.entities.proofs.escape.escape_parts.Given as goal
 
-abbrev pub invariant-loop-rest : goal.invariant-loop-rest
-invariant-loop-rest l = Writing l.s l.initial.rest l.rest l.initial.out l.out l.done
-
-abbrev pub decreases-loop-rest : goal.decreases-loop-rest
-decreases-loop-rest l = l.rest.left
+abbrev pub invariant-loop-part : goal.invariant-loop-part
+invariant-loop-part l =
+    (l.part-iterator.stream.now ≡ l.s) ×
+    Writing l.s l.fn.t l.part-iterator.rest l.initial.out l.out l.done

@@ -5,8 +5,8 @@ use Rattle.rules.specs.Escape.{escape}
 use Rattle.stream.specs.Text.{text_in}
 use Rattle.entities.proofs.escape.escaped_len.Given as goal
 
-abbrev pub invariant-loop-rest : goal.invariant-loop-rest
-invariant-loop-rest l = (l.rest.left ≤ l.initial.rest.left) × (l.n + length (escape (text_in l.s l.rest)) ≡ length (escape (text_in l.s l.initial.rest)))
-
-abbrev pub decreases-loop-rest : goal.decreases-loop-rest
-decreases-loop-rest l = l.rest.left
+abbrev pub invariant-loop-part : goal.invariant-loop-part
+invariant-loop-part l =
+    (l.part-iterator.stream.now ≡ l.s) ×
+    (l.part-iterator.rest.left ≤ l.fn.t.left) ×
+    (l.n + length (escape (text_in l.s l.part-iterator.rest)) ≡ length (escape (text_in l.s l.fn.t)))
