@@ -27,7 +27,7 @@ use runs::run_from;
 use scan::{between, scan_part};
 use sets::SET;
 use stream::record::fetch;
-use stream::text::{Text, text_after, text_len, text_part, text_rest, text_skip};
+use stream::text::{Text, parts_of, text_after, text_len, text_part, text_rest, text_skip};
 
 // Whether a text is a lexeme of the class whose record is at p, by its number c; a class that is not plain has none here. It is read where it lies,
 // block by block, up to the part that settles it.
@@ -41,10 +41,7 @@ fn admits_parts(g: &[u8], p: u16, set: &[u16], table: &[u16], s: &[u8], t: Text)
     }
     let most = head.c as usize;
     let mut state = between(0);
-    let mut rest = t;
-    while 0 < rest.left {
-        let part = text_part(s, rest);
-        rest = text_rest(s, rest);
+    for part in parts_of(s, t) {
         let Some(next) = scan_part(g, p, head.d, set, table, part, state) else {
             return false;
         };
