@@ -20,18 +20,32 @@ use Rattle.laws.specs.Faults.{need_none, both_nil, both_iff, placed_iff, try_iff
 use Rattle.records.specs.Children.{Children}
 use Rattle.layout.specs.Heads.{LaidGrammar, LaidTemplates}
 use Rattle.std.specs.Prelude.{Option as Maybe, Some, None, Result, Ok, Err}
-use Rattle.std.specs.Result.{IsErrAnd}
+use Rattle.std.specs.Result.{IsErrAnd, MatchResult}
 use Rattle.std.proofs.lemmas.Result.{err_from_is_err_and}
 use Rattle.walk.specs.declared.state.Run.{Run}
+use Rattle.stream.specs.Fault.{fault_of}
+use Rattle.feed.specs.declared.verdict.Kind.{Kind}
 use Rattle.feed.specs.declared.verdict.Refusal.{Refusal}
+use Rattle.feed.specs.declared.verdict.Rule.{Rule}
 use Rattle.lexeme.specs.Sets.{LexemesReady}
 use Rattle.feed.specs.declared.set.Heads.{Heads}
 use Rattle.feed.specs.Asks.{AllJudged, SetJudged, HeadsJudged}
-use Rattle.feed.specs.Verdict.{refusal_answer, verdict_of, first_of, streams_refusal, set_judgement, depth_of, typing_of, judgement, evaluate_answer, outcome}
+use Rattle.feed.specs.Verdict.{rule_number, kind_number, refusal_answer, verdict_of, first_of, streams_refusal, set_judgement, depth_of, typing_of, judgement, evaluate_answer, outcome}
 
 -- what a `?` hands on
 pub handed : {T : Type 0} (r : Result T Refusal) (x : Refusal) {o : Option Answer} → IsErrAnd r (λ y. y ≡ x) → some (refusal_answer x) ≡ o → verdict_of r ≡ o
 handed r x h e = let p = err_from_is_err_and r h in rw (p.1, p.2) e
+
+-- one rule against one stream
+pub against_said : (rule : Rule) (kind : Kind) (judged : Result (Unit {0}) ℕ) (r : Result (Unit {0}) Refusal) (Known : ℕ → Refusal → Type 0)
+    → MatchResult judged (λ x. r ≡ Ok x) (λ place. IsErrAnd r (Known place)) → ((place : ℕ) (y : Refusal) → Known place y → y ≡ record { rule = rule; kind = kind; place = place })
+    → verdict_of r ≡ try (rule_number rule) (placed (kind_number kind) (fault_of judged)) accept
+unfolding try placed accept
+against_said rule kind (Ok x) r Known h k = rw h
+against_said rule kind (Err place) r Known h k =
+    let p = err_from_is_err_and r h in
+    let q : p.0 ≡ record { rule = rule; kind = kind; place = place } = k place p.0 p.2 in
+    rw (p.1, q)
 
 -- One rule, and then others against the same
 pub first_refuses : (number : ℕ) (x y : Option (ℕ × ℕ)) {a : Answer} → some a ≡ try number x accept → some a ≡ try number (both x y) accept

@@ -15,11 +15,12 @@ mod verdict;
 pub use entities::unescape::unescape;
 use rules::Answer;
 use set::judge;
+use stream::answer::finished;
 pub use stream::block::block_payload;
 pub use stream::fnv::START;
 pub use stream::pack::{pack, unpack};
 use streams::{judge_all, judge_two};
-use verdict::{Kind, Refusal, Rule, accepted, ended};
+use verdict::{Kind, Refusal, Rule, ended};
 use walk::state::Run;
 use walk::{mark, run};
 
@@ -94,7 +95,7 @@ pub fn check(g: &[u8], t: &[u8]) -> Answer
     ensures { result ≡ check g.now t.now }
 {
     match check_set(g, t) {
-        Ok(()) => accepted(),
+        Ok(()) => finished(0, 0),
         Err(refusal) => Answer::from(refusal),
     }
 }

@@ -16,7 +16,6 @@ use limits::names::templates_names;
 use limits::nonterminals::nonterminals;
 use limits::templates::templates_limits;
 use limits::value::value_limits;
-use stream::Fault;
 use typing::templates::templates_typing;
 use typing::value::value_typing;
 
@@ -56,17 +55,17 @@ fn judge_names(set: &Set) -> Result<(), Refusal>
         set.templates,
         &marked,
     );
-    first(Rule::Names, of_g, of_t, Fault::Nowhere)
+    first(Rule::Names, of_g, of_t, Ok(()))
 }
 
 // `value` is what refusal 4 says of the value that comes with them. The class sets are compiled on the way, for the texts of the templates and
 // of the value.
-fn judge_set(set: &Set, value: Fault, sets: &mut [u16]) -> Result<(), Refusal>
+fn judge_set(set: &Set, value: Result<(), usize>, sets: &mut [u16]) -> Result<(), Refusal>
     requires { 128 * length set.now.classes.now ≤ length sets.old }
     ensures { SetJudged set.now.g.now set.now.t.now (fault_of value) set.now.classes.now sets.new result }
 {
     let deep = templates_limits(set.t, set.templates);
-    first(Rule::Limits, Fault::Nowhere, deep, value)?;
+    first(Rule::Limits, Ok(()), deep, value)?;
     judge_names(set)?;
     let wrong = grammar_classes(set.g, set.classes);
     against(Rule::Classes, Kind::Grammar, wrong)?;
@@ -92,13 +91,13 @@ fn fits_small(g: &[u8], classes: usize) -> bool
 }
 
 // What refusal 4 says of a value, if one comes.
-fn value_depth(value: Option<&[u8]>) -> Fault
+fn value_depth(value: Option<&[u8]>) -> Result<(), usize>
     requires { Sized (option_copied value) }
     ensures { fault_of result ≡ depth_of (option_copied value.entry) }
 {
     match value {
         Some(v) => value_limits(v),
-        None => Fault::Nowhere,
+        None => Ok(()),
     }
 }
 

@@ -4,32 +4,23 @@ ghost use Rattle.rules.specs.Answers.{grammar, templates, value, accept};
 ghost use Rattle.feed.specs.Asks.{ChildRoom, AllJudged};
 ghost use Rattle.feed.specs.Verdict.{verdict_of, streams_refusal};
 
-use crate::verdict::{Refusal, Rule, at_first, first};
+use crate::verdict::{Kind, Refusal, Rule, at_first, first};
 use layout::grammar::grammar_layout;
 use layout::template::templates_layout;
 use layout::value::value_layout;
-use stream::Fault;
 use stream::blocks::{block_fault, length_fault};
 
 // Of a grammar and a template set.
 pub(crate) fn judge_two(g: &[u8], t: &[u8]) -> Result<(), Refusal>
     ensures { verdict_of result ≡ streams_refusal (grammar g.now ∷ templates t.now ∷ []) accept }
 {
-    first(
-        Rule::Length,
-        length_fault(g),
-        length_fault(t),
-        Fault::Nowhere,
-    )?;
-    first(
-        Rule::Blocks,
-        block_fault(1, g),
-        block_fault(2, t),
-        Fault::Nowhere,
-    )?;
+    first(Rule::Length, length_fault(g), length_fault(t), Ok(()))?;
+    let of_g = block_fault(Kind::Grammar as u8, g);
+    let of_t = block_fault(Kind::Templates as u8, t);
+    first(Rule::Blocks, of_g, of_t, Ok(()))?;
     let of_g = at_first(grammar_layout(g));
     let of_t = at_first(templates_layout(t));
-    first(Rule::Layout, of_g, of_t, Fault::Nowhere)
+    first(Rule::Layout, of_g, of_t, Ok(()))
 }
 
 // Of these and a value, whose children go into a table on the way.
@@ -49,12 +40,10 @@ pub(crate) fn judge_all(
         length_fault(t),
         length_fault(v),
     )?;
-    first(
-        Rule::Blocks,
-        block_fault(1, g),
-        block_fault(2, t),
-        block_fault(3, v),
-    )?;
+    let of_g = block_fault(Kind::Grammar as u8, g);
+    let of_t = block_fault(Kind::Templates as u8, t);
+    let of_v = block_fault(Kind::Value as u8, v);
+    first(Rule::Blocks, of_g, of_t, of_v)?;
     let of_g = at_first(grammar_layout(g));
     let of_t = at_first(templates_layout(t));
     let of_v = at_first(value_layout(v, firsts, places));

@@ -1,12 +1,12 @@
 // What the checks say, and the answers that are made of it.
 ghost use Rattle.std.specs.Prelude.{◌≡◌};
 ghost use Rattle.rules.specs.Faults.{need};
-ghost use Rattle.rules.specs.Answers.{answer, placed, try, accept};
+ghost use Rattle.rules.specs.Answers.{placed, try, accept};
 ghost use Rattle.stream.specs.Fault.{fault_of};
 ghost use Rattle.feed.specs.Verdict.{rule_number, kind_number, refusal_answer, verdict_of, first_of, run_answer};
 
 use rules::Answer;
-use stream::Fault;
+use stream::answer::{finished, refused};
 use walk::state::Run;
 
 // The rules that are tried before the walk, in the order of their numbers.
@@ -32,19 +32,19 @@ pub enum Kind {
     Value,
 }
 
-impl From<Rule> for u64 {
+impl From<Rule> for u8 {
     ghost from_gives = { λ r n. n ≡ rule_number r };
 
-    fn from(rule: Rule) -> u64 {
-        rule as u64
+    fn from(rule: Rule) -> u8 {
+        rule as u8
     }
 }
 
-impl From<Kind> for u64 {
+impl From<Kind> for u8 {
     ghost from_gives = { λ k n. n ≡ kind_number k };
 
-    fn from(kind: Kind) -> u64 {
-        kind as u64
+    fn from(kind: Kind) -> u8 {
+        kind as u8
     }
 }
 
@@ -56,40 +56,35 @@ pub struct Refusal {
     pub place: usize,
 }
 
-// A refusal by 1 to 9: steps and bytes are 0.
 impl From<Refusal> for Answer {
     ghost from_gives = { λ r a. a ≡ refusal_answer r };
 
     fn from(refusal: Refusal) -> Answer {
-        Answer {
-            number: u64::from(refusal.rule),
-            kind: u64::from(refusal.kind),
-            place: refusal.place as u64,
-            steps: 0,
-            bytes: 0,
-        }
+        refused(refusal.rule.into(), refusal.kind.into(), refusal.place)
     }
 }
 
 // A test that fails at place 0.
-pub(crate) fn at_first(right: bool) -> Fault
+pub(crate) fn at_first(right: bool) -> Result<(), usize>
     ensures { fault_of result ≡ need right 0 }
 {
-    if right { Fault::Nowhere } else { Fault::At(0) }
+    if right { Ok(()) } else { Err(0) }
 }
 
-// A rule's fault in a stream of a kind.
-pub(crate) fn against(rule: Rule, kind: Kind, fault: Fault) -> Result<(), Refusal>
-    ensures { verdict_of result ≡ try (rule_number rule) (placed (kind_number kind) (fault_of fault)) accept }
+// What a rule says of a stream of a kind.
+pub(crate) fn against(rule: Rule, kind: Kind, judged: Result<(), usize>) -> Result<(), Refusal>
+    ensures { verdict_of result ≡ try (rule_number rule) (placed (kind_number kind) (fault_of judged)) accept }
 {
-    match fault {
-        Fault::At(place) => Err(Refusal { rule, kind, place }),
-        Fault::Nowhere => Ok(()),
-    }
+    judged.map_err(|place| Refusal { rule, kind, place })
 }
 
-// A rule's first fault: in the grammar, in the templates, in the value.
-pub(crate) fn first(rule: Rule, g: Fault, t: Fault, v: Fault) -> Result<(), Refusal>
+// What a rule says of the grammar, then of the templates, then of the value.
+pub(crate) fn first(
+    rule: Rule,
+    g: Result<(), usize>,
+    t: Result<(), usize>,
+    v: Result<(), usize>,
+) -> Result<(), Refusal>
     ensures { verdict_of result ≡ try (rule_number rule) (first_of (fault_of g) (fault_of t) (fault_of v)) accept }
 {
     against(rule, Kind::Grammar, g)?;
@@ -97,32 +92,17 @@ pub(crate) fn first(rule: Rule, g: Fault, t: Fault, v: Fault) -> Result<(), Refu
     against(rule, Kind::Value, v)
 }
 
-// Five zeros.
-pub(crate) fn accepted() -> Answer
-    ensures { result ≡ answer 0 0 0 0 0 }
-{
-    Answer {
-        number: 0,
-        kind: 0,
-        place: 0,
-        steps: 0,
-        bytes: 0,
-    }
-}
-
 // The answer of a run: kind and place are 0 when it finished, and else those of the node that it ended at.
 pub(crate) fn ended(r: Run) -> Answer
     ensures { result ≡ run_answer r }
 {
-    let (kind, place) = if r.number == 0 {
-        (Kind::NoStream, 0)
-    } else {
-        (Kind::Templates, r.place)
-    };
+    if r.number == 0 {
+        return finished(r.steps, r.bytes);
+    }
     Answer {
         number: u64::from(r.number),
-        kind: u64::from(kind),
-        place: place as u64,
+        kind: Kind::Templates as u64,
+        place: r.place as u64,
         steps: u64::from(r.steps),
         bytes: r.bytes as u64,
     }

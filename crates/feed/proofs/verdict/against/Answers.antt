@@ -1,10 +1,6 @@
-use Rattle.rules.specs.Answers.{placed, try, accept}
+use Rattle.std.proofs.Common.{of_calls}
+use Rattle.feed.proofs.OrderLaws.{against_said}
 use Rattle.feed.proofs.verdict.against.Goals as goal
 
-pub returns-in-At : goal.returns-in-At
-unfolding placed try
-returns-in-At c = rw c.in-At.is
-
-pub returns-in-Nowhere : goal.returns-in-Nowhere
-unfolding placed try accept
-returns-in-Nowhere c = rw c.in-Nowhere.is
+pub returns : goal.returns
+returns c = against_said _ _ _ _ _ c.map_err.ensures.cases (λ place y h. search of_calls)
