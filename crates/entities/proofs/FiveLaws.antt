@@ -1,10 +1,9 @@
 -- The five, searched by what a text begins with.
-use Rattle.std.proofs.Common.{◌≡◌, refl, ap, sym, ◌∙◌, ℕ, zero, suc, ◌+◌, ◌≤◌, ◌<◌, Bool, true, false, ◌&&◌, List, [], ◌∷◌, ◌++◌, length, take, get_or, eqb, arith, below_more}
+use Rattle.std.proofs.Common.{◌≡◌, refl, ap, sym, ◌∙◌, ℕ, zero, suc, ◌+◌, ◌≤◌, ◌<◌, Bool, true, false, ◌&&◌, List, [], ◌∷◌, ◌++◌, length, take, get_or, eqb, arith, subst, below_more}
 use Rattle.std.proofs.lemmas.Bool.{false≢true}
 use Rattle.std.specs.Cmp.Lexicographic.{pointwise}
 use Rattle.std.proofs.Math.Option.{none, some}
 use Rattle.rules.specs.Escape.{entity, begins, first_of, plain_byte}
-use Rattle.laws.specs.Escapes.{ampersand, less, greater, quote, apostrophe, itself, turned, entity_itself}
 use Rattle.entities.specs.Entity.{Turns, plain_in, Read}
 
 -- `starts_with`, as the rules say it
@@ -63,19 +62,9 @@ pub search_other : (text : List ℕ) (i : ℕ) → NoneOf text i → {e : List �
     → {r : Bool} → r ≡ pointwise eqb e (take (length e) text) → r ≡ false → NoneOf text (i + 1)
 search_other text i h {e} t f g = below_more (λ k. begins (entity (get_or five k 0)) text ≡ false) i h (rw t.into (sym (starts e text) ∙ sym f ∙ g))
 
--- one of the five has its entity among them
-none_itself : (b : ℕ) (text : List ℕ) → 4 ≤ length (entity b) → NoneOf text 5 → begins (entity b) text ≡ false
-none_itself b text l h = elim (turned b) [
-  | ampersand i ↦ rw i (h 0 (omega arith))
-  | less i ↦ rw i (h 1 (omega arith))
-  | greater i ↦ rw i (h 2 (omega arith))
-  | quote i ↦ rw i (h 3 (omega arith))
-  | apostrophe i ↦ rw i (h 4 (omega arith))
-  | itself i j k m n ↦ absurd (omega (arith, ap length (entity_itself b i j k m n)))
-]
-
-pub search_none : (text : List ℕ) → NoneOf text 5 → 4 ≤ length (entity (get_or text 0 0)) → plain_in text ≡ none
+pub search_none : (text : List ℕ) → NoneOf text 5 → get_or text 0 0 ≡ 0x26 → plain_in text ≡ none
 unfolding plain_in plain_byte first_of
-search_none [] h l = refl
-search_none (b ∷ bs) h l =
-    rw (h 0 (omega arith), h 1 (omega arith), h 2 (omega arith), h 3 (omega arith), h 4 (omega arith), none_itself b (b ∷ bs) l h)
+search_none [] h e = refl
+search_none (b ∷ bs) h e =
+    let i : begins (entity b) (b ∷ bs) ≡ false = subst (λ x. begins (entity x) (b ∷ bs) ≡ false) (sym e) (h 0 (omega arith)) in
+    rw (h 0 (omega arith), h 1 (omega arith), h 2 (omega arith), h 3 (omega arith), h 4 (omega arith), i)

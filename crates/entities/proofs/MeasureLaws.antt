@@ -22,7 +22,6 @@ use Rattle.entities.specs.Entity.{plain_in, Read, Begun}
 use Rattle.entities.specs.Utf8.{calm, next_shape, shapes, is_end}
 use Rattle.entities.specs.Measured.{length_from, measured, Letter, Letters}
 use Rattle.entities.proofs.PlainLaws.{plain_of_lem, own_form, read_some}
-use Rattle.entities.proofs.EscapeLaws.{own_entity}
 use Rattle.entities.proofs.Utf8Laws.{shape_between}
 
 -- What is broken stays broken
@@ -76,7 +75,7 @@ letter_calm b l = rw (first_plain b l) (shape_between _)
 letter_turn : (text : List ℕ) (at n : ℕ) → at < length text → Letter (get_or text at 0)
     → length_from (Some calm) n (unescaped (drop at text)) ≡ length_from (Some calm) (n + 1) (unescaped (drop (at + 1) text))
 letter_turn text at n l h =
-    let p = plain_of_lem (drop at text) (Some (record { byte = get_or text at 0; length = 1 })) (drop_some text at l) (own_form text at l refl (own_entity _ h.itself)) in
+    let p = plain_of_lem (drop at text) (Some (record { byte = get_or text at 0; length = 1 })) (drop_some text at l) (own_form text at l refl h.itself) in
     ap (length_from (Some calm) n) p.one
     ∙ length_turn calm n (get_or text at 0) (unescaped (drop 1 (drop at text)))
     ∙ rw (letter_calm (get_or text at 0) h.small, drop-drop 1 at text)

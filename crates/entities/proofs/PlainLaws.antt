@@ -1,17 +1,19 @@
 -- The byte whose escaped form a text begins with.
-use Rattle.std.proofs.Common.{◌≡◌, refl, ap, sym, ◌∙◌, ℕ, zero, suc, ◌-◌, ◌≤◌, ◌<◌, List, [], ◌∷◌, length, take, drop, get_or, length-append, arith}
+use Rattle.std.proofs.Common.{◌≡◌, refl, ap, sym, ◌∙◌, ℕ, zero, suc, ◌-◌, ◌≤◌, ◌<◌, Bool, true, false, List, [], ◌∷◌, length, take, drop, get_or, length-append, arith}
 use Rattle.std.specs.Prelude.{Option as Maybe, Some, None}
 use Rattle.std.proofs.Math.ListN.{drop_of_length-le}
 use Rattle.std.proofs.Math.Seq.{drop-cons}
+use Rattle.std.specs.Bool.{then_some}
+use Rattle.std.proofs.lemmas.Bool.{false≢true}
 use Rattle.std.proofs.Math.Option.{none, some, none-ne-some}
 use Rattle.rules.specs.Faults.{on_found}
 use Rattle.rules.specs.Escape.{entity, begins, first_of, plain_byte, unescaped_after, unescaped}
-use Rattle.laws.specs.Escapes.{ampersand, less, greater, quote, apostrophe, itself, turned, plain_byte_itself, plain_byte_begins, entity_some, unescaped_after_lem}
+use Rattle.laws.specs.Escapes.{ampersand, less, greater, quote, apostrophe, itself, turned, plain_byte_itself, plain_byte_begins, entity_itself, entity_some, unescaped_after_lem}
 use Rattle.entities.specs.declared.entity.Plain.{Plain}
-use Rattle.entities.proofs.EscapeLaws.{entity_short}
-use Rattle.entities.specs.Entity.{plain_in, Read, Reads, Begun, PlainAt}
+use Rattle.entities.proofs.EscapeLaws.{entity_short, own_entity}
+use Rattle.entities.specs.Entity.{own, plain_in, Read, Reads, Begun, PlainAt}
 
--- A byte that stands for itself
+-- A byte that stands for itself, and one of the five that begins no entity
 
 own_byte : (b : ℕ) (bs : List ℕ) → entity b ≡ b ∷ [] → plain_byte b bs ≡ some b
 unfolding entity
@@ -24,10 +26,27 @@ own_byte b bs e = elim (turned b) [
   | itself i j k l m ↦ plain_byte_itself b bs i j k l m
 ]
 
+markup_byte : (b : ℕ) (bs : List ℕ) → (b ≡ 0x26 → ⊥) → own b ≡ false → plain_byte b bs ≡ none
+unfolding plain_byte first_of begins entity own
+markup_byte b bs n e = elim (turned b) [
+  | ampersand i ↦ absurd (n i)
+  | less i ↦ rw i
+  | greater i ↦ rw i
+  | quote i ↦ rw i
+  | apostrophe i ↦ rw i
+  | itself i j k l m ↦ absurd (false≢true (sym e ∙ rw (entity_itself b i j k l m)))
+]
+
 module _ (text : List ℕ) (at : ℕ) where
-  pub own_form : {b : ℕ} → at < length text → b ≡ get_or text at 0 → entity b ≡ b ∷ [] → Read (drop at text) (record { byte = b; length = 1 })
+  pub own_form : {b : ℕ} → at < length text → b ≡ get_or text at 0 → own b ≡ true → Read (drop at text) (record { byte = b; length = 1 })
   unfolding plain_in
-  own_form l f e = rw (drop-cons text at 0 l, ← f) record { told = own_byte _ _ e; long = rw e }
+  own_form l f e = rw (drop-cons text at 0 l, ← f) record { told = own_byte _ _ (own_entity _ e); long = rw (own_entity _ e) }
+
+  pub own_or_none : {b : ℕ} → at < length text → b ≡ get_or text at 0 → (b ≡ 0x26 → ⊥) → (t : Bool) → t ≡ own b
+      → {r : Maybe Plain} → r ≡ then_some t (record { byte = b; length = 1 }) → Reads (drop at text) r
+  unfolding plain_in
+  own_or_none l f n true o e = rw e (own_form l f (sym o))
+  own_or_none l f n false o e = rw (e, drop-cons text at 0 l, ← f) (markup_byte _ _ n (sym o))
 
   pub past_end : length text ≤ at → {r : Maybe Plain} → r ≡ None → Reads (drop at text) r
   unfolding plain_in

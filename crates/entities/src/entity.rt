@@ -1,6 +1,5 @@
 // The five entities, and which byte one stands for.
 ghost use Rattle.std.specs.Prelude.{◌≡◌, ◌≤◌, ◌<◌, length, drop, get_or};
-ghost use Rattle.rules.specs.Escape.{entity};
 ghost use Rattle.stream.specs.Text.{text_in};
 ghost use Rattle.entities.specs.Entity.{EntityOf, own, Reads, PlainIn};
 
@@ -38,9 +37,9 @@ pub struct Plain {
     pub length: usize,
 }
 
-// The byte whose entity a text begins with, one of the five.
+// The byte whose entity a text begins with, which has an ampersand there.
 fn entity_at(text: &[u8]) -> Option<Plain>
-    requires { 4 ≤ length (entity (get_or text.now 0 0)) }
+    requires { get_or text.now 0 0 ≡ 0x26 }
     ensures { Reads text.now result }
 {
     // The five once more: with one table of pairs for both searches the proof didn't close (its references lie at unknown places).
@@ -56,14 +55,15 @@ fn entity_at(text: &[u8]) -> Option<Plain>
     None
 }
 
-// The byte whose escaped form a text has at a place: most bytes are their own. At its end there is none.
+// The byte whose escaped form a text has at a place: most bytes are their own. At its end there is none. (Inlined, since an `Option` of two numbers
+// comes back through memory.)
+#[inline(always)]
 pub fn plain_at(text: &[u8], at: usize) -> Option<Plain>
     ensures { Reads (drop at text.now) result }
 {
-    let byte = *text.get(at)?;
-    match entity_of(byte) {
-        None => Some(Plain { byte, length: 1 }),
-        Some(_) => entity_at(&text[at..]),
+    match *text.get(at)? {
+        b'&' => entity_at(&text[at..]),
+        byte => is_own(byte).then_some(Plain { byte, length: 1 }),
     }
 }
 
