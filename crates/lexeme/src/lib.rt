@@ -80,9 +80,7 @@ fn admits_escaped(g: &[u8], p: u16, set: &[u16], table: &[u16], s: &[u8], t: Tex
     if head.kind != 1 {
         return false;
     }
-    let least = head.b as usize;
     let most = head.c as usize;
-    let many = head.d;
     let mut state = between(0);
     let mut rest = Text {
         at: t.at,
@@ -93,8 +91,7 @@ fn admits_escaped(g: &[u8], p: u16, set: &[u16], table: &[u16], s: &[u8], t: Tex
             return false;
         };
         rest = text_skip(rest, plain.length);
-        let byte = [plain.byte];
-        let Some(next) = scan_part(g, p, many, set, table, &byte[..], state) else {
+        let Some(next) = scan_part(g, p, head.d, set, table, &[plain.byte], state) else {
             return false;
         };
         if most < next.count {
@@ -102,7 +99,7 @@ fn admits_escaped(g: &[u8], p: u16, set: &[u16], table: &[u16], s: &[u8], t: Tex
         }
         state = next;
     }
-    state.due == 0 && least <= state.count
+    state.due == 0 && head.b as usize <= state.count
 }
 
 // What a class takes its lexemes from: a plain class, itself or the one that an escaped class names, whose lexemes are then escaped.
