@@ -1,5 +1,5 @@
 -- An escaped text, byte by byte of the plain text, to the verdict.
-use Prim.Native.Nat.{ℕ, zero, suc, ◌+◌, ◌*◌, ◌^◌, ◌≤◌, ◌<◌}
+use Prim.Native.Nat.{ℕ, zero, suc, ◌≤◌, ◌<◌}
 use mathlib.Core.Path.{◌≡◌, refl, ap, sym, ◌∙◌}
 use mathlib.Core.List.{List, [], ◌∷◌}
 use mathlib.Core.Bool.{Bool, false}
@@ -104,10 +104,6 @@ pub unescape_none : (g : List ℕ) (p : ℕ) (s : List ℕ) (t rest : Text) (sta
 unescape_none g p s t rest state h q = sym (h.same ∙ ap (settles g p state) q.plain ∙ settles_none g p state)
 
 module _ (g : List ℕ) (p : ℕ) (s : List ℕ) (t rest : Text) (state : Scan) (r : Plain) (h : Unescaping g p s t state rest) (q : OneIn s rest r) where
-  -- the text after it has an address
-  pub unescape_near : length s < 2 ^ 63 → rest.at + 9 * r.length < 2 ^ 64
-  unescape_near m = omega (arith, q.near, q.plain.short)
-
   module _ (part : List ℕ) (rest' : Text) (k : Skips r.length rest rest') (y : part ≡ r.byte ∷ []) where
     skipped : text_in s rest' ≡ drop r.length (text_in s rest)
     skipped = k.text s q.plain.inside

@@ -2,7 +2,7 @@
 use Prim.Native.Nat.{ℕ, zero, suc, ◌+◌, ◌-◌, ◌*◌, ◌/◌, ◌%◌, min, ◌≤◌, ◌<◌}
 use mathlib.Core.Path.{◌≡◌, refl, ap, ap₂, sym, ◌∙◌}
 use mathlib.Core.List.{List}
-use mathlib.Core.Bool.{Bool, false, ◌&&◌, ◌||◌, and-false}
+use mathlib.Core.Bool.{false, ◌||◌}
 use native.Mathlib.Omega.{arith}
 use native.Mathlib.Nat.{zero-div}
 use lib.ListN.{length, get_or, set, take, drop, replicate}
@@ -12,18 +12,10 @@ use Rattle.std.proofs.lemmas.List.{places}
 use borrow.Author.Rules.{rules}
 use Rattle.std.proofs.lemmas.Grind.{common_steps}
 use lib.Bits.{bit_or}
-use lib.Dec.{leb}
-use borrow.Author.Tests.{lt-ltb, lt-leb}
+use borrow.Author.Tests.{lt-ltb}
 use Rattle.rules.specs.Lexeme.{within}
 use Rattle.lexeme.specs.Sets.{bit_at, is_in, Added, Filled}
 use Rattle.lexeme.proofs.BitLaws.{bit_or_lem, bit_ones}
-
--- no character below its lowest or above its highest is in a range
-pub none_below : (low high x : ℕ) → x < low → within low high x ≡ false
-none_below low high x l = rw (lt-leb low x l)
-
-pub none_above : (low high x : ℕ) → high < x → within low high x ≡ false
-none_above low high x l = ap (λ (b : Bool). leb low x && b) (lt-leb x high l) ∙ and-false (leb low x)
 
 -- one number: its own characters, and those of the others
 module _ (low high : ℕ) (before : List ℕ) (w m : ℕ) (size : length before ≡ 128) (l : w < 128)
@@ -43,9 +35,6 @@ module _ (low high : ℕ) (before : List ℕ) (w m : ℕ) (size : length before 
 
   pub add_one_number : Added low high w before (set before w (bit_or (get_or before w 0) m))
   add_one_number = record { here = λ x k e. here x e; other = other }
-
-pub add_no_number : (low high w : ℕ) (before : List ℕ) → 128 ≤ w → Added low high w before before
-add_no_number low high w before l = record { here = λ x k e. absurd (omega arith); other = λ x d. refl }
 
 -- numbers of ones
 module _ (from to : ℕ) (before ys : List ℕ) (near : from ≤ to) (far : to ≤ length before) (ones : ys ≡ replicate (length (take (to - from) (drop from before))) 65535) where

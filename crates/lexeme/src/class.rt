@@ -68,6 +68,7 @@ fn in_ranges(g: &[u8], p: u16, count: usize, table: &[u16], x: usize) -> bool
 }
 
 // Whether x is a character of the class: at most 2,047 by its bit in the set, any other by the ranges, which are so many, and by XML 1.0.
+#[tactic(auto, unfolding(rules::specs::Lexeme::is_of_class))]
 pub(crate) fn in_class(g: &[u8], p: u16, count: u16, set: &[u16], table: &[u16], x: usize) -> bool
     requires class_set { ClassSet g.now p set.now }
     requires count_value { count ≡ field_d g.now p }

@@ -16,6 +16,7 @@ pub struct TextRun {
 }
 
 // Whether words 0 to 3, two of the class and two of zeros, admit the byte at i.
+#[tactic(auto, unfolding(crate::specs::Runs::admitted))]
 fn is_in(part: &[u8], i: usize, words: &[u64; 4]) -> bool
     requires { i < length part.now }
     ensures { result ≡ admitted words.now (get_or part.now i 0) }

@@ -28,6 +28,7 @@ pub const TABLE: usize = 40832;
 pub const SMALL_TABLE: usize = 4096;
 
 // Bit x of a word, counted modulo 64.
+#[tactic(auto, unfolding(crate::specs::Sets::bit_at))]
 pub(crate) fn has(word: u64, x: usize) -> bool
     ensures { result ≡ bit_at word (x % 64) }
 {

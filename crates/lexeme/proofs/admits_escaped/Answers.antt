@@ -1,7 +1,6 @@
 use mathlib.Core.Path.{refl, sym, ◌∙◌}
-use native.Mathlib.Omega.{arith}
 use borrow.Author.Rules.{rules}
-use Rattle.lexeme.proofs.EscapedLaws.{by_unescaped, by_kind_unescaped, unescape_start, unescape_none, unescape_near, unescape_turn, unescape_bad, unescape_past, unescape_short, unescape_whole}
+use Rattle.lexeme.proofs.EscapedLaws.{by_unescaped, by_kind_unescaped, unescape_start, unescape_none, unescape_turn, unescape_bad, unescape_past, unescape_short, unescape_whole}
 use Rattle.lexeme.proofs.admits_escaped.Goals as goal
 
 pub returns-then-head-ne1 : goal.returns-then-head-ne1
@@ -10,17 +9,8 @@ returns-then-head-ne1 c = by_kind_unescaped _ _ _ (rw c.fetch-head.ensures.kind 
 pub loop-rest-init : goal.loop-rest-init
 loop-rest-init c = unescape_start _ _ _ _ _ _ c.text_len.ensures c.between-state.ensures
 
-pub plain_in-requires : goal.plain_in-requires
-plain_in-requires c = (c.loop-rest-test.true, c.loop-rest.invariant.there)
-
 pub returns-in_default : goal.returns-in_default
 returns-in_default c = by_unescaped _ _ _ _ _ _ c.text_len.ensures (sym c.fetch-head.ensures.kind ∙ c.if-head-ne1.false) (unescape_none _ _ _ _ _ _ c.loop-rest.invariant c.in_default.ensures)
-
-pub text_skip-rest-requires : goal.text_skip-rest-requires
-text_skip-rest-requires c = (c.in-Some.ensures.few, unescape_near _ _ _ _ _ _ _ c.loop-rest.invariant c.in-Some.ensures (omega (arith, c.well_formed)))
-
-pub loop-rest-smaller : goal.loop-rest-smaller
-loop-rest-smaller c = omega (arith, c.text_skip-rest.ensures.left, c.in-Some.ensures.plain.onward)
 
 pub returns-in_default-scan_part : goal.returns-in_default-scan_part
 returns-in_default-scan_part c = by_unescaped _ _ _ _ _ _ c.text_len.ensures (sym c.fetch-head.ensures.kind ∙ c.if-head-ne1.false) (unescape_bad _ _ _ _ _ _ _ c.loop-rest.invariant c.in-Some.ensures _ _ c.text_skip-rest.ensures refl c.in_default-scan_part.ensures)

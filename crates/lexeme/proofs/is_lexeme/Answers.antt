@@ -1,10 +1,7 @@
 use mathlib.Core.Path.{ap, ◌∙◌}
 use Rattle.rules.specs.Lexeme.{is_lexeme}
-use Rattle.lexeme.proofs.SourceLaws.{lent, source_admits}
+use Rattle.lexeme.proofs.SourceLaws.{source_admits}
 use Rattle.lexeme.proofs.is_lexeme.Goals as goal
-
-pub source_of-requires : goal.source_of-requires
-source_of-requires c = lent _ _ _ c.requires.lexemes_ready
 
 pub returns : goal.returns
 returns c = c.admits.ensures ∙ source_admits _ _ _ _ c.source_of.ensures ∙ ap (is_lexeme _ _) (rw c.fetch-head.ensures.b at c.text_after-text.ensures.text)

@@ -1,8 +1,5 @@
-use Rattle.lexeme.proofs.SetLaws.{add_one_number, add_no_number}
+use Rattle.lexeme.proofs.SetLaws.{add_one_number}
 use Rattle.lexeme.proofs.sets.add_at.Goals as goal
 
 pub returns-then-w-lt-SET : goal.returns-then-w-lt-SET
 returns-then-w-lt-SET c = add_one_number _ _ _ _ _ c.requires.0 c.if-w-lt-SET.true c.mask.ensures
-
-pub returns-else-w-lt-SET : goal.returns-else-w-lt-SET
-returns-else-w-lt-SET c = add_no_number _ _ _ _ c.if-w-lt-SET.false
