@@ -1,9 +1,6 @@
-use Rattle.std.proofs.Common.{refl, sym, ◌∙◌, arith}
+use Rattle.std.proofs.Common.{sym, ◌∙◌, arith}
 use Rattle.layout.proofs.CommonLaws.{tail_go, tail_stop, tail_done, reach}
 use Rattle.layout.proofs.common.zero_records.Goals as goal
-
-pub loop-init : goal.loop-init
-loop-init c = (c.place_of-at.ensures, refl)
 
 pub returns-then-not-zero_from : goal.returns-then-not-zero_from
 returns-then-not-zero_from c = sym (tail_stop _ _ _ _ (c.fetch_at.ensures _ c.loop.invariant.0) c.loop-test.true (sym c.if-not-zero_from.true ∙ c.zero_from.ensures)) ∙ c.loop.invariant.1

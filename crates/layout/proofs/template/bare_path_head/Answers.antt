@@ -1,9 +1,6 @@
 use Rattle.layout.proofs.TemplateHeads.{bare_path, bare_d}
 use Rattle.layout.proofs.template.bare_path_head.Goals as goal
 
-pub path_head-requires : goal.path_head-requires
-path_head-requires c = c.requires
-
 pub returns-then-r-eq0 : goal.returns-then-r-eq0
 returns-then-r-eq0 c = λ p e f. bare_path _ p _ f _ c.if-r-eq0.true _ (c.path_head.ensures p e f)
 

@@ -5,9 +5,6 @@ use Rattle.layout.proofs.template.node_head.Goals as goal
 pub returns-then-r-ne5 : goal.returns-then-r-ne5
 returns-then-r-ne5 c = λ p e f. no_node _ p _ f c.if-r-ne5.true
 
-pub text_head-requires : goal.text_head-requires
-text_head-requires c = c.requires
-
 pub bare_path_head-requires : goal.bare_path_head-requires
 bare_path_head-requires c = room_near c.requires
 

@@ -1,11 +1,7 @@
-use Rattle.std.proofs.Common.{arith, refl, sym, ◌∙◌}
-use Rattle.std.proofs.Math.Nat.{sub-zero}
+use Rattle.std.proofs.Common.{arith, sym, ◌∙◌}
 use Rattle.stream.proofs.RecordLaws.{reach}
 use Rattle.layout.proofs.HeadsFillLaws.{after_go, after_done, after_room, elements_from}
 use Rattle.layout.proofs.heads.ProductionsSpanning.next.Goals as goal
-
-pub loop-init : goal.loop-init
-loop-init c = (rw sub-zero, c.place_of-at.ensures, refl)
 
 pub overflow_add-q-in-loop : goal.overflow_add-q-in-loop
 overflow_add-q-in-loop c = omega (arith, after_room _ _ _ _ _ c.loop-test.true c.loop.invariant.0, c.size_of-size.ensures.is _ _ (c.fetch_at.ensures _ c.loop.invariant.1), elements_from c.requires.fetched, c.requires.inside)
