@@ -22,7 +22,7 @@ use Rattle.layout.specs.declared.tree.Head.{Head}
 use Rattle.std.specs.Prelude.{Some, None}
 use Rattle.std.specs.Prelude as code
 use Rattle.layout.specs.Tree.{Node, text_head, path_head, bare_path_head, form_head, form_below, head_end, below, Headed, CountsOn, HeadIn}
-use Rattle.layout.specs.Template.{naming, path_record, record_end}
+use Rattle.layout.specs.Template.{naming, path_record}
 use Rattle.layout.proofs.CommonLaws.{record_bytes, fetched_zeros}
 use Rattle.laws.specs.Reads.{in_row_go, in_row_broken}
 use Rattle.stream.proofs.RecordLaws.{eight_bytes}
@@ -51,14 +51,6 @@ module _ (t : List ℕ) (p : ℕ) (r : Record) (f : Fetched t p r) where
   pub a_naming : (kind : ℕ) (z : Bool) → z ≡ naming r kind → only_if z (p + 1) ≡ naming_end t kind p
   unfolding naming naming_end
   a_naming kind z e = rw (e, f.kind, f.a, f.c, f.d)
-
-  pub one_path : (kind : ℕ) → kind ≡ 6 → (z : Bool) → z ≡ path_record r → only_if z (p + 1) ≡ record_end t kind p
-  unfolding record_end
-  one_path kind k z e = a_path z e ∙ rw k
-
-  pub one_naming : (kind : ℕ) → (kind ≡ 6 → ⊥) → (z : Bool) → z ≡ naming r kind → only_if z (p + 1) ≡ record_end t kind p
-  unfolding record_end
-  one_naming kind k z e = a_naming kind z e ∙ rw (ne_eqb kind 6 k)
 
 -- Rows: k of n records are passed
 
@@ -124,9 +116,8 @@ module _ (t : List ℕ) (p : ℕ) (r : Record) (f : Fetched t p r) (n : ℕ) whe
       and_none false = refl
 
 -- a head and its d paths
-module _ (t : List ℕ) (p d : ℕ) (e : d ≡ field_d t p) (z : Bool) (h : only_if z (p + 1 + d) ≡ in_row (record_end t 6) d (p + 1)) where
+module _ (t : List ℕ) (p d : ℕ) (e : d ≡ field_d t p) (z : Bool) (h : only_if z (p + 1 + d) ≡ in_row (path_end t) d (p + 1)) where
   row_is : in_row (path_end t) (field_d t p) (p + 1) ≡ only_if z (p + 1 + d)
-  unfolding record_end
   row_is = rw (← e) (sym h)
 
   pub expand_right : z ≡ true → Headed p (Some (record { own = (1 + d); below = 0 })) (in_row (path_end t) (field_d t p) (p + 1)) 0

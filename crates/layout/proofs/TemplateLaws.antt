@@ -17,7 +17,7 @@ use Rattle.rules.specs.Layout.{then_read, in_row, while_is, naming_end, type_end
 use Rattle.stream.specs.declared.record.Record.{Record}
 use Rattle.stream.specs.Record.{Fetched}
 use Rattle.layout.specs.Tree.{Node, thing_end, fills}
-use Rattle.layout.specs.Template.{types_end, rest_right, within, record_end}
+use Rattle.layout.specs.Template.{types_end, rest_right, within}
 use Rattle.layout.proofs.CommonLaws.{tail_past}
 use Rattle.layout.proofs.GrammarLaws.{inside, ThingsLeft, left_start, left_stop, left_go, left_broken, of_another, kind_stands}
 use Rattle.laws.specs.Reads.{only_some, then_some}
@@ -95,9 +95,9 @@ module _ (t : List ℕ) (p : ℕ) (r : Record) (f : Fetched t p r) where
   unfolding template_end within on_found then_read only_if
   template_d d = rw (ne_eqb (field_d t p) 0 (λ e. d (f.d ∙ e)))
 
-  module _ (d : r.d ≡ 0) (z : Bool) (h : only_if z (p + 1 + r.a) ≡ in_row (record_end t 4) r.a (p + 1)) where
+  module _ (d : r.d ≡ 0) (z : Bool) (h : only_if z (p + 1 + r.a) ≡ in_row (naming_end t 4) r.a (p + 1)) where
     end_is : template_end t p ≡ sized t p (then_read (only_if z (p + 1 + r.a)) (node_end t (record_count t)))
-    unfolding template_end record_end then_read on_found only_if
+    unfolding template_end then_read on_found only_if
     end_is = rw (eq-eqb (field_d t p) 0 (sym f.d ∙ d), ← f.a, h)
 
     pub template_row : z ≡ false → false ≡ within t (template_end t p)

@@ -13,7 +13,6 @@ use Rattle.rules.specs.Records.{field_b, field_c, field_d}
 use Rattle.rules.specs.Layout.{then_read, in_row, naming_end, fields_end, type_form_end, type_end}
 use Rattle.stream.specs.declared.record.Record.{Record}
 use Rattle.stream.specs.Record.{Fetched}
-use Rattle.layout.specs.Template.{record_end}
 
 only_same : (b : Bool) (x y : ℕ) → (b ≡ true → x ≡ y) → only_if b x ≡ only_if b y
 unfolding only_if
@@ -103,8 +102,8 @@ module _ (t : List ℕ) (p : ℕ) (r : Record) (f : Fetched t p r) where
       unfolding type_form_end
       type_yes_no a = no_fields ∙ sym (type_at 1 a ∙ rw (zero_b, zero_c))
 
-      pub fields_row : (z : Bool) → only_if z (p + 1 + r.d) ≡ in_row (record_end t 2) r.d (p + 1) → only_if z end ≡ fields_end t p
-      unfolding fields_end record_end then_read on_found only_if
+      pub fields_row : (z : Bool) → only_if z (p + 1 + r.d) ≡ in_row (naming_end t 2) r.d (p + 1) → only_if z end ≡ fields_end t p
+      unfolding fields_end then_read on_found only_if
       fields_row z h =
           let e : only_if z end ≡ in_row (naming_end t 2) (field_d t p) (p + 1) = rw (← f.d) h in
           e ∙ sym (rw (zero_b, zero_c))

@@ -1,11 +1,11 @@
 -- Templates: rows of records of one kind, the types, and the templates after them.
-use Rattle.std.specs.Prelude.{ℕ, ◌+◌, ◌%◌, List, Bool, false, cond, ◌&&◌, drop, eqb, leb}
+use Rattle.std.specs.Prelude.{ℕ, ◌≡◌, ◌+◌, ◌%◌, List, Bool, false, ◌&&◌, drop, eqb, leb}
 use Rattle.std.proofs.Math.Option.{Option}
-use Rattle.rules.specs.Faults.{on_found}
+use Rattle.rules.specs.Faults.{on_found, only_if}
 use Rattle.rules.specs.Records.{record_count, zeros, of_kind}
-use Rattle.rules.specs.Layout.{while_is, naming_end, path_end, type_end, template_end, tail_right}
+use Rattle.rules.specs.Layout.{while_is, type_end, template_end, tail_right}
 use Rattle.stream.specs.declared.record.Record.{Record}
-use Rattle.stream.specs.Record.{bytes_of}
+use Rattle.stream.specs.Record.{bytes_of, Fetched}
 
 -- the tests of a record that was fetched: it names a type and nothing else; it is a path of at most 5 steps, with no field numbers past them
 unfoldable pub naming : Record → ℕ → Bool
@@ -14,9 +14,9 @@ naming r kind = eqb r.kind kind && (eqb r.a 0 && (eqb r.c 0 && eqb r.d 0))
 unfoldable pub path_record : Record → Bool
 path_record r = eqb r.kind 6 && (leb (r.b % 256) 5 && zeros (drop (3 + r.b % 256) (bytes_of r)))
 
--- one record of a kind that stands in rows: a path (6), or a field (2) or a parameter (4), which name a type
-unfoldable pub record_end : List ℕ → ℕ → ℕ → Option ℕ
-record_end t kind p = cond (eqb kind 6) (path_end t p) (naming_end t kind p)
+-- a test tells of each record whether one thing of a row stands there
+abbrev pub TellsOne : List ℕ → (ℕ → Option ℕ) → (Record → Bool → Type 0) → Type 0
+TellsOne t one test = (p : ℕ) (r : Record) (b : Bool) → Fetched t p r → test r b → only_if b (p + 1) ≡ one p
 
 -- where the types end
 unfoldable pub types_end : List ℕ → Option ℕ

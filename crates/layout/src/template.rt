@@ -1,6 +1,6 @@
 // The templates' layout: types, then templates, each with its parameters and one body node, then zero records.
-ghost use Rattle.std.specs.Prelude.{◌≡◌, ℕ, ◌+◌, List};
-ghost use Rattle.std.proofs.Math.Option.{none};
+ghost use Rattle.std.specs.Prelude.{◌≡◌, ℕ, ◌+◌};
+ghost use Rattle.std.proofs.Math.Option.{Option, none};
 ghost use Rattle.rules.specs.Blocks.{stream_length};
 ghost use Rattle.rules.specs.Faults.{need, only_if};
 ghost use Rattle.rules.specs.Records.{field_d};
@@ -8,7 +8,7 @@ ghost use Rattle.rules.specs.Layout.{in_row, path_end, fields_end, type_end, tem
 ghost use Rattle.stream.specs.Record.{Fetched, place_of};
 ghost use Rattle.layout.specs.Grammar.{end_of};
 ghost use Rattle.layout.specs.Tree.{Node, path_head, bare_path_head, head_end, below, fills, Headed, CountsOn, UpTo, HeadIn};
-ghost use Rattle.layout.specs.Template.{naming, path_record, record_end, types_end, rest_right, within};
+ghost use Rattle.layout.specs.Template.{naming, path_record, TellsOne, types_end, rest_right, within};
 ghost use Rattle.layout.specs.Sorts.{HeadInside};
 
 use crate::common::{record_count, tail_right, zero_from};
@@ -33,25 +33,15 @@ fn is_path(r: Record) -> bool
     r.kind == 6 && steps <= 5 && zero_from(r, 3 + steps)
 }
 
-// A record of a kind that stands in rows: a path, or else a field or a parameter.
-fn is_one(r: Record, kind: u8) -> bool
-    ensures { (t : List ℕ) → (p : ℕ) → Fetched t p r → only_if result (p + 1) ≡ record_end t kind p }
-{
-    if kind == 6 {
-        is_path(r)
-    } else {
-        names_type(r, kind)
-    }
-}
-
-// n records of a kind from a place on.
-fn in_row(t: &[u8], kind: u8, at: Place, n: u16) -> bool
-    requires { CountsOn t.now at n }
-    ensures { (p : ℕ) → at ≡ place_of p → only_if result (p + n) ≡ in_row (record_end t.now kind) n p }
+// n records from a place on, each of which passes a test.
+fn in_row<F: Fn(Record) -> bool>(t: &[u8], at: Place, n: u16, is_one: F) -> bool
+    requires counts_on { CountsOn t.now at n }
+    requires callable { F.IsAlwaysCallable is_one }
+    ensures { (one : ℕ → Option ℕ) → TellsOne t.now one (F.post is_one) → (p : ℕ) → at ≡ place_of p → only_if result (p + n) ≡ in_row one n p }
 {
     let mut here = at;
     for _ in 0..n {
-        if !is_one(fetch_at(t, here), kind) {
+        if !is_one(fetch_at(t, here)) {
             return false;
         }
         here = forward(here, 1);
@@ -88,7 +78,7 @@ fn expand_head(t: &[u8], at: Place, r: Record) -> Option<Head>
     requires { CountsOn t.now at 65536 }
     ensures { (p : ℕ) → at ≡ place_of p → Fetched t.now p r → Headed p result (in_row (path_end t.now) (field_d t.now p) (p + 1)) 0 }
 {
-    if in_row(t, 6, forward(at, 1), r.d) {
+    if in_row(t, forward(at, 1), r.d, is_path) {
         Some(Head {
             own: 1 + u32::from(r.d),
             below: 0,
@@ -159,7 +149,7 @@ fn fields_right(t: &[u8], at: Place, r: Record) -> bool
     requires c_value { r.c ≡ 0 }
     ensures { (p : ℕ) → at ≡ place_of p → Fetched t.now p r → only_if result (p + 1 + field_d t.now p) ≡ fields_end t.now p }
 {
-    r.b == 0 && in_row(t, 2, forward(at, 1), r.d)
+    r.b == 0 && in_row(t, forward(at, 1), r.d, |r| names_type(r, 2))
 }
 
 // The type at a place: its fields by its form. It has one record and one for each field, of which only a record and a variant have any.
@@ -208,7 +198,7 @@ fn template_right(t: &[u8], p: usize, r: Record) -> bool
     let e = p + r.c as usize;
     r.d == 0
         && e <= record_count(t)
-        && in_row(t, 4, place_of(p + 1), u16::from(r.a))
+        && in_row(t, place_of(p + 1), u16::from(r.a), |r| names_type(r, 4))
         && one_node(t, p + 1 + r.a as usize, e)
 }
 
