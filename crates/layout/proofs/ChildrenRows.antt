@@ -105,7 +105,7 @@ module _ {v : List ℕ} {e : ℕ} {firsts places : List ℕ} (t : TableLent v e 
   pub table_start : Tabling v e firsts places firsts places 0 0
   table_start = record { looked = nothing; pending = 1; chain = one_thing; counted = omega arith; long_firsts = refl; long_places = refl }
 
-pub no_chain : (size : ℕ → ℕ) (e : ℕ) → e < 1 → chain size 1 0 e ≡ false
+pub no_chain : (size : ℕ → ℕ) (e : ℕ) → e ≡ 0 → chain size 1 0 e ≡ false
 unfolding chain
 no_chain size e l = rw (le-ltb 0 e (omega arith))
 

@@ -145,37 +145,44 @@ module _ (thing : Thing) (s : List ℕ) where
   unfolding rest
   one_end q e l = scan_end (head_end thing s) (value_size s) (below thing s) (head_grows thing s) q e l
 
-  -- a turn, from what the code has of the head at q
-  module _ (q e size : ℕ) (l : q < e) (z : size ≡ value_size s q) where
-    pub turn_long : e < q + size → rest q e ≡ false
+  pub turn_long : (q e size : ℕ) → q < e → size ≡ value_size s q → e < q + size → rest q e ≡ false
+  unfolding rest
+  turn_long q e size l z i = scan_long (head_end thing s) (value_size s) (below thing s) (head_grows thing s) q e l (omega arith)
+
+-- what the code has of the head at q, before e, when it has looked at it
+pub record Turn (thing : Thing) (s : List ℕ) (q e size : ℕ) (h : code.Option Head) : Type 0 where
+  pub before : q < e
+  pub sized : size ≡ value_size s q
+  pub fits : q + size ≤ e
+  pub head : Headed q h (head_end thing s q) (below thing s q)
+
+module _ {thing : Thing} {s : List ℕ} {q e size : ℕ} {h : code.Option Head} (t : Turn thing s q e size h) where
+  ends : q + value_size s q ≤ e
+  ends = let a = t.fits in let b = t.sized in omega arith
+
+  pub turn_wrong : h ≡ None → rest thing s q e ≡ false
+  unfolding rest
+  turn_wrong w = scan_no_head (head_end thing s) (value_size s) (below thing s) (head_grows thing s) q e t.before ends (head_wrong q h _ _ t.head w)
+
+  pub turn_right : (x : Head) → h ≡ Some x → (head_end thing s q ≡ some (q + x.own)) × (x.below ≡ below thing s q)
+  turn_right x w = head_right q h _ _ t.head x w
+
+  pub own_some : (x : Head) → h ≡ Some x → q < q + x.own
+  own_some x w = head_grows thing s q (q + x.own) (turn_right x w).0
+
+  module _ (x : Head) (w : h ≡ Some x) {b : Bool} (c : b ≡ chain (value_size s) x.below (q + x.own) (q + size)) where
+    chain_is : b ≡ chain (value_size s) (below thing s q) (q + x.own) (q + value_size s q)
+    chain_is = c ∙ rw (t.sized, (turn_right x w).1)
+
+    pub turn_stop : b ≡ false → rest thing s q e ≡ false
     unfolding rest
-    turn_long i = scan_long (head_end thing s) (value_size s) (below thing s) (head_grows thing s) q e l (omega arith)
+    turn_stop f =
+        scan_no_chain (head_end thing s) (value_size s) (below thing s) (head_grows thing s) q (q + x.own) e t.before ends (turn_right x w).0 (sym chain_is ∙ f)
 
-    module _ (i : q + size ≤ e) (h : code.Option Head) (is : Headed q h (head_end thing s q) (below thing s q)) where
-      pub turn_wrong : h ≡ None → rest q e ≡ false
-      unfolding rest
-      turn_wrong w =
-          scan_no_head (head_end thing s) (value_size s) (below thing s) (head_grows thing s) q e l (omega arith)
-          (head_wrong q h (head_end thing s q) (below thing s q) is w)
-
-      module _ (x : Head) (w : h ≡ Some x) (b : Bool) (c : b ≡ chain (value_size s) x.below (q + x.own) (q + size)) where
-        chain_is : b ≡ chain (value_size s) (below thing s q) (q + x.own) (q + value_size s q)
-        chain_is = c ∙ rw (z, (head_right q h (head_end thing s q) (below thing s q) is x w).1)
-
-        pub turn_stop : b ≡ false → rest q e ≡ false
-        unfolding rest
-        turn_stop f =
-            scan_no_chain (head_end thing s) (value_size s) (below thing s) (head_grows thing s) q (q + x.own) e l (omega arith)
-            (head_right q h (head_end thing s q) (below thing s q) is x w).0 (sym chain_is ∙ f)
-
-        pub turn_go : b ≡ true → rest q e ≡ rest (q + x.own) e
-        unfolding rest
-        turn_go f =
-            scan_step (head_end thing s) (value_size s) (below thing s) (head_grows thing s) q (q + x.own) e l (omega arith)
-            (head_right q h (head_end thing s q) (below thing s q) is x w).0 (sym chain_is ∙ f)
-
-      pub own_some : (x : Head) → h ≡ Some x → q < q + x.own
-      own_some x w = head_grows thing s q (q + x.own) (head_right q h (head_end thing s q) (below thing s q) is x w).0
+    pub turn_go : b ≡ true → rest thing s q e ≡ rest thing s (q + x.own) e
+    unfolding rest
+    turn_go f =
+        scan_step (head_end thing s) (value_size s) (below thing s) (head_grows thing s) q (q + x.own) e t.before ends (turn_right x w).0 (sym chain_is ∙ f)
 
 -- the unit that a text ends with
 pub unit_inside : (s : List ℕ) (at : Place) (i : ℕ) → at ≡ place_of i → (n : ℕ) → i + n < record_count s

@@ -39,12 +39,12 @@ pub fn one_value(v: &[u8], e: usize, firsts: &mut [u16], places: &mut [u16]) -> 
     requires { TableLent v.now e firsts.old places.old }
     ensures { TablePut v.now e firsts.new places.new result }
 {
-    let mut q: usize = 0;
-    let mut at = place_of(0);
-    let mut used: usize = 0;
-    if e < 1 {
+    if e == 0 {
         return false;
     }
+    let mut q = 0;
+    let mut at = place_of(0);
+    let mut used = 0;
     while q < e {
         let r = fetch_in(v, at);
         let size = size_of(r);
