@@ -99,6 +99,15 @@ module _ {s : List ℕ} {is : ℕ → Bool} {size : ℕ → ℕ} {start : ℕ} {
       → RowFilled is size start before table (record { count = n; next = p })
   fill_stop l f = record { row = record { things = f.done; stops = l }; begins = f.begins; rest = f.rest }
 
+-- where the table is full, the row has ended
+none_left : {is : ℕ → Bool} {size : ℕ → ℕ} {n p q : ℕ} → InRow (Spans is size) n p q → n ≤ 0 → is q ≡ false → is p ≡ false
+none_left (no_thing p) l e = e
+none_left (one_thing n p q r x xs) l e = absurd (omega arith)
+
+module _ {s : List ℕ} {is : ℕ → Bool} {size : ℕ → ℕ} where
+  pub fill_full : {start : ℕ} {before table : List ℕ} {n p : ℕ} → length table ≤ n → FillingRow s is size start before table n p → is p ≡ false
+  fill_full l f = let z = f.same in let h = f.ahead.fits in none_left f.ahead.row.things (omega arith) f.ahead.row.stops
+
 -- the place after n things, of which k are passed
 pub after_grows : (size : ℕ → ℕ) (n p : ℕ) → p ≤ after size n p
 unfolding after

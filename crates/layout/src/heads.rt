@@ -82,16 +82,18 @@ fn row<S: Spanning>(s: &[u8], start: usize, table: &mut [u16]) -> RowEnd
     requires { RowAhead s.now (S.is s.now) (S.size s.now) start (length table.old) }
     ensures { RowFilled (S.is s.now) (S.size s.now) start table.old table.new result }
 {
-    let mut p = start;
-    let mut n: usize = 0;
-    loop {
-        let head = fetch(s, p);
+    let mut next = start;
+    for (count, place) in table.iter_mut().enumerate() {
+        let head = fetch(s, next);
         if !S::is_head(head) {
-            return RowEnd { count: n, next: p };
+            return RowEnd { count, next };
         }
-        table[n] = p as u16;
-        n += 1;
-        p = S::next(s, p, head);
+        *place = next as u16;
+        next = S::next(s, next, head);
+    }
+    RowEnd {
+        count: table.len(),
+        next,
     }
 }
 
