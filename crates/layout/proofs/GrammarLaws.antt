@@ -4,7 +4,7 @@ use mathlib.Core.Path.{◌≡◌, refl, sym, ◌∙◌, ap}
 use mathlib.Core.Bool.{Bool, true, false, cond, ◌&&◌, ◌||◌, false≢true}
 use mathlib.Core.Logic.{◌⊎◌, inl, inr, ⊎_elim}
 use mathlib.Core.List.{List}
-use mathlib.Core.Option.{Option, none, some, none-ne-some}
+use mathlib.Core.Option.{Option, none, some}
 use Rattle.std.specs.Prelude.{None, Some, MatchOption}
 use Rattle.std.specs.Prelude as code
 use native.Mathlib.Omega.{arith}
@@ -21,14 +21,14 @@ use Rattle.stream.specs.Record.{Fetched}
 use Rattle.stream.specs.declared.record.Record.{Record}
 use Rattle.records.specs.Productions.{ProductionNumber}
 use Rattle.layout.specs.Common.{most_records}
-use Rattle.layout.specs.Grammar.{end_of, class_head, element_head, Ends}
+use Rattle.layout.specs.Grammar.{end_of, class_head, element_head}
 use Rattle.layout.specs.Sorts.{Tells}
 use Rattle.laws.specs.Faults.{and_iff}
 use Rattle.laws.specs.Rows.{one_less}
 use Rattle.laws.specs.Sorts.{class_kinds}
 use Rattle.stream.proofs.RecordLaws.{eight_bytes}
 use Rattle.records.proofs.ClassLaws.{class_is}
-use Rattle.laws.specs.Reads.{only_some, then_some, in_row_done, in_row_grows, few_records}
+use Rattle.laws.specs.Reads.{in_row_done, few_records}
 use Rattle.theorems.specs.Streams.{length_exactly}
 use Rattle.theorems.specs.Sizes.{by_less}
 use Rattle.theorems.specs.Heads.{byte_past}
@@ -42,7 +42,29 @@ inside s w p kind e = by_less p (record_count s) (λ l. l) (λ l. absurd (let z 
 pub row_end : (one : ℕ → Option ℕ) (n k p : ℕ) → k ≤ n → n ≤ k → in_row one (n - k) (p + k) ≡ some (p + n)
 row_end one n k p a b = in_row_done one n k (p + k) b ∙ ap (λ x. some (p + x)) (let z : k ≡ n = omega arith in z)
 
--- the things of a sort, of which n are read and the next begins at p: what is left to read is the whole
+-- the things of a sort, of which n of at most m are read and the next begins at p
+module _ (is : ℕ → Bool) (one : ℕ → ℕ → Option ℕ) (m n p : ℕ) where
+  pub turns_stop : is p ≡ false → while_is is one (m - n) n p ≡ some p
+  turns_stop l = go (m - n)
+    where
+      go : (k : ℕ) → while_is is one k n p ≡ some p
+      go zero = unfold while_is in refl
+      go (suc k) = unfold while_is in rw (l, while_is)
+
+  pub turns_done : m ≤ n → while_is is one (m - n) n p ≡ some p
+  unfolding while_is
+  turns_done l = let z : m - n ≡ 0 = omega arith in rw z
+
+  module _ (l : n < m) (e : is p ≡ true) where
+    pub turns_go : (q : ℕ) → one n p ≡ some q → while_is is one (m - n) n p ≡ while_is is one (m - (n + 1)) (n + 1) q
+    unfolding while_is then_read on_found
+    turns_go q o = rw (one_less m n l, while_is, e, o, add-one n)
+
+    pub turns_broken : one n p ≡ none → while_is is one (m - n) n p ≡ none
+    unfolding while_is then_read on_found
+    turns_broken o = rw (one_less m n l, while_is, e, o)
+
+-- what is left to read is the whole
 pub record ThingsLeft (s : List ℕ) (is : ℕ → Bool) (one : ℕ → ℕ → Option ℕ) (whole : Option ℕ) (n p : ℕ) : Type 0 where
   pub fewer : n ≤ p
   pub same : while_is is one (record_count s - n) n p ≡ whole
@@ -57,11 +79,7 @@ module _ {s : List ℕ} {is : ℕ → Bool} {one : ℕ → ℕ → Option ℕ} w
   left_start p = record { fewer = omega arith; same = rw sub-zero }
 
   pub left_stop : {whole : Option ℕ} {n p : ℕ} → is p ≡ false → ThingsLeft s is one whole n p → some p ≡ whole
-  left_stop {whole} {n} {p} l h = sym (go (record_count s - n)) ∙ h.same
-    where
-      go : (k : ℕ) → while_is is one k n p ≡ some p
-      go zero = unfold while_is in refl
-      go (suc k) = unfold while_is in rw (l, while_is)
+  left_stop l h = sym (turns_stop is one _ _ _ l) ∙ h.same
 
 -- a turn
 module _ {s : List ℕ} {is : ℕ → Bool} {one : ℕ → ℕ → Option ℕ} {whole : Option ℕ} {n p : ℕ} (e : Stands s is p) (h : ThingsLeft s is one whole n p) where
@@ -69,15 +87,10 @@ module _ {s : List ℕ} {is : ℕ → Bool} {one : ℕ → ℕ → Option ℕ} {
   more = let a = e.inside in let b = h.fewer in omega arith
 
   pub left_go : (q : ℕ) → one n p ≡ some q → p < q → ThingsLeft s is one whole (n + 1) q
-  unfolding while_is then_read on_found
-  left_go q o l = record {
-    fewer = let b = h.fewer in omega arith;
-    same = sym (rw (one_less (record_count s) n more, while_is, e.is_one, o, add-one n)) ∙ h.same;
-  }
+  left_go q o l = record { fewer = let b = h.fewer in omega arith; same = sym (turns_go is one _ n p more e.is_one q o) ∙ h.same }
 
   pub left_broken : one n p ≡ none → none ≡ whole
-  unfolding while_is then_read on_found
-  left_broken o = sym (rw (one_less (record_count s) n more, while_is, e.is_one, o)) ∙ h.same
+  left_broken o = sym (turns_broken is one _ n p more e.is_one o) ∙ h.same
 
 pub stands_near : {s : List ℕ} {is : ℕ → Bool} {p : ℕ} → stream_length s ≡ none → Stands s is p → p < most_records
 stands_near {s} w e = let a = e.inside in let b = few_records s w in omega arith
@@ -200,32 +213,6 @@ tells_kind r kind = record {
 
 pub tells_class : (r : Record) (b : Bool) → b ≡ (eqb r.kind 1 || eqb r.kind 5) → Tells is_class r b
 tells_class r b e = record { told = λ s p f. class_is s p r f b e; inside = λ s p w f i. (class_stands f b e w i).inside }
-
-pub stands : {s : List ℕ} {is : List ℕ → ℕ → Bool} {p : ℕ} {r : Record} {b : Bool} → Tells is r b → stream_length s ≡ none → Fetched s p r → b ≡ true → Stands s (is s) p
-stands t w f e = record { is_one = sym (t.told _ _ f) ∙ e; inside = t.inside _ _ w f e }
-
-pub none_ends : {p : ℕ} {o : Option ℕ} → o ≡ none → Ends p None o
-none_ends e = record { is = sym e; further = λ q z. absurd (none-ne-some q (sym e ∙ z)) }
-
--- an element takes a record at least
-element_grows : (g : List ℕ) (p q : ℕ) → element_end g p ≡ some q → p < q
-unfolding element_end text_end
-element_grows g p q e =
-    let h = then_some _ (text_end g (text_length g p)) q e in
-    let z : p ≡ h.0 = (only_some _ p h.0 h.1).1 in
-    let y = (only_some _ (h.0 + 1 + units (text_length g p)) q h.2).1 in
-    omega arith
-
-pub elements_grow : (g : List ℕ) (n p q : ℕ) → in_row (element_end g) n (p + 1) ≡ some q → p < q
-elements_grow g n p q e = let l = in_row_grows (element_end g) (element_grows g) n (p + 1) q e in omega arith
-
--- a range is one record
-range_grows : (g : List ℕ) (p q : ℕ) → range_end g p ≡ some q → p < q
-unfolding range_end
-range_grows g p q e = let z : p + 1 ≡ q = (only_some _ (p + 1) q e).1 in omega arith
-
-pub ranges_grow : (g : List ℕ) (n p q : ℕ) → in_row (range_end g) n (p + 1) ≡ some q → p < q
-ranges_grow g n p q e = let l = in_row_grows (range_end g) (range_grows g) n (p + 1) q e in omega arith
 
 -- The whole: classes, productions and the tail
 module _ (g : List ℕ) where

@@ -15,8 +15,3 @@ class_head r = cond (eqb r.kind 5) (eqb r.c 0 && eqb r.d 0) true
 -- the first test of `element_end`: what an element's head says of itself
 unfoldable pub element_head : Record → Bool
 element_head e = eqb e.kind 4 && (leb e.a 4 && ((eqb e.a 4 || eqb e.c 0) && eqb e.d 0))
-
--- the place after the thing at p, which is further on
-pub record Ends (p : ℕ) (answer : code.Option ℕ) (end : Option ℕ) : Type 0 where
-  pub is : end_of answer ≡ end
-  pub further : (q : ℕ) → end ≡ some q → p < q

@@ -5,10 +5,10 @@ ghost use Rattle.rules.specs.Faults.{need};
 ghost use Rattle.rules.specs.Blocks.{stream_length};
 ghost use Rattle.rules.specs.Records.{record_count};
 ghost use Rattle.rules.specs.Layout.{in_row, while_is, range_end, class_end, element_end, production_end, grammar_end, grammar_layout};
-ghost use Rattle.layout.specs.Grammar.{end_of, class_head, element_head, Ends};
+ghost use Rattle.layout.specs.Grammar.{end_of, class_head, element_head};
 ghost use Rattle.layout.specs.Sorts.{HeadInside};
 
-use crate::common::{padded, tail_right};
+use crate::common::{padded, record_count, tail_right};
 use crate::sorts::{Classes, Productions, Sort};
 use records::class::is_escaped;
 use records::element::{text_length, units};
@@ -80,7 +80,7 @@ trait Numbered: Sort {
     // The place after the thing at record p, whose head is r, where its number is n.
     fn end(g: &[u8], n: usize, p: usize, r: Record) -> Option<usize>
         requires { HeadInside g.now p r }
-        ensures { Ends p result (end g.now n p) };
+        ensures { end_of result ≡ end g.now n p };
 }
 
 impl Numbered for Classes {
@@ -105,21 +105,20 @@ impl Numbered for Productions {
     }
 }
 
-// The things of a sort from record start on: where they end.
+// The things of a sort from record start on: where they end. There are no more than records.
 fn row_end<S: Numbered>(g: &[u8], start: usize) -> Option<usize>
     requires { stream_length g.now ≡ none }
     ensures { end_of result ≡ while_is (S.is g.now) (S.end g.now) (record_count g.now) 0 start }
 {
     let mut p = start;
-    let mut n = 0;
-    loop {
+    for n in 0..record_count(g) {
         let head = fetch(g, p);
         if !S::is_head(head) {
             return Some(p);
         }
         p = S::end(g, n, p, head)?;
-        n += 1;
     }
+    Some(p)
 }
 
 // Where the classes end, and after them the productions.

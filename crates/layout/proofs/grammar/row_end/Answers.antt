@@ -1,12 +1,19 @@
 use Rattle.std.proofs.Common.{sym, ◌∙◌}
-use Rattle.layout.proofs.GrammarLaws.{left_stop, left_go, left_broken, stands}
+use Rattle.std.proofs.Math.Nat.{sub-zero}
+use Rattle.layout.proofs.GrammarLaws.{turns_stop, turns_done, turns_go, turns_broken}
 use Rattle.layout.proofs.grammar.row_end.Goals as goal
 
+pub loop-n-init : goal.loop-n-init
+loop-n-init g c = rw (sub-zero, c.record_count-n-end.ensures)
+
 pub returns-then-not-is_head : goal.returns-then-not-is_head
-returns-then-not-is_head g c = left_stop (sym (c.is_head.ensures.told _ _ c.fetch-head.ensures) ∙ c.if-not-is_head.true) c.loop-head.invariant
+returns-then-not-is_head g c = sym (turns_stop _ _ _ _ _ (sym (c.is_head.ensures.told _ _ c.fetch-head.ensures) ∙ c.if-not-is_head.true)) ∙ c.loop-n.invariant
 
 pub returns-in_err-p : goal.returns-in_err-p
-returns-in_err-p g c = rw c.from_residual.ensures (left_broken (stands c.is_head.ensures c.requires c.fetch-head.ensures c.if-not-is_head.false) c.loop-head.invariant (sym c.in_err-p.ensures.is))
+returns-in_err-p g c = rw c.from_residual.ensures (sym (turns_broken _ _ _ _ _ c.loop-n-test.true (sym (c.is_head.ensures.told _ _ c.fetch-head.ensures) ∙ c.if-not-is_head.false) (sym c.in_err-p.ensures)) ∙ c.loop-n.invariant)
 
-pub loop-head-preserved : goal.loop-head-preserved
-loop-head-preserved g c = left_go (stands c.is_head.ensures c.requires c.fetch-head.ensures c.if-not-is_head.false) c.loop-head.invariant _ (sym c.in_ok-p.ensures.is) (c.in_ok-p.ensures.further _ (sym c.in_ok-p.ensures.is))
+pub loop-n-preserved : goal.loop-n-preserved
+loop-n-preserved g c = sym (turns_go _ _ _ _ _ c.loop-n-test.true (sym (c.is_head.ensures.told _ _ c.fetch-head.ensures) ∙ c.if-not-is_head.false) _ (sym c.in_ok-p.ensures)) ∙ c.loop-n.invariant
+
+pub returns : goal.returns
+returns g c = sym (turns_done _ _ _ _ _ c.loop-n-test.false) ∙ c.loop-n.invariant

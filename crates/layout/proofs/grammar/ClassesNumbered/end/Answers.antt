@@ -1,16 +1,15 @@
 use Rattle.std.proofs.Common.{arith, sym, ◌∙◌}
 use Rattle.laws.specs.Reads.{few_records}
-use Rattle.layout.proofs.GrammarLaws.{none_ends, class_number, class_over, class_ranges, ranges_grow}
+use Rattle.layout.proofs.GrammarLaws.{class_number, class_over, class_ranges}
 use Rattle.layout.proofs.grammar.ClassesNumbered.end.Goals as goal
 use Rattle.layout.proofs.grammar.ClassesNumbered.end.Goals.{then-r-n-via-then-r-n, then-r-n-via-else-r-n+then-not-is_laid}
 
 pub returns-then-r-n : goal.returns-then-r-n
 returns-then-r-n c =
-    none_ends
-    (elim c.then-r-n.branch [
-      | then-r-n-via-then-r-n w ↦ class_number c.requires.fetched _ w.if-r-n.true
-      | then-r-n-via-else-r-n+then-not-is_laid w ↦ class_over c.requires.fetched _ w.if-r-n.false (sym w.is_laid.ensures ∙ w.if-not-is_laid.true)
-    ])
+    elim c.then-r-n.branch [
+      | then-r-n-via-then-r-n w ↦ sym (class_number c.requires.fetched _ w.if-r-n.true)
+      | then-r-n-via-else-r-n+then-not-is_laid w ↦ sym (class_over c.requires.fetched _ w.if-r-n.false (sym w.is_laid.ensures ∙ w.if-not-is_laid.true))
+    ]
 
 pub overflow_add-p : goal.overflow_add-p
 overflow_add-p c = omega (arith, c.requires.inside, few_records _ c.requires.sized)
@@ -19,6 +18,4 @@ pub ranges_end-requires-clause-n_bound : goal.ranges_end-requires-clause-n_bound
 ranges_end-requires-clause-n_bound c = omega (arith, c.requires.inside, few_records _ c.requires.sized)
 
 pub returns : goal.returns
-returns c =
-    let z = class_ranges c.requires.fetched _ c.if-r-n.false (sym c.is_laid.ensures ∙ c.if-not-is_laid.false) in
-    record { is = c.ranges_end.ensures ∙ sym z; further = λ q e. ranges_grow _ _ _ _ (sym z ∙ e) }
+returns c = c.ranges_end.ensures ∙ sym (class_ranges c.requires.fetched _ c.if-r-n.false (sym c.is_laid.ensures ∙ c.if-not-is_laid.false))

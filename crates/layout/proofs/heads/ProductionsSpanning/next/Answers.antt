@@ -10,7 +10,7 @@ pub forward-at-requires : goal.forward-at-requires
 forward-at-requires c = reach _ _ _ c.loop.invariant.1 (omega (arith, after_room _ _ _ _ _ c.loop-test.true c.loop.invariant.0, c.size_of-size.ensures.is _ _ (c.fetch_at.ensures _ c.loop.invariant.1), elements_from c.requires.fetched, c.requires.inside))
 
 pub loop-preserved : goal.loop-preserved
-loop-preserved c = (rw (c.size_of-size.ensures.is _ _ (c.fetch_at.ensures _ c.loop.invariant.1)) (sym (after_go _ _ _ _ c.loop-test.true) ∙ c.loop.invariant.0), c.forward-at.ensures _ c.loop.invariant.1, c.loop.invariant.2)
+loop-preserved c = (rw (c.size_of-size.ensures.is _ _ (c.fetch_at.ensures _ c.loop.invariant.1)) (sym (after_go _ _ _ _ c.loop-test.true) ∙ c.loop.invariant.0), c.forward-at.ensures _ c.loop.invariant.1)
 
 pub returns : goal.returns
 returns c = sym (after_done _ _ _ _ c.loop-test.false) ∙ c.loop.invariant.0 ∙ elements_from c.requires.fetched

@@ -5,4 +5,4 @@ use Rattle.stream.specs.Record.{place_of}
 use Rattle.layout.proofs.heads.ProductionsSpanning.next.Given as goal
 
 abbrev pub invariant-loop : goal.invariant-loop
-invariant-loop l = (after (element_size l.g) (l.end - l.counter) l.q ≡ after (element_size l.g) l.fn.r.d (l.p + 1)) × (l.at ≡ place_of l.q) × (l.end ≡ l.fn.r.d)
+invariant-loop l = (after (element_size l.g) (l.end - l.counter) l.q ≡ after (element_size l.g) l.fn.r.d (l.p + 1)) × (l.at ≡ place_of l.q)
