@@ -41,11 +41,9 @@ pub record InBuild (s : Sources) (at : At) (out₀ s₀ : List ℕ) (place count
   pub is : here ≡ after_at at (ended_at 0 here)
   pub going : Going (build_left s at out₀ s₀ (count - taken) element (children - used) child) (form_at Build s.grammar s.templates s.value at out₀ s₀) at out₀ s₀ (ended_at 0 here) out sc
 
--- after the element with record e: its run ends the build, or the build goes on behind it
+-- after the element with record e the build goes on behind it
 pub record BuildTurn (s : Sources) (at : At) (out₀ s₀ : List ℕ) (place count children : ℕ) (e : Record) (out sc : List ℕ) (element child used : ℕ) (here : At) (r : Run) (taken : ℕ) : Type 0 where
-  pub stops : (r.number ≡ 0 → ⊥) → VisitedFrom (form_at Build s.grammar s.templates s.value at out₀ s₀) at r out₀ out s₀ sc
-  pub goes : r.number ≡ 0 → {there : At} → there ≡ after_at here r → (size : ℕ) → ElementSize e size
-      → InBuild s at out₀ s₀ place count children out sc (element + size) child used there (taken + 1)
+  pub goes : {there : At} → there ≡ after_at here r → (size : ℕ) → ElementSize e size → InBuild s at out₀ s₀ place count children out sc (element + size) child used there (taken + 1)
 
 module _ {s : Sources} {at : At} {out₀ s₀ : List ℕ} (formed : Formed Build s at out₀ s₀) where
   pub build_start : {head first : Record} → Fetched s.templates at.node head → (place : ℕ) → production s.grammar head.b ≡ some place → place < 65536 → Fetched s.grammar place first
@@ -68,8 +66,8 @@ module _ {s : Sources} {at : At} {out₀ s₀ : List ℕ} (formed : Formed Build
       }
 
   module _ {place count kids : ℕ} {out sc : List ℕ} {element child used : ℕ} {here : At} {taken : ℕ} (inv : InBuild s at out₀ s₀ place count kids out sc element child used here taken) where
-    pub build_end : count ≤ taken → {r : Run} → r ≡ ended_at 0 here → VisitedFrom (form_at Build s.grammar s.templates s.value at out₀ s₀) at r out₀ out s₀ sc
-    build_end h w = rw w (going_end inv.going (pieces_done _ _ s.grammar s.templates count taken element kids used child h))
+    pub build_end : count ≤ taken → VisitedFrom (form_at Build s.grammar s.templates s.value at out₀ s₀) at (ended_at 0 here) out₀ out s₀ sc
+    build_end h = going_end inv.going (pieces_done _ _ s.grammar s.templates count taken element kids used child h)
 
     module _ (more : taken < count) {e : Record} (f : Fetched s.grammar element e) where
       pub write_asks : here.bytes ≤ length out
@@ -99,10 +97,12 @@ module _ {s : Sources} {at : At} {out₀ s₀ : List ℕ} (formed : Formed Build
             here.steps here.bytes u out out' (at.base + at.vars) sc sc
         written = visited_ran _ sc (rw (inv.is, inv.going.len, f.b) at v)
 
-        pub keyword_turn : BuildTurn s at out₀ s₀ place count kids e out' sc element child used here u taken
-        keyword_turn = record {
-          stops = piece_stop is_keyword written len;
-          goes = λ z e₂ size hs. record {
+        pub keyword_stop : (u.number ≡ 0 → ⊥) → VisitedFrom (form_at Build s.grammar s.templates s.value at out₀ s₀) at u out₀ out' s₀ sc
+        keyword_stop z = piece_stop is_keyword written len z
+
+        pub keyword_turn : u.number ≡ 0 → BuildTurn s at out₀ s₀ place count kids e out' sc element child used here u taken
+        keyword_turn z = record {
+          goes = λ e₂ size hs. record {
             along = inv.along;
             place_few = inv.place_few;
             count_few = inv.count_few;
@@ -136,11 +136,13 @@ module _ {s : Sources} {at : At} {out₀ s₀ : List ℕ} (formed : Formed Build
             child_visited =
                 rw (lt-ltb used kids l, ← element_there s.grammar element (λ z. omega (arith, inv.some))) (below_visited formed inv.going inv.is e₂ v)
 
-            pub child_turn : length sc' ≡ length sc → (records : ℕ) → records ≡ field_c s.templates child → records < 65536
+            pub child_stop : (u.number ≡ 0 → ⊥) → VisitedFrom (form_at Build s.grammar s.templates s.value at out₀ s₀) at u out₀ out' s₀ sc'
+            child_stop z = piece_stop is_other child_visited len z
+
+            pub child_turn : u.number ≡ 0 → length sc' ≡ length sc → (records : ℕ) → records ≡ field_c s.templates child → records < 65536
                 → BuildTurn s at out₀ s₀ place count kids e out' sc' element (child + records) (used + 1) here u taken
-            child_turn lens records c l = record {
-              stops = piece_stop is_other child_visited len;
-              goes = λ z e₃ size hs. record {
+            child_turn z lens records c l = record {
+              goes = λ e₃ size hs. record {
                 along = along_next inv.along records c l;
                 place_few = inv.place_few;
                 count_few = inv.count_few;

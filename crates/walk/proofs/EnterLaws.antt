@@ -23,7 +23,11 @@ use Rattle.walk.specs.declared.at.At.{At}
 use Rattle.walk.specs.declared.state.Run.{Run}
 use Rattle.walk.specs.Frames.{frame, Passed}
 use Rattle.walk.specs.Run.{state_of, RanFrom, VisitedFrom}
-use Rattle.walk.specs.Nodes.{counted_at, below_at, framed_at, ended_at, element_for, asked_at, visit_at, form_asked_at, form_at}
+use Rattle.walk.specs.declared.state.Stop.{Stop}
+use Rattle.std.specs.Prelude.{Err}
+use mathlib.Core.Logic.{inl, inr}
+use Rattle.walk.specs.Run.{stopped_of}
+use Rattle.walk.specs.Nodes.{Entered, counted_at, below_at, framed_at, ended_at, element_for, asked_at, visit_at, form_asked_at, form_at}
 use Rattle.walk.specs.Asks.{Sources, Visitable, Formed}
 use Rattle.walk.proofs.FrameLaws.{take_less}
 use Rattle.walk.proofs.RunLaws.{ran_is, ran_ended, ran_stuck, visited_is, visited_ran, visited_counted}
@@ -124,11 +128,15 @@ module _ {s : Sources} {at : At} {out sc : List ℕ} (visitable : Visitable s at
         visited_ran _ sc (ran_ended 11 (counted_at at) at.steps visitable.room (omega arith) (w ∙ rw is)
         (visit_deep s.grammar s.templates s.value at.fuel out asked at.node _ at.steps at.bytes out at.left spare e))
 
-    module _ (level : at.left ≡ 0 → ⊥) {form : Form} (f : form_of s.templates at.node ≡ form) where
+    module _ (level : 1 ≤ at.left) {form : Form} (f : form_of s.templates at.node ≡ form) where
       pub form_asked : {u : Run} {out' sc' : List ℕ} → VisitedFrom (form_asked_at form asked s.grammar s.templates s.value here out sc) here u out out' sc sc'
           → VisitedFrom (asked_at asked s.grammar s.templates s.value at out sc) at u out out' sc sc'
       form_asked v =
-          visited_counted (visited_is (visit_form_lem s.grammar s.templates s.value at.fuel out asked at.node _ at.steps at.bytes out at.left spare level form f) (rw is at v))
+          visited_counted (visited_is (visit_form_lem s.grammar s.templates s.value at.fuel out asked at.node _ at.steps at.bytes out at.left spare (λ z. omega arith) form f) (rw is at v))
+
+  pub stopped_visited : (x : Stop) → Entered at (Err x) → VisitedFrom (asked_at asked s.grammar s.templates s.value at out sc) at (stopped_of x) out out sc sc
+  stopped_visited x (inl h) = spent_visited h.1 (ap stopped_of h.0)
+  stopped_visited x (inr h) = deepest_visited h.1 refl h.2 (ap stopped_of h.0)
 
 module _ {s : Sources} {at : At} {out sc : List ℕ} (visitable : Visitable s at out sc) (spare : at.steps < at.fuel) {here : At} (is : here ≡ counted_at at) where
   pub form_falls : here.fuel - here.steps < at.fuel - at.steps
@@ -138,7 +146,7 @@ module _ {s : Sources} {at : At} {out sc : List ℕ} (visitable : Visitable s at
   pub form_here : {head : Record} → Fetched s.templates here.node head → (form : Form) → form ≡ form_numbered head.a → form_of s.templates at.node ≡ form
   form_here {head} f form e = sym (form_is s.templates at.node head (rw is at f) form e)
 
-  module _ (level : at.left ≡ 0 → ⊥) {form : Form} (f : form_of s.templates at.node ≡ form) where
+  module _ (level : 1 ≤ at.left) {form : Form} (f : form_of s.templates at.node ≡ form) where
     pub form_formed : Formed form s here out sc
     form_formed = rw is (record {
       is = f;

@@ -1,7 +1,6 @@
 -- The turns of a for: its list's items one by one, each the last variable in turn, so many items of its sequence before them. Assumes nothing.
 use Prim.Native.Nat.{ℕ, ◌+◌, ◌-◌, ◌≤◌, ◌<◌, ◌^◌}
 use mathlib.Core.Path.{◌≡◌, refl, sym, ap, ◌∙◌}
-use mathlib.Core.Bool.{false}
 use mathlib.Core.List.{List, [], ◌∷◌, ◌++◌}
 use mathlib.Core.Option.{some}
 use native.Mathlib.Omega.{arith}
@@ -21,17 +20,20 @@ use Rattle.records.specs.Children.{Stands}
 use Rattle.walk.specs.declared.at.At.{At}
 use Rattle.walk.specs.declared.separator.Separator.{Separator}
 use Rattle.walk.specs.declared.state.Run.{Run}
+use Rattle.walk.specs.declared.state.Stop.{Stop}
+use Rattle.walk.specs.Run.{stopped_of}
+use Rattle.walk.proofs.RunLaws.{stops}
 use Rattle.walk.specs.Frames.{frame, Bound}
 use Rattle.walk.specs.Run.{state_of, Visited, RanFrom, VisitedFrom}
-use Rattle.walk.specs.Nodes.{counted_at, after_at, below_at, bound_at, ended_at, element_for, asked_at, visit_at, filled_at, due_at, separate_at, turns_at}
+use Rattle.walk.specs.Nodes.{counted_at, after_at, below_at, bound_at, ended_at, element_for, asked_at, visit_at, filled_at, separate_at, turns_at}
 use Rattle.walk.specs.Turns.{Turned}
 use Rattle.walk.specs.Asks.{Sources, Visitable, Formed, Listed}
 use Rattle.walk.proofs.PathLaws.{held_more, child_there, child_stands}
 use Rattle.walk.proofs.FrameLaws.{take_less}
-use Rattle.walk.proofs.RunLaws.{visited_ran, ran_is, Going, going_start, going_end, going_stop, going_next, after_after, ran_there, going_there}
+use Rattle.walk.proofs.RunLaws.{visited_ran, ran_is, Going, going_start, going_end, going_stop, going_next, after_after, going_there}
 use Rattle.walk.proofs.BodyLaws.{body_more, for_below, count_small}
 use Rattle.walk.proofs.AskedLaws.{visit_any}
-use Rattle.walk.proofs.SeparatorLaws.{then_then, Apart, apart_none}
+use Rattle.walk.proofs.SeparatorLaws.{then_then, Apart}
 use Rattle.walk.proofs.FormLaws.{order_done, order_more, listed_is, items_listed, for_is, visit_same}
 use Rattle.walk.proofs.LoopLaws.{vars_inside, same_frame, formed_after}
 
@@ -71,8 +73,8 @@ module _ {s : Sources} {at : At} {out₀ s₀ : List ℕ} (formed : Formed For s
       }
 
   module _ {x : Separator} {before : ℕ} {out sc : List ℕ} {here : At} {done : ℕ} (inv : InFor s at out₀ s₀ x before w count out sc here done) where
-    pub for_end : count ≤ done → {r : Run} → r ≡ ended_at 0 here → VisitedFrom (turns_at s.grammar s.templates s.value x before at out₀ s₀) at r out₀ out s₀ sc
-    for_end h e = rw e (going_end inv.going (λ y. order_done _ _ _ y (drop_done (children s.value w) done (omega (arith, length_list)))))
+    pub for_end : count ≤ done → VisitedFrom (turns_at s.grammar s.templates s.value x before at out₀ s₀) at (ended_at 0 here) out₀ out s₀ sc
+    for_end h = (going_end inv.going (λ y. order_done _ _ _ y (drop_done (children s.value w) done (omega (arith, length_list)))))
 
     module _ (more : done < count) where
       parent : (3 ≤ kind_of s.value w) × (kind_of s.value w ≤ 4)
@@ -108,16 +110,6 @@ module _ {s : Sources} {at : At} {out₀ s₀ : List ℕ} (formed : Formed For s
 
         pub for_apart_stop : (u.number ≡ 0 → ⊥) → VisitedFrom (turns_at s.grammar s.templates s.value x before at out₀ s₀) at u out₀ out' s₀ sc
         for_apart_stop z = going_stop inv.going _ apart_row apart_visited len z
-
-      -- whether one was due and written, or none was: the node after it
-      pub past_none : due_at x (before + done) ≡ false → {past : At} {out' : List ℕ} → out' ≡ out → past ≡ here
-          → (Apart s.grammar x (before + done) here out (ended_at 0 past) out') × (past ≡ after_at at (ended_at 0 past))
-      past_none d eo e = rw (eo, e) (apart_none s.grammar x here out turn_room (before + done) d {r = ended_at 0 here} refl refl refl, inv.is)
-
-      pub past_written : {u : Run} {out₁ : List ℕ} → RanFrom (separate_at s.grammar x (before + done) here out) here u out out₁ → length out₁ ≡ length out → u.number ≡ 0
-          → {there : At} → there ≡ after_at here u → {past : At} {out' : List ℕ} → out' ≡ out₁ → past ≡ there
-          → (Apart s.grammar x (before + done) here out (ended_at 0 past) out') × (past ≡ after_at at (ended_at 0 past))
-      past_written {u} v len z e₂ eo e = rw (eo, e) (record { ran = ran_there here v z e₂; goes = refl; len = len }, after_after at here u inv.is e₂)
 
       pub for_slot : at.base + at.vars < length sc
       for_slot = omega (arith, vars_inside formed, inv.going.lens)
@@ -185,9 +177,9 @@ module _ {s : Sources} {at : At} {out₀ s₀ : List ℕ} (formed : Formed For s
 
 -- the for as a node of its sequence: a limit ends it or it is stuck, or its list is found
 
-pub turned_over : {g t v : List ℕ} {x : Separator} {before : ℕ} {at : At} {r : Run} {out sc : List ℕ} (number : ℕ) (there : At) → (number ≡ 0 → ⊥) → r ≡ ended_at number there
-    → VisitedFrom (asked_at (items (filled_at g x) before) g t v at out sc) at r out out sc sc → Turned g t v x before at (record { run = r; items = before }) out out sc sc
-turned_over number there h w v = record { visited = v; more = λ z. absurd (h (sym (ap (λ (y : Run). y.number) w) ∙ z)); few = omega arith }
+pub turned_over : {g t v : List ℕ} {x : Separator} {before : ℕ} {at : At} {out out' sc sc' : List ℕ} (y : Stop)
+    → VisitedFrom (asked_at (items (filled_at g x) before) g t v at out sc) at (stopped_of y) out out' sc sc' → Turned g t v x before at (stopped_of y) 0 out out' sc sc'
+turned_over y v = record { visited = v; more = λ z. absurd (stops y.why z); few = omega arith }
 
 pub list_there : {t v : List ℕ} {at : At} {sc : List ℕ} (w : ℕ) → path_value t v (frame at.base at.vars sc) (at.node + 1) ≡ some w → Stands v w
     → {list : Record} → Fetched v w list → list.kind ≡ 3 → Listed t v at sc w list.d
@@ -200,5 +192,5 @@ module _ {s : Sources} (at : At) {here : At} {out sc : List ℕ} (is : here ≡ 
 
   pub turned_whole : {x : Separator} {before : ℕ} {r : Run} {out' sc' : List ℕ}
       → VisitedFrom (asked_at (items (filled_at s.grammar x) before) s.grammar s.templates s.value at out sc) at r out out' sc sc'
-      → Turned s.grammar s.templates s.value x before at (record { run = r; items = before + count }) out out' sc sc'
+      → Turned s.grammar s.templates s.value x before at r (before + count) out out' sc sc'
   turned_whole {before = before} v = record { visited = v; more = λ z. ap (λ (n : ℕ). before + n) (sym brought); few = omega (arith, list.few) }

@@ -19,18 +19,17 @@ use Rattle.stream.specs.declared.record.Record.{Record}
 use Rattle.walk.specs.declared.at.At.{At}
 use Rattle.walk.specs.declared.separator.Separator.{Separator}
 use Rattle.walk.specs.declared.state.Run.{Run}
-use Rattle.walk.specs.declared.state.Turns.{Turns}
 use Rattle.walk.specs.Bodies.{NodeBelow}
 use Rattle.walk.specs.Frames.{frame}
 use Rattle.walk.specs.Run.{state_of, Visited, RanFrom, VisitedFrom}
-use Rattle.walk.specs.Nodes.{after_at, below_at, ended_at, element_for, asked_at, visit_at, form_at, filled_at, fills_at, Between, due_at, separate_at}
+use Rattle.walk.specs.Nodes.{after_at, below_at, ended_at, element_for, asked_at, visit_at, form_at, filled_at, fills_at, Between, separate_at}
 use Rattle.walk.specs.Turns.{Turned}
 use Rattle.walk.specs.Asks.{Sources, Follows, Visitable, Formed}
 use Rattle.walk.proofs.FrameLaws.{frame_kept}
-use Rattle.walk.proofs.RunLaws.{visited_is, visited_ran, visited_stuck, Going, going_start, going_end, going_stop, going_next}
+use Rattle.walk.proofs.RunLaws.{visited_is, visited_ran, visited_stuck, Going, going_start, going_end, going_stop, going_next, after_after, going_there}
 use Rattle.walk.proofs.BodyLaws.{body_more, Along, size_small, along_sequence, along_below, along_next}
 use Rattle.walk.proofs.AskedLaws.{visit_any, fills_no, fills_yes}
-use Rattle.walk.proofs.SeparatorLaws.{then_then, Apart, apart_none}
+use Rattle.walk.proofs.SeparatorLaws.{then_then, Apart}
 use Rattle.walk.proofs.FormLaws.{order_done, order_more, sequence_none, sequence_is, visit_same}
 
 module _ {form : Form} {s : Sources} {at : At} {out sc : List ℕ} (formed : Formed form s at out sc) where
@@ -139,15 +138,11 @@ items_left s at out₀ s₀ x =
     let env = frame at.base at.vars s₀ in
     in_order (items_of i env) (visit_in i (visit i (at.left - 1)) (filled_at s.grammar x) env)
 
-pub record InSequence (s : Sources) (at : At) (out₀ s₀ : List ℕ) (x : Separator) (count : ℕ) (out sc : List ℕ) (item items : ℕ) (r : Run) (visited : ℕ) : Type 0 where
+pub record InSequence (s : Sources) (at : At) (out₀ s₀ : List ℕ) (x : Separator) (count : ℕ) (out sc : List ℕ) (item items : ℕ) (here : At) (visited : ℕ) : Type 0 where
   pub along : Along s.templates at.node count item visited
   pub few : items ≤ visited * 65535
-  pub going : Going (items_left s at out₀ s₀ x items (heads (field_c s.templates) (count - visited) item)) (form_at Sequence s.grammar s.templates s.value at out₀ s₀) at out₀ s₀ r out sc
-
--- after a node of it: its run ends the sequence, or the sequence goes on behind it
-pub record SequenceTurn (s : Sources) (at : At) (out₀ s₀ : List ℕ) (x : Separator) (count : ℕ) (out sc : List ℕ) (item items : ℕ) (r : Run) (visited : ℕ) : Type 0 where
-  pub stops : (r.number ≡ 0 → ⊥) → VisitedFrom (form_at Sequence s.grammar s.templates s.value at out₀ s₀) at r out₀ out s₀ sc
-  pub goes : r.number ≡ 0 → InSequence s at out₀ s₀ x count out sc item items r visited
+  pub is : here ≡ after_at at (ended_at 0 here)
+  pub going : Going (items_left s at out₀ s₀ x items (heads (field_c s.templates) (count - visited) item)) (form_at Sequence s.grammar s.templates s.value at out₀ s₀) at out₀ s₀ (ended_at 0 here) out sc
 
 module _ {s : Sources} {at : At} {out₀ s₀ : List ℕ} (formed : Formed Sequence s at out₀ s₀) where
   pub sequence_lost : {e : Record} → Fetched s.grammar at.element e → fills_at at.element e ≡ false → {r : Run} → r ≡ ended_at 99 at
@@ -157,17 +152,18 @@ module _ {s : Sources} {at : At} {out₀ s₀ : List ℕ} (formed : Formed Seque
       (sequence_none s.grammar s.templates s.value at.fuel out₀ _ _ at.node _ _ (fills_no s.grammar at f h))
 
   pub sequence_start : {e head : Record} {x : Separator} → Fetched s.grammar at.element e → fills_at at.element e ≡ true → Between at e x
-      → Fetched s.templates at.node head → {r : Run} → r ≡ ended_at 0 at → InSequence s at out₀ s₀ x head.d out₀ s₀ (at.node + 1) 0 r 0
-  sequence_start {head = head} {x = x} fe h between f w = record {
+      → Fetched s.templates at.node head → InSequence s at out₀ s₀ x head.d out₀ s₀ (at.node + 1) 0 at 0
+  sequence_start {head = head} {x = x} fe h between f = record {
     along = along_sequence formed.is f;
     few = omega arith;
-    going = going_start w formed.visitable.room
+    is = refl;
+    going = going_start refl formed.visitable.room
         (heads_all (λ xs. items_left s at out₀ s₀ x 0 xs (state_of at.steps at.bytes out₀)) (field_c s.templates) head.d (at.node + 1) f.d
         ∙ sequence_is s.grammar s.templates s.value at.fuel out₀ _ _ at.node _ _ (filled_at s.grammar x) (fills_yes s.grammar at fe x between h));
   }
 
-  module _ {x : Separator} {count : ℕ} {out sc : List ℕ} {item items : ℕ} {r : Run} {visited : ℕ} (inv : InSequence s at out₀ s₀ x count out sc item items r visited) where
-    pub sequence_end : count ≤ visited → VisitedFrom (form_at Sequence s.grammar s.templates s.value at out₀ s₀) at r out₀ out s₀ sc
+  module _ {x : Separator} {count : ℕ} {out sc : List ℕ} {item items : ℕ} {here : At} {visited : ℕ} (inv : InSequence s at out₀ s₀ x count out sc item items here visited) where
+    pub sequence_end : count ≤ visited → VisitedFrom (form_at Sequence s.grammar s.templates s.value at out₀ s₀) at (ended_at 0 here) out₀ out s₀ sc
     sequence_end h = going_end inv.going (λ y. order_done _ _ _ y (heads_done (field_c s.templates) count visited item h))
 
     pub items_few : visited < count → items < 2 ^ 32
@@ -192,12 +188,15 @@ module _ {s : Sources} {at : At} {out₀ s₀ : List ℕ} (formed : Formed Seque
       item_below = along_below inv.along more
 
       -- a for among them
-      module _ (k : next.a ≡ 5) {here there : At} (e₁ : here ≡ after_at at r) (e₂ : there ≡ below_at here item 0) where
+      module _ (k : next.a ≡ 5) {there : At} (e₂ : there ≡ below_at here item 0) where
         pub turns_visitable : Visitable s there out sc
-        turns_visitable = below_visitable formed inv.going e₁ e₂ item_below
+        turns_visitable = below_visitable formed inv.going inv.is e₂ item_below
 
         pub turns_for : form_of s.templates there.node ≡ For
-        turns_for = rw (below_node formed inv.going e₁ e₂) (is_for_lem f k)
+        turns_for = rw (below_node formed inv.going inv.is e₂) (is_for_lem f k)
+
+        pub turns_falls : there.fuel - there.steps ≤ at.fuel - at.steps
+        turns_falls = below_falls formed inv.going inv.is e₂
 
         abbrev as_for : Asked
         as_for = Walk.items (filled_at s.grammar x) items
@@ -207,26 +206,24 @@ module _ {s : Sources} {at : At} {out₀ s₀ : List ℕ} (formed : Formed Seque
         unfolding visit_in is_for input
         turns_row y = row_more y (rw (is_for_lem f k))
 
-        module _ {u : Turns} {out' sc' : List ℕ} (v : Turned s.grammar s.templates s.value x items there u out out' sc sc') (len : length out' ≡ length out) where
-          turns_visited : Visited (visits s at out₀ s₀ as_for item (state_of r.steps r.bytes out)) r.steps r.bytes u.run out out' (at.base + at.vars) sc sc'
-          turns_visited = asked_visited formed inv.going e₁ e₂ _ v.visited
+        module _ {u : Run} {had : ℕ} {out' sc' : List ℕ} (v : Turned s.grammar s.templates s.value x items there u had out out' sc sc') (len : length out' ≡ length out) where
+          turns_visited : Visited (visits s at out₀ s₀ as_for item (state_of here.steps here.bytes out)) here.steps here.bytes u out out' (at.base + at.vars) sc sc'
+          turns_visited = asked_visited formed inv.going inv.is e₂ _ v.visited
 
-          turns_stop : (u.run.number ≡ 0 → ⊥) → VisitedFrom (form_at Sequence s.grammar s.templates s.value at out₀ s₀) at u.run out₀ out' s₀ sc'
+          pub turns_stop : (u.number ≡ 0 → ⊥) → VisitedFrom (form_at Sequence s.grammar s.templates s.value at out₀ s₀) at u out₀ out' s₀ sc'
           turns_stop z = going_stop inv.going _ (turns_row _) turns_visited len z
 
           -- how many it brings does not hang on the output
-          brought : u.run.number ≡ 0 → u.items ≡ items + brings
+          brought : u.number ≡ 0 → had ≡ items + brings
           unfolding items_of listed input
-          brought z = rw (← same_frame formed inv.going) (rw (e₂, e₁) at (v.more z))
+          brought z = rw (← same_frame formed inv.going) (rw (e₂, inv.is) at (v.more z))
 
-          pub turns_turn : length sc' ≡ length sc → SequenceTurn s at out₀ s₀ x count out' sc' (item + next.c) u.items u.run (visited + 1)
-          turns_turn lens = record {
-            stops = turns_stop;
-            goes = λ z. record {
-              along = sequence_along;
-              few = omega (arith, inv.few, v.few);
-              going = rw (brought z) (going_next inv.going _ (turns_row _) turns_visited len z lens);
-            };
+          pub turns_next : u.number ≡ 0 → length sc' ≡ length sc → {onward : At} → onward ≡ after_at here u → InSequence s at out₀ s₀ x count out' sc' (item + next.c) had onward (visited + 1)
+          turns_next z lens e = record {
+            along = sequence_along;
+            few = omega (arith, inv.few, v.few);
+            is = after_after at here u inv.is e;
+            going = rw (brought z) (going_there here (going_next inv.going _ (turns_row _) turns_visited len z lens) e);
           }
 
       -- any other node is one item
@@ -234,56 +231,46 @@ module _ {s : Sources} {at : At} {out₀ s₀ : List ℕ} (formed : Formed Seque
         abbrev item_rest : State → End
         item_rest y = and_then (visits s at out₀ s₀ (piece (nonterminal (filled_at s.grammar x).nonterminal)) item y) (nodes_after (items + 1))
 
-        apart_row : items_left s at out₀ s₀ x items (heads (field_c s.templates) (count - visited) item) (state_of r.steps r.bytes out)
-            ≡ and_then (separate (length out₀) (filled_at s.grammar x) items (state_of r.steps r.bytes out)) item_rest
+        apart_row : items_left s at out₀ s₀ x items (heads (field_c s.templates) (count - visited) item) (state_of here.steps here.bytes out)
+            ≡ and_then (separate (length out₀) (filled_at s.grammar x) items (state_of here.steps here.bytes out)) item_rest
         unfolding visit_in visit_item items_of input
         apart_row = row_more _ refl ∙ rw (not_for f k) (then_then _ _ _)
 
-        apart_visited : {u : Run} {out' : List ℕ} → RanFrom (separate_at s.grammar x items (after_at at r) out) (after_at at r) u out out'
-            → Visited (separate (length out₀) (filled_at s.grammar x) items (state_of r.steps r.bytes out)) r.steps r.bytes u out out' (at.base + at.vars) sc sc
-        apart_visited v = visited_ran _ sc (rw inv.going.len at v)
+        pub apart_room : here.bytes ≤ length out
+        apart_room = (formed_after formed inv.going).visitable.room
 
-        -- the separator before it: none is due, or one is written
-        pub apart_skipped : due_at x items ≡ false → {u : Run} {out' : List ℕ} → out' ≡ out → u ≡ r → Apart s.grammar x items (after_at at r) out u out'
-        apart_skipped d eo e = rw (eo, e) (apart_none s.grammar x (after_at at r) out (formed_after formed inv.going).visitable.room items d inv.going.goes refl refl)
+        -- the separator before it
+        module _ {u : Run} {out₁ : List ℕ} (v : RanFrom (separate_at s.grammar x items here out) here u out out₁) (len : length out₁ ≡ length out) where
+          apart_visited : Visited (separate (length out₀) (filled_at s.grammar x) items (state_of here.steps here.bytes out)) here.steps here.bytes u out out₁ (at.base + at.vars) sc sc
+          apart_visited = visited_ran _ sc (rw inv.going.len at v)
 
-        module _ {here : At} (e₁ : here ≡ after_at at r) where
-          pub apart_room : here.bytes ≤ length out
-          apart_room = rw e₁ (formed_after formed inv.going).visitable.room
+          pub apart_stop : (u.number ≡ 0 → ⊥) → VisitedFrom (form_at Sequence s.grammar s.templates s.value at out₀ s₀) at u out₀ out₁ s₀ sc
+          apart_stop z = going_stop inv.going _ apart_row apart_visited len z
 
-          module _ {u : Run} {out₁ : List ℕ} (v : RanFrom (separate_at s.grammar x items here out) here u out out₁) (len : length out₁ ≡ length out) where
-            pub apart_stop : (u.number ≡ 0 → ⊥) → VisitedFrom (form_at Sequence s.grammar s.templates s.value at out₀ s₀) at u out₀ out₁ s₀ sc
-            apart_stop z = going_stop inv.going _ apart_row (apart_visited (rw e₁ at v)) len z
+        -- past it, if one was due
+        module _ {past : At} {out' : List ℕ} (apart : Apart s.grammar x items here out (ended_at 0 past) out') (is-past : past ≡ after_at at (ended_at 0 past)) where
+          apart_going : Going item_rest (form_at Sequence s.grammar s.templates s.value at out₀ s₀) at out₀ s₀ (ended_at 0 past) out' sc
+          apart_going = going_next inv.going _ apart_row (apart_visited apart.ran apart.len) apart.len refl refl
 
-            pub apart_written : u.number ≡ 0 → {u' : Run} {out' : List ℕ} → out' ≡ out₁ → u' ≡ u → Apart s.grammar x items (after_at at r) out u' out'
-            apart_written z eo e = rw (eo, e) (record { ran = rw e₁ at v; goes = z; len = len })
-
-        -- past the separator, if one was due
-        module _ {u : Run} {out' : List ℕ} (apart : Apart s.grammar x items (after_at at r) out u out') where
-          apart_going : Going item_rest (form_at Sequence s.grammar s.templates s.value at out₀ s₀) at out₀ s₀ u out' sc
-          apart_going = going_next inv.going _ apart_row (apart_visited apart.ran) apart.len apart.goes refl
-
-          module _ {after there : At} (e₂ : after ≡ after_at at u) (e₃ : there ≡ below_at after item 0) where
+          module _ {there : At} (e₃ : there ≡ below_at past item 0) where
             pub item_visitable : Visitable s there out' sc
-            item_visitable = below_visitable formed apart_going e₂ e₃ item_below
+            item_visitable = below_visitable formed apart_going is-past e₃ item_below
 
             pub item_falls : there.fuel - there.steps ≤ at.fuel - at.steps
-            item_falls = below_falls formed apart_going e₂ e₃
+            item_falls = below_falls formed apart_going is-past e₃
 
             module _ {w : Run} {out'' sc' : List ℕ} (v : VisitedFrom (visit_at s.grammar s.templates s.value there out' sc) there w out' out'' sc sc') (len : length out'' ≡ length out') where
-              item_visited : Visited (visits s at out₀ s₀ (piece (nonterminal (filled_at s.grammar x).nonterminal)) item (state_of u.steps u.bytes out')) u.steps u.bytes w out' out'' (at.base + at.vars) sc sc'
+              item_visited : Visited (visits s at out₀ s₀ (piece (nonterminal (filled_at s.grammar x).nonterminal)) item (state_of past.steps past.bytes out')) past.steps past.bytes w out' out'' (at.base + at.vars) sc sc'
               unfolding element_for
-              item_visited = visited_is (visit_any _ _ _ _ _ _ _) (below_visited formed apart_going e₂ e₃ v)
+              item_visited = visited_is (visit_any _ _ _ _ _ _ _) (below_visited formed apart_going is-past e₃ v)
 
-              item_stop : (w.number ≡ 0 → ⊥) → VisitedFrom (form_at Sequence s.grammar s.templates s.value at out₀ s₀) at w out₀ out'' s₀ sc'
+              pub item_stop : (w.number ≡ 0 → ⊥) → VisitedFrom (form_at Sequence s.grammar s.templates s.value at out₀ s₀) at w out₀ out'' s₀ sc'
               item_stop y = going_stop apart_going _ refl item_visited len y
 
-              pub item_turn : length sc' ≡ length sc → SequenceTurn s at out₀ s₀ x count out'' sc' (item + next.c) (items + 1) w (visited + 1)
-              item_turn lens = record {
-                stops = item_stop;
-                goes = λ y. record {
-                  along = sequence_along;
-                  few = omega (arith, inv.few);
-                  going = going_next apart_going _ refl item_visited len y lens;
-                };
+              pub item_next : w.number ≡ 0 → length sc' ≡ length sc → {onward : At} → onward ≡ after_at past w → InSequence s at out₀ s₀ x count out'' sc' (item + next.c) (items + 1) onward (visited + 1)
+              item_next y lens e = record {
+                along = sequence_along;
+                few = omega (arith, inv.few);
+                is = after_after at past w is-past e;
+                going = going_there past (going_next apart_going _ refl item_visited len y lens) e;
               }

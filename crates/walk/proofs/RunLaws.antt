@@ -1,13 +1,12 @@
 -- Laws of runs: the ends that they stand for, what a write leaves, what grows, and loops of visits. Assumes nothing.
 use Prim.Native.Nat.{ℕ, ◌+◌, ◌-◌, ◌≤◌, ◌<◌}
 use mathlib.Core.Path.{◌≡◌, refl, sym, ap, ◌∙◌}
-use mathlib.Core.List.{List, [], ◌∷◌, ◌++◌, append_assoc}
+use mathlib.Core.List.{List, ◌++◌, append_assoc}
 use mathlib.Core.Bool.{Bool, true, false, cond}
 use native.Mathlib.Omega.{arith}
 use native.Mathlib.Nat.{le_refl, le_trans}
-use native.Mathlib.Numerals.{add-one}
-use lib.ListN.{length, take, drop, set, replicate, length-append, length-take, length-drop, length-set, take-append-drop, replicate-append-replicate}
-use lib.Seq.{take-suc-set, take_all, take_at, drop_at, drop-drop, length-take-le}
+use lib.ListN.{length, take, drop, length-append, length-take, length-drop, take-append-drop}
+use lib.Seq.{take_at, drop_at, drop-drop, length-take-le}
 use lib.Dec.{eqb, ltb}
 use borrow.Author.Tests.{eq-eqb, ne_eqb, le-leb, lt-leb, ltb-true, ltb-false}
 use borrow.Rule.Slice.PartMut.{put_mid}
@@ -15,9 +14,12 @@ use Rattle.rules.specs.Walk.{State, fuel_spent, too_deep, output_full, End, done
 use Rattle.stream.specs.Text.{with_text, Copied}
 use Rattle.stream.proofs.TextCopyLaws.{lent_rest}
 use Rattle.walk.specs.declared.at.At.{At}
+use Rattle.walk.specs.declared.state.Progress.{Progress}
 use Rattle.walk.specs.declared.state.Run.{Run}
-use Rattle.walk.specs.Run.{state_of, run_of, end_numbered, view, Grown, Ran, Visited, RanFrom, VisitedFrom}
-use Rattle.walk.specs.Nodes.{after_at, ended_at, write_at, written_at}
+use Rattle.walk.specs.declared.state.Why.{Why}
+use Rattle.walk.specs.declared.state.Why.TheVariants.{FuelSpent, TooDeep, OutputFull, Stuck}
+use Rattle.walk.specs.Run.{number_of, going_of, state_of, run_of, end_numbered, view, Grown, Ran, Visited, RanFrom, VisitedFrom}
+use Rattle.walk.specs.Nodes.{progress_at, after_at, ended_at, write_at, written_at}
 
 -- the ends that runs stand for
 
@@ -128,7 +130,7 @@ module _ (x out last : List ℕ) (at : At) (bytes n : ℕ) {text : List ℕ} (sa
       let l : length out < length (take at.bytes out) + length x = rw (← is) (omega (arith, longer)) in
       rw (put_none h, lt-leb _ _ l) (ran_ended 12 at at.steps room (le_refl _) w refl)
 
-  pub wrote_whole : n ≤ length out - bytes → (r : Run) → r ≡ run_of 0 at.node at.steps (bytes + n) → RanFrom (write_at at x out) at r out (put_mid bytes (length out - bytes) out last)
+  pub wrote_whole : n ≤ length out - bytes → (r : Run) → r ≡ run_of 0 0 at.steps (bytes + n) → RanFrom (write_at at x out) at r out (put_mid bytes (length out - bytes) out last)
   unfolding write view end_numbered
   wrote_whole h r w =
       let l : length (take bytes out) + length x ≤ length out = omega (arith, longer) in
@@ -144,10 +146,10 @@ module _ (x out last : List ℕ) (at : At) (bytes n : ℕ) {text : List ℕ} (sa
   unfolding written_at
   wrote r w = go (ltb (length out - bytes) n) refl w
     where
-      go : (b : Bool) → ltb (length out - bytes) n ≡ b → r ≡ cond b (ended_at 12 at) (run_of 0 at.node at.steps (at.bytes + n))
+      go : (b : Bool) → ltb (length out - bytes) n ≡ b → r ≡ cond b (ended_at 12 at) (run_of 0 0 at.steps (at.bytes + n))
           → RanFrom (write_at at x out) at r out (put_mid bytes (length out - bytes) out last)
       go true e w = wrote_none (ltb-true _ _ e) r w
-      go false e w = wrote_whole (ltb-false _ _ e) r (w ∙ ap (λ (m : ℕ). run_of 0 at.node at.steps (m + n)) (sym is))
+      go false e w = wrote_whole (ltb-false _ _ e) r (w ∙ ap (λ (m : ℕ). run_of 0 0 at.steps (m + n)) (sym is))
 
 -- loops of visits: what is left to do from here on comes to the whole's end
 
@@ -223,22 +225,21 @@ going_there here g e = rw e (record {
   lens = g.lens;
 })
 
--- the scratch, cleared number by number
+-- a run that goes on from a node stands for its progress, whatever its place
+pub ended_going : {e : End} {steps bytes : ℕ} (here : At) {p : Progress} {out out' : List ℕ} {keep : ℕ} {s s' : List ℕ} → p ≡ progress_at here
+    → Visited e steps bytes (ended_at 0 here) out out' keep s s' → Visited e steps bytes (going_of p) out out' keep s s'
+unfolding view end_numbered
+ended_going here w v = rw w (record {
+  ran = record {
+    meets = v.ran.meets;
+    grown = record { steps_grow = v.ran.grown.steps_grow; bytes_grow = v.ran.grown.bytes_grow; inside = v.ran.grown.inside; rest = v.ran.grown.rest };
+  };
+  kept = v.kept;
+})
 
-pub record Clearing (s₀ s : List ℕ) (i : ℕ) : Type 0 where
-  pub lens : length s ≡ length s₀
-  pub most : i ≤ length s₀
-  pub zeros : take i s ≡ replicate i 0
-
-pub clearing_start : (s : List ℕ) → Clearing s s 0
-clearing_start s = record { lens = refl; most = omega arith; zeros = refl }
-
-pub clearing_next : (s₀ s : List ℕ) (i : ℕ) → Clearing s₀ s i → i < length s → Clearing s₀ (set s i 0) (i + 1)
-clearing_next s₀ s i inv h = record {
-  lens = length-set s i 0 ∙ inv.lens;
-  most = omega (arith, inv.lens);
-  zeros = ap (λ (n : ℕ). take n (set s i 0)) (add-one i) ∙ take-suc-set s i 0 h ∙ ap (λ (l : List ℕ). l ++ 0 ∷ []) inv.zeros ∙ replicate-append-replicate i 1 0;
-}
-
-pub clearing_done : (s₀ s : List ℕ) (i : ℕ) → Clearing s₀ s i → length s ≤ i → s ≡ replicate (length s₀) 0
-clearing_done s₀ s i inv h = let e : i ≡ length s₀ = omega (arith, inv.lens, inv.most) in sym (take_all i s h) ∙ inv.zeros ∙ ap (λ (n : ℕ). replicate n 0) e
+-- what stops a run has a number that says so
+pub stops : (why : Why) → number_of why ≡ 0 → ⊥
+stops FuelSpent z = omega arith
+stops TooDeep z = omega arith
+stops OutputFull z = omega arith
+stops Stuck z = omega arith

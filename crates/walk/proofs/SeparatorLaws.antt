@@ -13,9 +13,9 @@ use Rattle.rules.specs.Walk.{State, End, done, ended, stuck, and_then, write, se
 use Rattle.walk.specs.declared.at.At.{At}
 use Rattle.walk.specs.declared.separator.Separator.{Separator}
 use Rattle.walk.specs.declared.state.Run.{Run}
-use Rattle.walk.specs.Nodes.{placed_at, write_at, filled_at, due_at, separate_at}
+use Rattle.walk.specs.Nodes.{after_at, ended_at, placed_at, write_at, filled_at, due_at, separate_at}
 use Rattle.walk.specs.Run.{state_of, RanFrom}
-use Rattle.walk.proofs.RunLaws.{view_going}
+use Rattle.walk.proofs.RunLaws.{view_going, after_after, ran_there}
 
 -- one after the other, and a third after these
 pub then_then : (e : End) (next last : State → End) → and_then (and_then e next) last ≡ and_then e (λ s. and_then (next s) last)
@@ -50,6 +50,17 @@ module _ (g : List ℕ) (x : Separator) (at : At) (out : List ℕ) (room : at.by
     goes = z;
     len = refl;
   }
+
+-- past it: none was due, or one was written
+pub past_none : (g : List ℕ) (x : Separator) (at : At) {here : At} {out : List ℕ} → here ≡ after_at at (ended_at 0 here) → here.bytes ≤ length out → (n : ℕ) → due_at x n ≡ false
+    → {past : At} {out' : List ℕ} → out' ≡ out → past ≡ here → (Apart g x n here out (ended_at 0 past) out') × (past ≡ after_at at (ended_at 0 past))
+past_none g x at {here = here} {out = out} is room n d eo e = rw (eo, e) (apart_none g x here out room n d {r = ended_at 0 here} refl refl refl, is)
+
+pub past_written : {g : List ℕ} {x : Separator} (at : At) {here : At} {out : List ℕ} {n : ℕ} {u : Run} {out₁ : List ℕ} → here ≡ after_at at (ended_at 0 here)
+    → RanFrom (separate_at g x n here out) here u out out₁ → length out₁ ≡ length out → u.number ≡ 0
+    → {there : At} → there ≡ after_at here u → {past : At} {out' : List ℕ} → out' ≡ out₁ → past ≡ there
+    → (Apart g x n here out (ended_at 0 past) out') × (past ≡ after_at at (ended_at 0 past))
+past_written at {here = here} {u = u} is v len z e₂ eo e = rw (eo, e) (record { ran = ran_there here v z e₂; goes = refl; len = len }, after_after at here u is e₂)
 
 -- any other is written for the sequence
 pub due_later : (x : Separator) (n : ℕ) → due_at x n ≡ true → n ≡ 0 → ⊥

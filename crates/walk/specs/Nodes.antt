@@ -1,5 +1,6 @@
 -- Nodes to visit, as they are made from one another, and the ends that the definition's visits of them come to.
-use Rattle.std.specs.Prelude.{ℕ, ◌+◌, ◌-◌, List, ◌≡◌, Bool, false, not, cond, length, eqb, ltb}
+use Rattle.std.specs.Prelude.{ℕ, ◌+◌, ◌-◌, ◌≤◌, ◌<◌, ◌⊎◌, List, ◌≡◌, Bool, false, not, cond, length, eqb, ltb, Ok, Err}
+use Rattle.std.specs.declared.result.Result.{Result}
 use Rattle.rules.specs.Faults.{on_found}
 use Rattle.rules.specs.Records.{field_b, text_of}
 use Rattle.rules.specs.Grammar.{Element, nonterminal, element_at}
@@ -13,11 +14,16 @@ use Rattle.stream.specs.declared.record.Record.{Record}
 use Rattle.records.specs.Sizes.{TextLength, repeats}
 use Rattle.walk.specs.declared.at.At.{At}
 use Rattle.walk.specs.declared.separator.Separator.{Separator}
+use Rattle.walk.specs.declared.state.Progress.{Progress}
 use Rattle.walk.specs.declared.state.Run.{Run}
+use Rattle.walk.specs.declared.state.Stop.{Stop}
+use Rattle.walk.specs.declared.state.Why.{Why}
+use Rattle.walk.specs.declared.state.Why.TheVariants.{FuelSpent, TooDeep}
 use Rattle.walk.specs.Run.{state_of, run_of}
 use Rattle.walk.specs.Frames.{frame}
 
--- the node with its step counted; after a run; one below it, for an element; another one; with one variable more; with another frame; the first of all
+-- the node with its step counted; after a run; one below it, for an element; another one; with one variable more; with another frame; how the run
+-- goes on from there, or stops there; the first of all
 abbrev pub counted_at : At → At
 counted_at at = record { node = at.node; element = at.element; base = at.base; vars = at.vars; left = at.left; fuel = at.fuel; steps = at.steps + 1; bytes = at.bytes }
 
@@ -36,12 +42,23 @@ bound_at at = record { node = at.node; element = at.element; base = at.base; var
 abbrev pub framed_at : At → ℕ → ℕ → At
 framed_at at base vars = record { node = at.node; element = at.element; base = base; vars = vars; left = at.left; fuel = at.fuel; steps = at.steps; bytes = at.bytes }
 
+abbrev pub progress_at : At → Progress
+progress_at at = record { bytes = at.bytes; steps = at.steps }
+
+abbrev pub stopped_at : Why → At → Stop
+stopped_at why at = record { place = at.node; bytes = at.bytes; steps = at.steps; why = why }
+
 abbrev pub start_at : ℕ → ℕ → At
 start_at node fuel = record { node = node; element = 0; base = 0; vars = 1; left = 200; fuel = fuel; steps = 0; bytes = 0 }
 
 -- a run that has this number at the node
 abbrev pub ended_at : ℕ → At → Run
 ended_at number at = run_of number at.node at.steps at.bytes
+
+-- a node is entered: a step of the fuel and a level are left for it, or the one is missing, or the other
+abbrev pub Entered : At → Result At Stop → Type 0
+Entered at (Ok here) = (here ≡ counted_at at) × (at.steps < at.fuel) × (1 ≤ at.left)
+Entered at (Err x) = ((x ≡ stopped_at FuelSpent at) × (at.fuel ≤ at.steps)) ⊎ ((x ≡ stopped_at TooDeep (counted_at at)) × (at.steps < at.fuel) × (at.left ≡ 0))
 
 -- what the position of an element asks for; 0, which no element's record has, stands for a nonterminal, whose number no visit asks for
 unfoldable pub element_for : List ℕ → ℕ → Element
@@ -92,7 +109,7 @@ abbrev pub write_at : At → List ℕ → List ℕ → End
 write_at at x out = write (length out) at.node x (state_of at.steps at.bytes out)
 
 unfoldable pub written_at : At → ℕ → ℕ → Run
-written_at at left long = cond (ltb left long) (ended_at 12 at) (run_of 0 at.node at.steps (at.bytes + long))
+written_at at left long = cond (ltb left long) (ended_at 12 at) (run_of 0 0 at.steps (at.bytes + long))
 
 unfoldable pub place_at : List ℕ → List ℕ → List ℕ → At → List ℕ → List ℕ → End
 place_at g t v at out scratch =

@@ -1,10 +1,15 @@
 -- What a run stands for, in the terms of crate rules, and what the functions of the walk promise.
-use Rattle.std.specs.Prelude.{ℕ, ◌+◌, ◌≤◌, ◌≡◌, List, ◌++◌, cond, length, take, drop, replicate, eqb}
+use Rattle.std.specs.Prelude.{ℕ, ◌+◌, ◌≤◌, ◌≡◌, List, ◌++◌, cond, length, take, drop, replicate, eqb, Ok, Err}
+use Rattle.std.specs.declared.result.Result.{Result}
 use Rattle.rules.specs.Walk.{State, fuel_spent, too_deep, output_full, End, done, ended, stuck, walk}
 use Rattle.rules.specs.Answers.{input}
 use Rattle.walk.specs.declared.at.At.{At}
 use Rattle.walk.specs.declared.state.Run.{Run}
+use Rattle.walk.specs.declared.state.Progress.{Progress}
+use Rattle.walk.specs.declared.state.Stop.{Stop}
 use Rattle.walk.specs.declared.state.Turns.{Turns}
+use Rattle.walk.specs.declared.state.Why.{Why}
+use Rattle.walk.specs.declared.state.Why.TheVariants.{FuelSpent, TooDeep, OutputFull, Stuck}
 
 -- the state of a run: its steps, and the text that it has written
 abbrev pub state_of : ℕ → ℕ → List ℕ → State
@@ -13,8 +18,30 @@ state_of steps bytes out = record { steps = steps; text = take bytes out }
 abbrev pub run_of : ℕ → ℕ → ℕ → ℕ → Run
 run_of number place steps bytes = record { number = number; place = place; steps = steps; bytes = bytes }
 
-abbrev pub turns_of : Run → ℕ → Turns
-turns_of run items = record { run = run; items = items }
+-- the number of what stops a run; the run that a result stands for, while it goes on and where it stops; and that of a for, with its items
+abbrev pub number_of : Why → ℕ
+number_of FuelSpent = 10
+number_of TooDeep = 11
+number_of OutputFull = 12
+number_of Stuck = 99
+
+abbrev pub going_of : Progress → Run
+going_of p = run_of 0 0 p.steps p.bytes
+
+abbrev pub stopped_of : Stop → Run
+stopped_of x = run_of (number_of x.why) x.place x.steps x.bytes
+
+abbrev pub seen : Result Progress Stop → Run
+seen (Ok p) = going_of p
+seen (Err x) = stopped_of x
+
+abbrev pub seen_turns : Result Turns Stop → Run
+seen_turns (Ok u) = going_of u.so_far
+seen_turns (Err x) = stopped_of x
+
+abbrev pub items_seen : Result Turns Stop → ℕ
+items_seen (Ok u) = u.items
+items_seen (Err x) = 0
 
 -- the end that a run's number says
 unfoldable pub end_numbered : ℕ → ℕ → State → End

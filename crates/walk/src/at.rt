@@ -1,8 +1,9 @@
 // A node to visit, how it is made from another, and the runs that end or go on there.
-ghost use Rattle.std.specs.Prelude.{◌≡◌, ◌≤◌, ◌<◌, ◌^◌, leb};
-ghost use Rattle.walk.specs.Nodes.{counted_at, after_at, below_at, placed_at, bound_at, framed_at, ended_at};
+ghost use Rattle.std.specs.Prelude.{◌≡◌, ◌≤◌, ◌<◌, ◌^◌};
+ghost use Rattle.walk.specs.Nodes.{Entered, counted_at, after_at, below_at, placed_at, bound_at, framed_at, progress_at, stopped_at};
+ghost use Rattle.walk.specs.Run.{going_of};
 
-use crate::state::Run;
+use crate::state::{Progress, Stop, Why};
 
 // Its place; the record of the element that it stands for, which says what its position asks for, or 0 where it stands for none: a body, an item,
 // a for; its variables, `vars` numbers of the scratch from `base` on; the levels that are left, its own among them; all the fuel; the steps and
@@ -20,15 +21,21 @@ pub struct At {
 }
 
 impl At {
-    // All fuel is used.
-    pub fn spent(self) -> bool
-        ensures { result ≡ leb self.fuel self.steps }
+    // The node, its step counted: it is tried for fuel, counts one step, and is tried for a level.
+    pub fn entered(self) -> Result<At, Stop>
+        ensures { Entered self result }
     {
-        self.fuel <= self.steps
+        if self.fuel <= self.steps {
+            return Err(self.stopped(Why::FuelSpent));
+        }
+        let here = self.counted();
+        if self.left == 0 {
+            return Err(here.stopped(Why::TooDeep));
+        }
+        Ok(here)
     }
 
-    // The node, its step counted.
-    pub fn counted(mut self) -> At
+    fn counted(mut self) -> At
         requires { self.steps < self.fuel }
         ensures { result ≡ counted_at self }
     {
@@ -37,11 +44,11 @@ impl At {
     }
 
     // The node, after a run that went on.
-    pub fn after(mut self, r: Run) -> At
-        ensures { result ≡ after_at self r }
+    pub fn after(mut self, so_far: Progress) -> At
+        ensures { result ≡ after_at self (going_of so_far) }
     {
-        self.steps = r.steps;
-        self.bytes = r.bytes;
+        self.steps = so_far.steps;
+        self.bytes = so_far.bytes;
         self
     }
 
@@ -81,30 +88,33 @@ impl At {
         self.vars = vars;
         self
     }
-}
 
-// A run that ends with a number at a node.
-pub fn ended(number: u32, at: At) -> Run
-    ensures { result ≡ ended_at number at }
-{
-    Run {
-        place: at.node,
-        bytes: at.bytes,
-        steps: at.steps,
-        number,
+    // How a run goes on from here.
+    pub fn progress(self) -> Progress
+        ensures { result ≡ progress_at self }
+    {
+        Progress {
+            bytes: self.bytes,
+            steps: self.steps,
+        }
     }
-}
 
-// A run that is stuck at a node: no accepted set brings it there.
-pub fn stuck(at: At) -> Run
-    ensures { result ≡ ended_at 99 at }
-{
-    ended(99, at)
-}
+    // A run that stops here.
+    pub fn stopped(self, why: Why) -> Stop
+        ensures { result ≡ stopped_at why self }
+    {
+        Stop {
+            place: self.node,
+            bytes: self.bytes,
+            steps: self.steps,
+            why,
+        }
+    }
 
-// A run that goes on from a node.
-pub fn going(at: At) -> Run
-    ensures { result ≡ ended_at 0 at }
-{
-    ended(0, at)
+    // A run that is stuck here: no accepted set brings it there.
+    pub fn stuck(self) -> Stop
+        ensures { result ≡ stopped_at Why.Stuck self }
+    {
+        self.stopped(Why::Stuck)
+    }
 }

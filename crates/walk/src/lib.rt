@@ -17,9 +17,9 @@ mod variables;
 mod visits;
 mod writer;
 
-use at::{At, stuck};
+use at::At;
 use sources::Sources;
-use state::Run;
+use state::{Run, come_out};
 use tables::head_at;
 pub use tables::mark;
 use variables::bind;
@@ -69,7 +69,7 @@ pub fn run(
 {
     let Some(template) = head_at(templates, 0) else {
         clear(scratch);
-        return stuck(start(0, fuel));
+        return come_out(Err(start(0, fuel).stuck()));
     };
     let body = body_of(t, template);
     bind(scratch, 0, 0, 0);
@@ -82,7 +82,7 @@ pub fn run(
         firsts,
         places,
     };
-    let r = visit(start(body, fuel), &s, out, scratch);
+    let end = visit(start(body, fuel), &s, out, scratch);
     clear(scratch);
-    r
+    come_out(end)
 }

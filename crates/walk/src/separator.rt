@@ -3,10 +3,10 @@ ghost use Rattle.std.specs.Prelude.{ℕ, ◌≤◌, ◌≡◌, length};
 ghost use Rattle.std.proofs.Math.Option.{none};
 ghost use Rattle.rules.specs.Blocks.{stream_length};
 ghost use Rattle.walk.specs.Nodes.{fills_at, Between, due_at, separate_at};
-ghost use Rattle.walk.specs.Run.{RanFrom};
+ghost use Rattle.walk.specs.Run.{RanFrom, seen};
 
 use crate::at::At;
-use crate::state::Run;
+use crate::state::{Progress, Stop};
 use crate::writer::write;
 use records::element::{is_repetition, text_length};
 use stream::record::Record;
@@ -47,9 +47,9 @@ pub fn is_due(sep: Separator, before: usize) -> bool
 }
 
 // Writes the separator before an item that is not the first of its sequence.
-pub fn separate(g: &[u8], sep: Separator, out: &mut [u8], at: At) -> Run
+pub fn separate(g: &[u8], sep: Separator, out: &mut [u8], at: At) -> Result<Progress, Stop>
     requires { (stream_length g.now ≡ none) × (at.bytes ≤ length out.old) }
-    ensures { (before : ℕ) → (before ≡ 0 → ⊥) → RanFrom (separate_at g.now sep before at out.old) at result out.old out.new }
+    ensures { (before : ℕ) → (before ≡ 0 → ⊥) → RanFrom (separate_at g.now sep before at out.old) at (seen result) out.old out.new }
 {
     write(g, sep.element, sep.length, out, at.placed(sep.sequence))
 }

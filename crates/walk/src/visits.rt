@@ -8,15 +8,15 @@ ghost use Rattle.rules.specs.Records.{field_c, after};
 ghost use Rattle.rules.specs.Templates.{body, form_of, first, second};
 ghost use Rattle.stream.specs.Record.{Fetched};
 ghost use Rattle.walk.specs.Asks.{InReach, Visitable, Formed, Listed};
-ghost use Rattle.walk.specs.Run.{VisitedFrom};
+ghost use Rattle.walk.specs.Run.{VisitedFrom, seen, seen_turns, items_seen};
 ghost use Rattle.walk.specs.Turns.{Turned};
 ghost use Rattle.walk.specs.Visits.{sources_of, visit_end, form_end, turns_end};
 
-use crate::at::{At, ended, going, stuck};
+use crate::at::At;
 use crate::paths::{pass, path_value};
 use crate::separator::{Separator, fills, is_due, separate, separator_of};
 use crate::sources::Sources;
-use crate::state::{Run, Turns, turned};
+use crate::state::{Progress, Stop, Turns};
 use crate::tables::{child_at, head_at, production_at};
 use crate::variables::bind;
 use crate::writer::{place, write};
@@ -60,42 +60,42 @@ fn arm_of(t: &[u8], node: usize, case: u8) -> usize
 
 // A sequence visits its items in order, with its separator between them; n of them so far. A for among them brings any number.
 #[cycle(visits)]
-fn sequence_items(at: At, head: Record, s: &Sources<'_>, out: &mut [u8], scratch: &mut [u16]) -> Run
+fn sequence_items(
+    at: At,
+    head: Record,
+    s: &Sources<'_>,
+    out: &mut [u8],
+    scratch: &mut [u16],
+) -> Result<Progress, Stop>
     requires { (Formed Form.Sequence (sources_of s.now) at out.old scratch.old) × (Fetched s.now.templates.now at.node head) }
-    ensures { VisitedFrom (form_end Form.Sequence (sources_of s.now) at out.old scratch.old) at result out.old out.new scratch.old scratch.new }
+    ensures { VisitedFrom (form_end Form.Sequence (sources_of s.now) at out.old scratch.old) at (seen result) out.old out.new scratch.old scratch.new }
 {
     let e = fetch(s.grammar, at.element);
     if !fills(at.element, e) {
-        return stuck(at);
+        return Err(at.stuck());
     }
     let sep = separator_of(at, e);
     let mut item = at.node + 1;
     let mut n = 0;
-    let mut r = going(at);
+    let mut here = at;
     for _ in 0..head.d {
         let next = fetch(s.templates, item);
         if is_for(next) {
-            let below = at.after(r).below(item, 0);
-            let end = for_node(below, sep, n, s, out, scratch);
-            r = end.run;
-            n = end.items;
+            let turns = for_node(here.below(item, 0), sep, n, s, out, scratch)?;
+            here = here.after(turns.so_far);
+            n = turns.items;
         } else {
             if is_due(sep, n) {
-                r = separate(s.grammar, sep, out, at.after(r));
-                if r.number != 0 {
-                    return r;
-                }
+                let written = separate(s.grammar, sep, out, here)?;
+                here = here.after(written);
             }
-            let below = at.after(r).below(item, 0);
-            r = visit(below, s, out, scratch);
+            let end = visit(here.below(item, 0), s, out, scratch)?;
+            here = here.after(end);
             n += 1;
-        }
-        if r.number != 0 {
-            return r;
         }
         item += size_in(next);
     }
-    r
+    Ok(here.progress())
 }
 
 // A for in a sequence, which has had so many items before it: the body once for each item of its list. It is tried as any node, but here, since
@@ -108,28 +108,25 @@ fn for_node(
     s: &Sources<'_>,
     out: &mut [u8],
     scratch: &mut [u16],
-) -> Turns
+) -> Result<Turns, Stop>
     requires { (Visitable (sources_of s.now) at out.old scratch.old) × (form_of s.now.templates.now at.node ≡ Form.For) × (before < 2 ^ 32) }
-    ensures { Turned s.now.grammar.now s.now.templates.now s.now.value.now sep before at result out.old out.new scratch.old scratch.new }
+    ensures { Turned s.now.grammar.now s.now.templates.now s.now.value.now sep before at (seen_turns result) (items_seen result) out.old out.new scratch.old scratch.new }
 {
-    if at.spent() {
-        return turned(ended(10, at), before);
-    }
-    let here = at.counted();
-    if at.left == 0 {
-        return turned(ended(11, here), before);
-    }
+    let here = at.entered()?;
     let path = here.node + 1;
     let Some(w) = path_value(s, scratch, here.base, here.vars, path) else {
-        return turned(stuck(here), before);
+        return Err(here.stuck());
     };
     let list = fetch(s.value, w as usize);
     if list.kind != 3 {
-        return turned(stuck(here), before);
+        return Err(here.stuck());
     }
     let count = list.d;
-    let run = for_items(here, w, count, sep, before, s, out, scratch);
-    turned(run, before + count as usize)
+    let so_far = for_items(here, w, count, sep, before, s, out, scratch)?;
+    Ok(Turns {
+        so_far,
+        items: before + count as usize,
+    })
 }
 
 // A for visits its body once for each of the `count` items of the list at w, the item being one variable more.
@@ -143,40 +140,40 @@ fn for_items(
     s: &Sources<'_>,
     out: &mut [u8],
     scratch: &mut [u16],
-) -> Run
+) -> Result<Progress, Stop>
     requires { (Formed Form.For (sources_of s.now) at out.old scratch.old) × (Listed s.now.templates.now s.now.value.now at scratch.old w count) × (before < 2 ^ 32) }
-    ensures { VisitedFrom (turns_end (sources_of s.now) sep before at out.old scratch.old) at result out.old out.new scratch.old scratch.new }
+    ensures { VisitedFrom (turns_end (sources_of s.now) sep before at out.old scratch.old) at (seen result) out.old out.new scratch.old scratch.new }
 {
     let body = at.node + 2;
     let mut here = at;
     for done in 0..count {
         if is_due(sep, before + done as usize) {
-            let written = separate(s.grammar, sep, out, here);
-            if written.number != 0 {
-                return written;
-            }
+            let written = separate(s.grammar, sep, out, here)?;
             here = here.after(written);
         }
         let item = child_at(s.firsts, s.places, w, done);
         bind(scratch, at.base, at.vars, item);
         let below = here.below(body, 0).bound();
-        let end = visit(below, s, out, scratch);
-        if end.number != 0 {
-            return end;
-        }
+        let end = visit(below, s, out, scratch)?;
         here = here.after(end);
     }
-    going(here)
+    Ok(here.progress())
 }
 
 // A build takes the elements of its production in order: it writes a keyword, and visits the next child for any other.
 #[cycle(visits)]
-fn build_items(at: At, head: Record, s: &Sources<'_>, out: &mut [u8], scratch: &mut [u16]) -> Run
+fn build_items(
+    at: At,
+    head: Record,
+    s: &Sources<'_>,
+    out: &mut [u8],
+    scratch: &mut [u16],
+) -> Result<Progress, Stop>
     requires { (Formed Form.Build (sources_of s.now) at out.old scratch.old) × (Fetched s.now.templates.now at.node head) }
-    ensures { VisitedFrom (form_end Form.Build (sources_of s.now) at out.old scratch.old) at result out.old out.new scratch.old scratch.new }
+    ensures { VisitedFrom (form_end Form.Build (sources_of s.now) at out.old scratch.old) at (seen result) out.old out.new scratch.old scratch.new }
 {
     let Some(production) = production_at(s.production_heads, head.b) else {
-        return stuck(at);
+        return Err(at.stuck());
     };
     let count = fetch(s.grammar, production as usize).d;
     let mut element = production as usize + 1;
@@ -186,34 +183,37 @@ fn build_items(at: At, head: Record, s: &Sources<'_>, out: &mut [u8], scratch: &
     for _ in 0..count {
         let e = fetch(s.grammar, element);
         let end = if e.a == 0 {
-            write(s.grammar, element, e.b, out, here)
+            write(s.grammar, element, e.b, out, here)?
         } else {
             if head.d <= used {
-                return stuck(here);
+                return Err(here.stuck());
             }
             let below = here.below(child, element);
             used += 1;
             child += size_at(s.templates, child);
-            visit(below, s, out, scratch)
+            visit(below, s, out, scratch)?
         };
-        if end.number != 0 {
-            return end;
-        }
         here = here.after(end);
         element += size_of(e);
     }
-    going(here)
+    Ok(here.progress())
 }
 
 // An expand enters the body of its template with a fresh set of variables, those that its paths find, right behind its own. With no level
 // left below it they are only looked for: the body is not visited, and reads none.
 #[cycle(visits)]
-fn expand_body(at: At, head: Record, s: &Sources<'_>, out: &mut [u8], scratch: &mut [u16]) -> Run
+fn expand_body(
+    at: At,
+    head: Record,
+    s: &Sources<'_>,
+    out: &mut [u8],
+    scratch: &mut [u16],
+) -> Result<Progress, Stop>
     requires { (Formed Form.Expand (sources_of s.now) at out.old scratch.old) × (Fetched s.now.templates.now at.node head) }
-    ensures { VisitedFrom (form_end Form.Expand (sources_of s.now) at out.old scratch.old) at result out.old out.new scratch.old scratch.new }
+    ensures { VisitedFrom (form_end Form.Expand (sources_of s.now) at out.old scratch.old) at (seen result) out.old out.new scratch.old scratch.new }
 {
     let Some(template) = head_at(s.template_heads, head.b) else {
-        return stuck(at);
+        return Err(at.stuck());
     };
     let body = body_of(s.templates, template);
     let paths = at.node + 1;
@@ -223,7 +223,7 @@ fn expand_body(at: At, head: Record, s: &Sources<'_>, out: &mut [u8], scratch: &
     let next = base + vars;
     let stored = 1 < at.left;
     if !pass(s, scratch, base, vars, paths, count, stored) {
-        return stuck(at);
+        return Err(at.stuck());
     }
     let below = at.below(body, 0).framed(next, count);
     visit(below, s, out, scratch)
@@ -231,17 +231,17 @@ fn expand_body(at: At, head: Record, s: &Sources<'_>, out: &mut [u8], scratch: &
 
 // An if visits only the branch taken.
 #[cycle(visits)]
-fn if_branch(at: At, s: &Sources<'_>, out: &mut [u8], scratch: &mut [u16]) -> Run
+fn if_branch(at: At, s: &Sources<'_>, out: &mut [u8], scratch: &mut [u16]) -> Result<Progress, Stop>
     requires { Formed Form.If (sources_of s.now) at out.old scratch.old }
-    ensures { VisitedFrom (form_end Form.If (sources_of s.now) at out.old scratch.old) at result out.old out.new scratch.old scratch.new }
+    ensures { VisitedFrom (form_end Form.If (sources_of s.now) at out.old scratch.old) at (seen result) out.old out.new scratch.old scratch.new }
 {
     let path = at.node + 1;
     let Some(w) = path_value(s, scratch, at.base, at.vars, path) else {
-        return stuck(at);
+        return Err(at.stuck());
     };
     let head = fetch(s.value, w as usize);
     if head.kind != 2 {
-        return stuck(at);
+        return Err(at.stuck());
     }
     let branch = branch_of(s.templates, at.node, head.a);
     let below = at.below(branch, at.element);
@@ -250,20 +250,26 @@ fn if_branch(at: At, s: &Sources<'_>, out: &mut [u8], scratch: &mut [u16]) -> Ru
 
 // A match visits only the arm of its case, with the case's content as one variable more.
 #[cycle(visits)]
-fn match_arm(at: At, head: Record, s: &Sources<'_>, out: &mut [u8], scratch: &mut [u16]) -> Run
+fn match_arm(
+    at: At,
+    head: Record,
+    s: &Sources<'_>,
+    out: &mut [u8],
+    scratch: &mut [u16],
+) -> Result<Progress, Stop>
     requires { (Formed Form.Match (sources_of s.now) at out.old scratch.old) × (Fetched s.now.templates.now at.node head) }
-    ensures { VisitedFrom (form_end Form.Match (sources_of s.now) at out.old scratch.old) at result out.old out.new scratch.old scratch.new }
+    ensures { VisitedFrom (form_end Form.Match (sources_of s.now) at out.old scratch.old) at (seen result) out.old out.new scratch.old scratch.new }
 {
     let path = at.node + 1;
     let Some(w) = path_value(s, scratch, at.base, at.vars, path) else {
-        return stuck(at);
+        return Err(at.stuck());
     };
     let case = fetch(s.value, w as usize);
     if case.kind != 5 {
-        return stuck(at);
+        return Err(at.stuck());
     }
     if head.d <= case.a as u16 {
-        return stuck(at);
+        return Err(at.stuck());
     }
     let arm = arm_of(s.templates, at.node, case.a);
     let content = child_at(s.firsts, s.places, w, 0);
@@ -274,17 +280,11 @@ fn match_arm(at: At, head: Record, s: &Sources<'_>, out: &mut [u8], scratch: &mu
 
 // A visit of a node: it is tried for 10, counts one step, and is tried for 11; then its form decides.
 #[cycle(visits)]
-pub fn visit(at: At, s: &Sources<'_>, out: &mut [u8], scratch: &mut [u16]) -> Run
+pub fn visit(at: At, s: &Sources<'_>, out: &mut [u8], scratch: &mut [u16]) -> Result<Progress, Stop>
     requires { Visitable (sources_of s.now) at out.old scratch.old }
-    ensures { VisitedFrom (visit_end (sources_of s.now) at out.old scratch.old) at result out.old out.new scratch.old scratch.new }
+    ensures { VisitedFrom (visit_end (sources_of s.now) at out.old scratch.old) at (seen result) out.old out.new scratch.old scratch.new }
 {
-    if at.spent() {
-        return ended(10, at);
-    }
-    let here = at.counted();
-    if at.left == 0 {
-        return ended(11, here);
-    }
+    let here = at.entered()?;
     let head = fetch(s.templates, here.node);
     match form_of(head) {
         Form::Build => build_items(here, head, s, out, scratch),
@@ -292,9 +292,9 @@ pub fn visit(at: At, s: &Sources<'_>, out: &mut [u8], scratch: &mut [u16]) -> Ru
         Form::Place => place(s, out, scratch, here),
         Form::Expand => expand_body(here, head, s, out, scratch),
         Form::If => if_branch(here, s, out, scratch),
-        Form::For => stuck(here),
+        Form::For => Err(here.stuck()),
         Form::Sequence => sequence_items(here, head, s, out, scratch),
         Form::Match => match_arm(here, head, s, out, scratch),
-        Form::Unknown => stuck(here),
+        Form::Unknown => Err(here.stuck()),
     }
 }

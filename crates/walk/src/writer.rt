@@ -7,13 +7,13 @@ ghost use Rattle.rules.specs.Escape.{escape};
 ghost use Rattle.walk.specs.Asks.{FollowsIn, InReach};
 ghost use Rattle.walk.specs.Nodes.{write_at, written_at, place_at};
 ghost use Rattle.walk.specs.Marks.{ProductionHeads, PlaceText};
-ghost use Rattle.walk.specs.Run.{RanFrom};
+ghost use Rattle.walk.specs.Run.{RanFrom, seen};
 ghost use Rattle.walk.specs.Visits.{sources_of};
 
-use crate::at::{At, ended, stuck};
+use crate::at::At;
 use crate::paths::path_value;
 use crate::sources::Sources;
-use crate::state::Run;
+use crate::state::{Progress, Stop, Why};
 use crate::tables::is_escaped_at;
 use entities::escape::{copy_escaped, is_own_form};
 use stream::record::fetch;
@@ -21,9 +21,9 @@ use stream::text::{copy_text, text_after};
 
 // Writes the n bytes of text after the head at record i, a keyword's, a literal's, a value's or a separator's, behind what is written so far,
 // whole or not at all: it is copied to the beginning of what is left of the output.
-pub fn write(s: &[u8], i: usize, n: u16, out: &mut [u8], at: At) -> Run
+pub fn write(s: &[u8], i: usize, n: u16, out: &mut [u8], at: At) -> Result<Progress, Stop>
     requires { (stream_length s.now ≡ none) × (at.bytes ≤ length out.old) }
-    ensures { RanFrom (write_at at (text_of s.now n i) out.old) at result out.old out.new }
+    ensures { RanFrom (write_at at (text_of s.now n i) out.old) at (seen result) out.old out.new }
 {
     let bytes = at.bytes;
     let left = out.len() - bytes;
@@ -32,9 +32,9 @@ pub fn write(s: &[u8], i: usize, n: u16, out: &mut [u8], at: At) -> Run
 }
 
 // The same of the text's escaped form.
-fn write_escaped(s: &[u8], i: usize, n: u16, out: &mut [u8], at: At) -> Run
+fn write_escaped(s: &[u8], i: usize, n: u16, out: &mut [u8], at: At) -> Result<Progress, Stop>
     requires { (stream_length s.now ≡ none) × (at.bytes ≤ length out.old) }
-    ensures { RanFrom (write_at at (escape (text_of s.now n i)) out.old) at result out.old out.new }
+    ensures { RanFrom (write_at at (escape (text_of s.now n i)) out.old) at (seen result) out.old out.new }
 {
     let bytes = at.bytes;
     let left = out.len() - bytes;
@@ -43,19 +43,17 @@ fn write_escaped(s: &[u8], i: usize, n: u16, out: &mut [u8], at: At) -> Run
 }
 
 // The run after a text of so many bytes was to be written where so many are left.
-fn written(at: At, left: usize, long: usize) -> Run
+fn written(at: At, left: usize, long: usize) -> Result<Progress, Stop>
     requires { at.bytes + left < 2 ^ 64 }
-    ensures { result ≡ written_at at left long }
+    ensures { seen result ≡ written_at at left long }
 {
     if left < long {
-        return ended(12, at);
+        return Err(at.stopped(Why::OutputFull));
     }
-    Run {
-        place: at.node,
+    Ok(Progress {
         bytes: at.bytes + long,
         steps: at.steps,
-        number: 0,
-    }
+    })
 }
 
 // Whether the text of n bytes after the head at record i of v is written as it stands for an element: it is, unless its position asks for a
@@ -68,17 +66,17 @@ fn as_it_stands(g: &[u8], heads: &[u16], element: usize, v: &[u8], i: usize, n: 
 }
 
 // A place writes the text that its path finds: in the position of an escaped class, its escaped form.
-pub fn place(s: &Sources<'_>, out: &mut [u8], scratch: &[u16], at: At) -> Run
+pub fn place(s: &Sources<'_>, out: &mut [u8], scratch: &[u16], at: At) -> Result<Progress, Stop>
     requires { (FollowsIn (sources_of s.now) at.base at.vars scratch.now) × (InReach 1 at.node) × (at.bytes ≤ length out.old) × (stream_length s.now.grammar.now ≡ none) × (ProductionHeads s.now.grammar.now s.now.production_heads.now) × (1 ≤ length s.now.production_heads.now) }
-    ensures { RanFrom (place_at s.now.grammar.now s.now.templates.now s.now.value.now at out.old scratch.now) at result out.old out.new }
+    ensures { RanFrom (place_at s.now.grammar.now s.now.templates.now s.now.value.now at out.old scratch.now) at (seen result) out.old out.new }
 {
     let Some(w) = path_value(s, scratch, at.base, at.vars, at.node + 1) else {
-        return stuck(at);
+        return Err(at.stuck());
     };
     let i = usize::from(w);
     let head = fetch(s.value, i);
     if head.kind != 1 {
-        return stuck(at);
+        return Err(at.stuck());
     }
     if as_it_stands(
         s.grammar,

@@ -37,4 +37,4 @@ abbrev pub invariant-for_items-loop-done : goal.invariant-for_items-loop-done
 invariant-for_items-loop-done l = InFor (sources_of l.s) l.at l.initial.out l.initial.scratch l.sep l.before l.w l.count l.out l.scratch l.here l.done
 
 abbrev pub invariant-sequence_items-loop : goal.invariant-sequence_items-loop
-invariant-sequence_items-loop l = InSequence (sources_of l.s) l.at l.initial.out l.initial.scratch l.sep l.fn.head.d l.out l.scratch l.item l.n l.r l.counter
+invariant-sequence_items-loop l = InSequence (sources_of l.s) l.initial.here l.initial.out l.initial.scratch l.sep l.fn.head.d l.out l.scratch l.item l.n l.here l.counter
