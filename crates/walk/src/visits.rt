@@ -30,8 +30,8 @@ pub fn body_of(t: &[u8], template: u16) -> usize
     requires { stream_length t.now ≡ none }
     ensures { (result ≡ body t.now template) × (result < 65792) }
 {
-    let p = template as usize;
-    p + 1 + fetch(t, p).a as usize
+    let p = usize::from(template);
+    p + 1 + usize::from(fetch(t, p).a)
 }
 
 // The branch of an if that is taken, by what its yes/no says.
@@ -117,7 +117,7 @@ fn for_node(
     let Some(w) = path_value(s, scratch, here.base, here.vars, path) else {
         return Err(here.stuck());
     };
-    let list = fetch(s.value, w as usize);
+    let list = fetch(s.value, usize::from(w));
     if list.kind != 3 {
         return Err(here.stuck());
     }
@@ -125,7 +125,7 @@ fn for_node(
     let so_far = for_items(here, w, count, sep, before, s, out, scratch)?;
     Ok(Turns {
         so_far,
-        items: before + count as usize,
+        items: before + usize::from(count),
     })
 }
 
@@ -147,7 +147,7 @@ fn for_items(
     let body = at.node + 2;
     let mut here = at;
     for done in 0..count {
-        if is_due(sep, before + done as usize) {
+        if is_due(sep, before + usize::from(done)) {
             let written = separate(s.grammar, sep, out, here)?;
             here = here.after(written);
         }
@@ -175,8 +175,9 @@ fn build_items(
     let Some(production) = production_at(s.production_heads, head.b) else {
         return Err(at.stuck());
     };
-    let count = fetch(s.grammar, production as usize).d;
-    let mut element = production as usize + 1;
+    let place = usize::from(production);
+    let count = fetch(s.grammar, place).d;
+    let mut element = place + 1;
     let mut child = at.node + 1;
     let mut used = 0;
     let mut here = at;
@@ -217,7 +218,7 @@ fn expand_body(
     };
     let body = body_of(s.templates, template);
     let paths = at.node + 1;
-    let count = head.d as usize;
+    let count = usize::from(head.d);
     let base = at.base;
     let vars = at.vars;
     let next = base + vars;
@@ -239,7 +240,7 @@ fn if_branch(at: At, s: &Sources<'_>, out: &mut [u8], scratch: &mut [u16]) -> Re
     let Some(w) = path_value(s, scratch, at.base, at.vars, path) else {
         return Err(at.stuck());
     };
-    let head = fetch(s.value, w as usize);
+    let head = fetch(s.value, usize::from(w));
     if head.kind != 2 {
         return Err(at.stuck());
     }
@@ -264,7 +265,7 @@ fn match_arm(
     let Some(w) = path_value(s, scratch, at.base, at.vars, path) else {
         return Err(at.stuck());
     };
-    let case = fetch(s.value, w as usize);
+    let case = fetch(s.value, usize::from(w));
     if case.kind != 5 {
         return Err(at.stuck());
     }

@@ -38,7 +38,7 @@ pub build_items-returns-in_default : goal.build_items-returns-in_default
 build_items-returns-in_default t c = visited_stuck c.args.at c.requires.0.visitable.room (ap stopped_of c.stuck.ensures) (build_none _ _ _ _ _ _ _ _ _ _ _ c.requires.1.b (sym (c.in_default.ensures _ c.requires.0.visitable.lent.productions_are)))
 
 pub build_items-loop-init : goal.build_items-loop-init
-build_items-loop-init t c = build_start c.requires.0 c.requires.1 _ (sym (c.in-Some.ensures _ c.requires.0.visitable.lent.productions_are)) (omega arith) c.fetch-count.ensures
+build_items-loop-init t c = build_start c.requires.0 c.requires.1 _ (rw c.from-place.ensures (sym (c.in-Some.ensures _ c.requires.0.visitable.lent.productions_are))) (omega arith) c.fetch-count.ensures
 
 pub build_items-returns-in_err-end : goal.build_items-returns-in_err-end
 build_items-returns-in_err-end t c = let p = err_from_is_err_and c.from_residual.result c.from_residual.ensures.1 in rw (p.1, p.2) (keyword_stop c.requires.0 c.loop.invariant c.loop-test.true c.fetch-e.ensures c.if-e-eq0.true c.in_err-end.ensures c.write.auto.out (stops _))
@@ -54,7 +54,7 @@ build_items-returns-in_err-end-2 t c = let p = err_from_is_err_and c.from_residu
 
 -- What an element came to, a keyword or not.
 build_items_turn : (t : ℕ) (c : build_items-Joined-e-eq0 t)
-    → BuildTurn (sources_of c.args.s.now) c.args.at c.args.out.now c.args.scratch.now c.in-Some.production c.fetch-count.result.d c.args.head.d c.fetch-e.result c.if-e-eq0.out c.if-e-eq0.scratch c.loop.element c.if-e-eq0.child c.if-e-eq0.used c.loop.here (going_of c.if-e-eq0.end) c.loop.counter
+    → BuildTurn (sources_of c.args.s.now) c.args.at c.args.out.now c.args.scratch.now c.from-place.result c.fetch-count.result.d c.args.head.d c.fetch-e.result c.if-e-eq0.out c.if-e-eq0.scratch c.loop.element c.if-e-eq0.child c.if-e-eq0.used c.loop.here (going_of c.if-e-eq0.end) c.loop.counter
 build_items_turn t c =
     elim c.if-e-eq0.branch [
       | build_items-then-e-eq0+in_ok-end w ↦ rw (w.out-is, w.scratch-is, w.child-is, w.used-is, w.end-is) (keyword_turn c.requires.0 c.loop.invariant c.loop-test.true c.fetch-e.ensures w.if-e-eq0.true w.in_ok-end.ensures w.write.auto.out refl)
@@ -71,22 +71,22 @@ pub expand_body-returns-in_default : goal.expand_body-returns-in_default
 expand_body-returns-in_default t c = visited_stuck c.args.at c.requires.0.visitable.room (ap stopped_of c.stuck.ensures) (expand_missing c.requires.0 _ c.requires.1.b (sym c.in_default.ensures))
 
 pub expand_body-pass-requires : goal.expand_body-pass-requires
-expand_body-pass-requires t c = (follows c.requires.0, expand_room c.requires.0 _ c.requires.1.b (sym c.in-Some.ensures) _ c.requires.1.d, omega (arith, c.requires.0.visitable.near, count_few c.requires.0 _ c.requires.1.b (sym c.in-Some.ensures) _ c.requires.1.d))
+expand_body-pass-requires t c = (follows c.requires.0, expand_room c.requires.0 _ c.requires.1.b (sym c.in-Some.ensures) _ (c.from-count.ensures ∙ c.requires.1.d), omega (arith, c.requires.0.visitable.near, count_few c.requires.0 _ c.requires.1.b (sym c.in-Some.ensures) _ (c.from-count.ensures ∙ c.requires.1.d)))
 
 pub expand_body-returns-then-not-pass : goal.expand_body-returns-then-not-pass
-expand_body-returns-then-not-pass t c = enter_lost c.requires.0 _ c.requires.1.b (sym c.in-Some.ensures) _ c.requires.1.d c.pass.ensures c.pass.auto.scratch (c.if-not-pass.true) (ap stopped_of c.stuck-then-not-pass.ensures)
+expand_body-returns-then-not-pass t c = enter_lost c.requires.0 _ c.requires.1.b (sym c.in-Some.ensures) _ (c.from-count.ensures ∙ c.requires.1.d) c.pass.ensures c.pass.auto.scratch (c.if-not-pass.true) (ap stopped_of c.stuck-then-not-pass.ensures)
 
 pub expand_body-visit-requires : goal.expand_body-visit-requires
-expand_body-visit-requires t c = (omega (arith, c.decreases, enter_falls c.requires.0 _ c.requires.1.b (sym c.in-Some.ensures) _ c.requires.1.d c.pass.ensures c.pass.auto.scratch (c.if-not-pass.false) _ c.body_of-body.ensures.0 c.below.ensures c.framed-below.ensures), enter_visitable c.requires.0 _ c.requires.1.b (sym c.in-Some.ensures) _ c.requires.1.d c.pass.ensures c.pass.auto.scratch (c.if-not-pass.false) _ c.body_of-body.ensures.0 c.below.ensures c.framed-below.ensures c.body_of-body.ensures.1)
+expand_body-visit-requires t c = (omega (arith, c.decreases, enter_falls c.requires.0 _ c.requires.1.b (sym c.in-Some.ensures) _ (c.from-count.ensures ∙ c.requires.1.d) c.pass.ensures c.pass.auto.scratch (c.if-not-pass.false) _ c.body_of-body.ensures.0 c.below.ensures c.framed-below.ensures), enter_visitable c.requires.0 _ c.requires.1.b (sym c.in-Some.ensures) _ (c.from-count.ensures ∙ c.requires.1.d) c.pass.ensures c.pass.auto.scratch (c.if-not-pass.false) _ c.body_of-body.ensures.0 c.below.ensures c.framed-below.ensures c.body_of-body.ensures.1)
 
 pub expand_body-returns : goal.expand_body-returns
-expand_body-returns t c = enter_visited c.requires.0 _ c.requires.1.b (sym c.in-Some.ensures) _ c.requires.1.d c.pass.ensures c.pass.auto.scratch (c.if-not-pass.false) _ c.body_of-body.ensures.0 c.below.ensures c.framed-below.ensures c.visit.ensures
+expand_body-returns t c = enter_visited c.requires.0 _ c.requires.1.b (sym c.in-Some.ensures) _ (c.from-count.ensures ∙ c.requires.1.d) c.pass.ensures c.pass.auto.scratch (c.if-not-pass.false) _ c.body_of-body.ensures.0 c.below.ensures c.framed-below.ensures c.visit.ensures
 
 pub for_items-loop-done-init : goal.for_items-loop-done-init
 for_items-loop-done-init t c = for_start c.requires.0 c.requires.1
 
 pub for_items-returns-in_err-written : goal.for_items-returns-in_err-written
-for_items-returns-in_err-written t c = let p = err_from_is_err_and c.from_residual.result c.from_residual.ensures.1 in rw (p.1, p.2) (for_apart_stop c.requires.0 c.requires.1 c.loop-done.invariant c.loop-done-test.true (c.in_err-written.ensures _ (due_later _ _ (sym c.is_due.ensures ∙ c.if-is_due.true))) c.separate.auto.out (stops _))
+for_items-returns-in_err-written t c = let p = err_from_is_err_and c.from_residual.result c.from_residual.ensures.1 in rw (p.1, p.2) (for_apart_stop c.requires.0 c.requires.1 c.loop-done.invariant c.loop-done-test.true (rw c.from.ensures at (c.in_err-written.ensures _ (due_later _ _ (sym c.is_due.ensures ∙ c.if-is_due.true)))) c.separate.auto.out (stops _))
 
 -- What is so of an item once the separator before it is written or not asked for.
 for_items_past : (t : ℕ) (c : for_items-Joined-is_due t)
@@ -94,8 +94,8 @@ for_items_past : (t : ℕ) (c : for_items-Joined-is_due t)
     × (c.if-is_due.here ≡ after_at c.args.at (ended_at 0 c.if-is_due.here))
 for_items_past t c =
     elim c.if-is_due.branch [
-      | for_items-then-is_due+in_ok-written w ↦ past_written c.args.at c.loop-done.invariant.is (w.in_ok-written.ensures _ (due_later _ _ (sym c.is_due.ensures ∙ w.if-is_due.true))) w.separate.auto.out refl w.after-here.ensures w.out-is w.here-is
-      | for_items-else-is_due w ↦ past_none _ _ c.args.at c.loop-done.invariant.is (turn_room c.requires.0 c.requires.1 c.loop-done.invariant c.loop-done-test.true) _ (sym c.is_due.ensures ∙ w.if-is_due.false) w.out-is w.here-is
+      | for_items-then-is_due+in_ok-written w ↦ past_written c.args.at c.loop-done.invariant.is (rw c.from.ensures at (w.in_ok-written.ensures _ (due_later _ _ (sym c.is_due.ensures ∙ w.if-is_due.true)))) w.separate.auto.out refl w.after-here.ensures w.out-is w.here-is
+      | for_items-else-is_due w ↦ past_none _ _ c.args.at c.loop-done.invariant.is (turn_room c.requires.0 c.requires.1 c.loop-done.invariant c.loop-done-test.true) _ (sym (rw c.from.ensures at c.is_due.ensures) ∙ w.if-is_due.false) w.out-is w.here-is
     ]
 
 pub for_items-child_at-item-requires : goal.for_items-child_at-item-requires
@@ -136,10 +136,10 @@ pub for_node-returns-in_default : goal.for_node-returns-in_default
 for_node-returns-in_default t c = let h = (goal.at.for_node-returns-in_default t c).In_ok-here in turned_over c.stuck.result ((for_node_asked t h _ (visited_stuck c.in_ok-here.here (for_node_formed t h).visitable.room (ap stopped_of c.stuck.ensures) (for_none _ _ _ _ _ _ _ _ _ _ _ (listed_none _ _ _ _ _ _ _ (sym c.in_default.ensures.is))))))
 
 pub for_node-returns-then-list-ne3 : goal.for_node-returns-then-list-ne3
-for_node-returns-then-list-ne3 t c = let h = (goal.at.for_node-returns-then-list-ne3 t c).In_ok-here in turned_over c.stuck-then-list-ne3.result ((for_node_asked t h _ (visited_stuck c.in_ok-here.here (for_node_formed t h).visitable.room (ap stopped_of c.stuck-then-list-ne3.ensures) (for_none _ _ _ _ _ _ _ _ _ _ _ (listed_other _ _ _ _ _ _ _ _ (sym c.in-Some.ensures.is) (λ e. c.if-list-ne3.true (c.fetch-list.ensures.kind ∙ e)))))))
+for_node-returns-then-list-ne3 t c = let h = (goal.at.for_node-returns-then-list-ne3 t c).In_ok-here in turned_over c.stuck-then-list-ne3.result ((for_node_asked t h _ (visited_stuck c.in_ok-here.here (for_node_formed t h).visitable.room (ap stopped_of c.stuck-then-list-ne3.ensures) (for_none _ _ _ _ _ _ _ _ _ _ _ (listed_other _ _ _ _ _ _ _ _ (sym c.in-Some.ensures.is) (λ e. c.if-list-ne3.true ((rw c.from.ensures at c.fetch-list.ensures).kind ∙ e)))))))
 
 pub for_node-for_items-requires : goal.for_node-for_items-requires
-for_node-for_items-requires t c = let h = (goal.at.for_node-for_items-requires t c).In_ok-here in (omega (arith, c.decreases, form_falls c.requires.0 c.in_ok-here.ensures.1 c.in_ok-here.ensures.0), ((for_node_formed t h), (list_there _ (sym c.in-Some.ensures.is) (value_stands c.in-Some.ensures) c.fetch-list.ensures c.if-list-ne3.false), c.requires.2))
+for_node-for_items-requires t c = let h = (goal.at.for_node-for_items-requires t c).In_ok-here in (omega (arith, c.decreases, form_falls c.requires.0 c.in_ok-here.ensures.1 c.in_ok-here.ensures.0), ((for_node_formed t h), (list_there _ (sym c.in-Some.ensures.is) (value_stands c.in-Some.ensures) (rw c.from.ensures at c.fetch-list.ensures) c.if-list-ne3.false), c.requires.2))
 
 pub for_node-returns-in_err-so_far : goal.for_node-returns-in_err-so_far
 for_node-returns-in_err-so_far t c =
@@ -148,37 +148,37 @@ for_node-returns-in_err-so_far t c =
     rw (p.1, p.2) (turned_over _ (for_node_asked t h _ c.in_err-so_far.ensures))
 
 pub for_node-returns : goal.for_node-returns
-for_node-returns t c = let h = (goal.at.for_node-returns t c).In_ok-here in (turned_whole _ c.in_ok-here.ensures.0 (for_node_formed t h) (list_there _ (sym c.in-Some.ensures.is) (value_stands c.in-Some.ensures) c.fetch-list.ensures c.if-list-ne3.false) (for_node_asked t h _ c.in_ok-so_far.ensures))
+for_node-returns t c = let h = (goal.at.for_node-returns t c).In_ok-here in rw c.from-2.ensures (turned_whole _ c.in_ok-here.ensures.0 (for_node_formed t h) (list_there _ (sym c.in-Some.ensures.is) (value_stands c.in-Some.ensures) (rw c.from.ensures at c.fetch-list.ensures) c.if-list-ne3.false) (for_node_asked t h _ c.in_ok-so_far.ensures))
 
 pub if_branch-returns-in_default : goal.if_branch-returns-in_default
 if_branch-returns-in_default t c = visited_stuck c.args.at c.requires.visitable.room (ap stopped_of c.stuck.ensures) (if_lost _ _ _ _ _ _ _ _ _ _ (sym c.in_default.ensures.is))
 
 pub if_branch-returns-then-head-ne2 : goal.if_branch-returns-then-head-ne2
-if_branch-returns-then-head-ne2 t c = visited_stuck c.args.at c.requires.visitable.room (ap stopped_of c.stuck-then-head-ne2.ensures) (if_other _ _ _ _ _ _ _ _ _ _ _ (sym c.in-Some.ensures.is) _ c.fetch-head.ensures.kind c.if-head-ne2.true)
+if_branch-returns-then-head-ne2 t c = visited_stuck c.args.at c.requires.visitable.room (ap stopped_of c.stuck-then-head-ne2.ensures) (if_other _ _ _ _ _ _ _ _ _ _ _ (sym c.in-Some.ensures.is) _ (rw c.from.ensures at c.fetch-head.ensures).kind c.if-head-ne2.true)
 
 pub if_branch-visit-requires : goal.if_branch-visit-requires
 if_branch-visit-requires t c = (omega (arith, c.decreases, falls_there c.args.at _ _ c.below-below.ensures), branch_visitable c.requires c.below-below.ensures c.fetch-head.result.a c.branch_of-branch.ensures.0 c.branch_of-branch.ensures.1)
 
 pub if_branch-returns : goal.if_branch-returns
-if_branch-returns t c = branch_visited c.requires c.below-below.ensures (if_is _ _ _ _ _ _ _ _ _ _ _ (sym c.in-Some.ensures.is) _ c.fetch-head.ensures.kind c.if-head-ne2.false _ _ c.fetch-head.ensures.a c.branch_of-branch.ensures.0) c.visit.ensures
+if_branch-returns t c = branch_visited c.requires c.below-below.ensures (if_is _ _ _ _ _ _ _ _ _ _ _ (sym c.in-Some.ensures.is) _ (rw c.from.ensures at c.fetch-head.ensures).kind c.if-head-ne2.false _ _ (rw c.from.ensures at c.fetch-head.ensures).a c.branch_of-branch.ensures.0) c.visit.ensures
 
 pub match_arm-returns-in_default : goal.match_arm-returns-in_default
 match_arm-returns-in_default t c = visited_stuck c.args.at c.requires.0.visitable.room (ap stopped_of c.stuck.ensures) (match_lost _ _ _ _ _ _ _ _ _ _ (sym c.in_default.ensures.is))
 
 pub match_arm-returns-then-case-ne5 : goal.match_arm-returns-then-case-ne5
-match_arm-returns-then-case-ne5 t c = visited_stuck c.args.at c.requires.0.visitable.room (ap stopped_of c.stuck-then-case-ne5.ensures) (match_other _ _ _ _ _ _ _ _ _ _ _ (sym c.in-Some.ensures.is) _ c.fetch-case.ensures.kind c.if-case-ne5.true)
+match_arm-returns-then-case-ne5 t c = visited_stuck c.args.at c.requires.0.visitable.room (ap stopped_of c.stuck-then-case-ne5.ensures) (match_other _ _ _ _ _ _ _ _ _ _ _ (sym c.in-Some.ensures.is) _ (rw c.from.ensures at c.fetch-case.ensures).kind c.if-case-ne5.true)
 
 pub match_arm-returns-then-head-case : goal.match_arm-returns-then-head-case
-match_arm-returns-then-head-case t c = visited_stuck c.args.at c.requires.0.visitable.room (ap stopped_of c.stuck-then-head-case.ensures) (match_missing _ _ _ _ _ _ _ _ _ _ _ (sym c.in-Some.ensures.is) _ c.fetch-case.ensures.kind c.if-case-ne5.false _ c.fetch-case.ensures.a (no_arm c.requires.1 _ c.if-head-case.true))
+match_arm-returns-then-head-case t c = visited_stuck c.args.at c.requires.0.visitable.room (ap stopped_of c.stuck-then-head-case.ensures) (match_missing _ _ _ _ _ _ _ _ _ _ _ (sym c.in-Some.ensures.is) _ (rw c.from.ensures at c.fetch-case.ensures).kind c.if-case-ne5.false _ (rw c.from.ensures at c.fetch-case.ensures).a (no_arm c.requires.1 _ c.if-head-case.true))
 
 pub match_arm-child_at-content-requires : goal.match_arm-child_at-content-requires
-match_arm-child_at-content-requires t c = arm_there c.requires.0 (value_stands c.in-Some.ensures) c.fetch-case.ensures c.if-case-ne5.false
+match_arm-child_at-content-requires t c = arm_there c.requires.0 (value_stands c.in-Some.ensures) (rw c.from.ensures at c.fetch-case.ensures) c.if-case-ne5.false
 
 pub match_arm-visit-requires : goal.match_arm-visit-requires
-match_arm-visit-requires t c = (omega (arith, c.decreases, arm_falls c.requires.0 (value_stands c.in-Some.ensures) c.fetch-case.ensures c.if-case-ne5.false (an_arm c.requires.1 _ c.if-head-case.false c.arm_of-arm.ensures.0) _ c.child_at-content.ensures _ c.bind.ensures c.below.ensures c.bound-below.ensures), arm_visitable c.requires.0 (value_stands c.in-Some.ensures) c.fetch-case.ensures c.if-case-ne5.false (an_arm c.requires.1 _ c.if-head-case.false c.arm_of-arm.ensures.0) _ c.child_at-content.ensures _ c.bind.ensures c.below.ensures c.bound-below.ensures c.arm_of-arm.ensures.1 c.bind.auto.scratch)
+match_arm-visit-requires t c = (omega (arith, c.decreases, arm_falls c.requires.0 (value_stands c.in-Some.ensures) (rw c.from.ensures at c.fetch-case.ensures) c.if-case-ne5.false (an_arm c.requires.1 _ c.if-head-case.false c.arm_of-arm.ensures.0) _ c.child_at-content.ensures _ c.bind.ensures c.below.ensures c.bound-below.ensures), arm_visitable c.requires.0 (value_stands c.in-Some.ensures) (rw c.from.ensures at c.fetch-case.ensures) c.if-case-ne5.false (an_arm c.requires.1 _ c.if-head-case.false c.arm_of-arm.ensures.0) _ c.child_at-content.ensures _ c.bind.ensures c.below.ensures c.bound-below.ensures c.arm_of-arm.ensures.1 c.bind.auto.scratch)
 
 pub match_arm-returns : goal.match_arm-returns
-match_arm-returns t c = arm_visited c.requires.0 (value_stands c.in-Some.ensures) c.fetch-case.ensures c.if-case-ne5.false (an_arm c.requires.1 _ c.if-head-case.false c.arm_of-arm.ensures.0) _ c.child_at-content.ensures _ c.bind.ensures c.below.ensures c.bound-below.ensures (sym c.in-Some.ensures.is) c.visit.ensures
+match_arm-returns t c = arm_visited c.requires.0 (value_stands c.in-Some.ensures) (rw c.from.ensures at c.fetch-case.ensures) c.if-case-ne5.false (an_arm c.requires.1 _ c.if-head-case.false c.arm_of-arm.ensures.0) _ c.child_at-content.ensures _ c.bind.ensures c.below.ensures c.bound-below.ensures (sym c.in-Some.ensures.is) c.visit.ensures
 
 pub sequence_items-returns-then-not-fills : goal.sequence_items-returns-then-not-fills
 sequence_items-returns-then-not-fills t c = sequence_lost c.requires.0 c.fetch-e.ensures (sym c.fills.ensures ∙ c.if-not-fills.true) (ap stopped_of c.stuck.ensures)

@@ -31,7 +31,7 @@ abbrev pub decreases-visit : goal.decreases-visit
 decreases-visit l = 2 * (l.at.fuel - l.at.steps)
 
 abbrev pub invariant-build_items-loop : goal.invariant-build_items-loop
-invariant-build_items-loop l = InBuild (sources_of l.s) l.initial.here l.initial.out l.initial.scratch l.production l.count l.head.d l.out l.scratch l.element l.child l.used l.here l.counter
+invariant-build_items-loop l = InBuild (sources_of l.s) l.initial.here l.initial.out l.initial.scratch l.place l.count l.head.d l.out l.scratch l.element l.child l.used l.here l.counter
 
 abbrev pub invariant-for_items-loop-done : goal.invariant-for_items-loop-done
 invariant-for_items-loop-done l = InFor (sources_of l.s) l.at l.initial.out l.initial.scratch l.sep l.before l.w l.count l.out l.scratch l.here l.done

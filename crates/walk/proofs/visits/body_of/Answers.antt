@@ -4,4 +4,6 @@ use Rattle.walk.proofs.visits.body_of.Goals as goal
 
 pub returns : goal.returns
 unfolding body
-returns c = (rw c.fetch.ensures.a, omega arith)
+returns c =
+    let f = rw c.from-p.ensures at c.fetch.ensures in
+    (rw (c.from-p.ensures, c.from.ensures, f.a), omega arith)
