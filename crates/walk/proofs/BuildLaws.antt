@@ -76,7 +76,7 @@ module _ {s : Sources} {at : At} {out₀ s₀ : List ℕ} (formed : Formed Build
       -- either way: what it came to ends the build, or the build goes on
       module _ {b : Bool} (way : eqb (field_a s.grammar element) 0 ≡ b) {u : Run} {out' sc' : List ℕ} (v : Visited
           (cond b (write (length out₀) at.node (text_of s.grammar (field_b s.grammar element) element) (state_of here.steps here.bytes out)) (cond (ltb used kids) (visits s at out₀ s₀ (piece (element_at s.grammar element)) child (state_of here.steps here.bytes out)) stuck))
-          here.steps here.bytes u out out' (at.base + at.vars) sc sc') (len : length out' ≡ length out) where
+          here.steps here.bytes u out out' (at.frame.base + at.frame.vars) sc sc') (len : length out' ≡ length out) where
         piece_stop : (u.number ≡ 0 → ⊥) → VisitedFrom (form_at Build s.grammar s.templates s.value at out₀ s₀) at u out₀ out' s₀ sc'
         piece_stop z = going_stop inv.going _ (pieces_more _ _ s.grammar s.templates count taken element kids used child more b way _) v len z
 
@@ -94,7 +94,7 @@ module _ {s : Sources} {at : At} {out₀ s₀ : List ℕ} (formed : Formed Build
 
         written : Visited
             (write (length out₀) at.node (text_of s.grammar (field_b s.grammar element) element) (state_of here.steps here.bytes out))
-            here.steps here.bytes u out out' (at.base + at.vars) sc sc
+            here.steps here.bytes u out out' (at.frame.base + at.frame.vars) sc sc
         written = visited_ran _ sc (rw (inv.is, inv.going.len, f.b) at v)
 
         pub keyword_stop : (u.number ≡ 0 → ⊥) → VisitedFrom (form_at Build s.grammar s.templates s.value at out₀ s₀) at u out₀ out' s₀ sc
@@ -132,7 +132,7 @@ module _ {s : Sources} {at : At} {out₀ s₀ : List ℕ} (formed : Formed Build
           child_falls = below_falls formed inv.going inv.is e₂
 
           module _ {u : Run} {out' sc' : List ℕ} (v : VisitedFrom (visit_at s.grammar s.templates s.value there out sc) there u out out' sc sc') (len : length out' ≡ length out) where
-            child_visited : Visited (cond (ltb used kids) (visits s at out₀ s₀ (piece (element_at s.grammar element)) child (state_of here.steps here.bytes out)) stuck) here.steps here.bytes u out out' (at.base + at.vars) sc sc'
+            child_visited : Visited (cond (ltb used kids) (visits s at out₀ s₀ (piece (element_at s.grammar element)) child (state_of here.steps here.bytes out)) stuck) here.steps here.bytes u out out' (at.frame.base + at.frame.vars) sc sc'
             child_visited =
                 rw (lt-ltb used kids l, ← element_there s.grammar element (λ z. omega (arith, inv.some))) (below_visited formed inv.going inv.is e₂ v)
 

@@ -27,7 +27,7 @@ use Rattle.walk.specs.declared.state.Stop.{Stop}
 use Rattle.std.specs.Prelude.{Err}
 use mathlib.Core.Logic.{inl, inr}
 use Rattle.walk.specs.Run.{stopped_of}
-use Rattle.walk.specs.Nodes.{Entered, counted_at, below_at, framed_at, ended_at, element_for, asked_at, visit_at, form_asked_at, form_at}
+use Rattle.walk.specs.Nodes.{Entered, behind_of, counted_at, below_at, framed_at, ended_at, element_for, asked_at, visit_at, form_asked_at, form_at}
 use Rattle.walk.specs.Asks.{Sources, Visitable, Formed}
 use Rattle.walk.proofs.FrameLaws.{take_less}
 use Rattle.walk.proofs.RunLaws.{ran_is, ran_ended, ran_stuck, visited_is, visited_ran, visited_counted}
@@ -59,23 +59,23 @@ module _ {s : Sources} {at : At} {out sc : List ℕ} (formed : Formed Expand s a
     pub count_few : count ≤ 8
     count_few = omega (arith, body_paths formed.visitable.lent.few_paths formed.visitable.in_body formed.is)
 
-    pub expand_room : ltb 1 at.left ≡ true → at.base + at.vars + count ≤ length sc
+    pub expand_room : ltb 1 at.left ≡ true → at.frame.base + at.frame.vars + count ≤ length sc
     expand_room m = let l : 1 < at.left = ltb-true 1 at.left m in omega (arith, count_few, formed.visitable.alive, formed.visitable.stored)
 
-    module _ {r : Bool} {sc₁ : List ℕ} (passed : Passed s.templates s.value at.base at.vars (at.node + 1) count (ltb 1 at.left) r sc sc₁) (lens : length sc₁ ≡ length sc) where
+    module _ {r : Bool} {sc₁ : List ℕ} (passed : Passed s.templates s.value at.frame.base at.frame.vars (at.node + 1) count (ltb 1 at.left) r sc sc₁) (lens : length sc₁ ≡ length sc) where
       pub enter_lost : r ≡ false → {u : Run} → u ≡ ended_at 99 at → VisitedFrom (form_at Expand s.grammar s.templates s.value at out sc) at u out out sc sc₁
       unfolding only_if
       enter_lost e w =
-          let p : path_values s.templates s.value (frame at.base at.vars sc) (row count (at.node + 1)) ≡ none = passed.is ∙ rw e in
+          let p : path_values s.templates s.value (frame at.frame.base at.frame.vars sc) (row count (at.node + 1)) ≡ none = passed.is ∙ rw e in
           record {
             ran = ran_stuck at formed.visitable.room w
                 (expand_lost s.grammar s.templates s.value at.fuel out _ _ at.node _ _ s.template_heads n _ count formed.visitable.lent.templates_are hn found hc p);
             kept = passed.kept;
           }
 
-      module _ (yes : r ≡ true) (b : ℕ) (hb : b ≡ body s.templates q) {there inner : At} (e₁ : there ≡ below_at at b 0) (e₂ : inner ≡ framed_at there (at.base + at.vars) count) where
+      module _ (yes : r ≡ true) (b : ℕ) (hb : b ≡ body s.templates q) {there inner : At} (e₁ : there ≡ below_at at b 0) (e₂ : inner ≡ framed_at there (behind_of at.frame count)) where
         -- a level below has its variables stored
-        stored : 1 ≤ at.left - 1 → frame (at.base + at.vars) count sc₁ ≡ passed.values
+        stored : 1 ≤ at.left - 1 → frame (at.frame.base + at.frame.vars) count sc₁ ≡ passed.values
         stored l = passed.next yes (lt-ltb 1 at.left (omega arith))
 
         pub enter_visitable : b < 65792 → Visitable s inner out sc₁
@@ -99,7 +99,7 @@ module _ {s : Sources} {at : At} {out sc : List ℕ} (formed : Formed Expand s a
             passed.values (passed.is ∙ rw yes) b hb
 
         -- the body's visit has the variables that were found, or reads none
-        entered : (left : ℕ) → at.left - 1 ≡ left → visit_at s.grammar s.templates s.value (framed_at (below_at at b 0) (at.base + at.vars) count) out sc₁ ≡ form_at Expand s.grammar s.templates s.value at out sc
+        entered : (left : ℕ) → at.left - 1 ≡ left → visit_at s.grammar s.templates s.value (framed_at (below_at at b 0) (behind_of at.frame count)) out sc₁ ≡ form_at Expand s.grammar s.templates s.value at out sc
         entered zero h = visit_blind s.grammar s.templates s.value at.fuel out (at.left - 1) _ b _ passed.values _ h ∙ whole
         entered (suc k) h =
             ap (λ (env : List ℕ). visit (input s.grammar s.templates s.value at.fuel out) (at.left - 1) (piece (element_for s.grammar 0)) b env (state_of at.steps at.bytes out)) (stored (omega (arith, h))) ∙ whole
@@ -107,10 +107,10 @@ module _ {s : Sources} {at : At} {out sc : List ℕ} (formed : Formed Expand s a
         pub enter_visited : {u : Run} {out' sc' : List ℕ} → VisitedFrom (visit_at s.grammar s.templates s.value inner out sc₁) inner u out out' sc₁ sc'
             → VisitedFrom (form_at Expand s.grammar s.templates s.value at out sc) at u out out' sc sc'
         enter_visited {u} {out'} {sc'} v =
-            let v' : VisitedFrom (visit_at s.grammar s.templates s.value (framed_at (below_at at b 0) (at.base + at.vars) count) out sc₁) (framed_at (below_at at b 0) (at.base + at.vars) count) u out out' sc₁ sc' = rw (e₂, e₁) at v in
+            let v' : VisitedFrom (visit_at s.grammar s.templates s.value (framed_at (below_at at b 0) (behind_of at.frame count)) out sc₁) (framed_at (below_at at b 0) (behind_of at.frame count)) u out out' sc₁ sc' = rw (e₂, e₁) at v in
             record {
               ran = ran_is (entered (at.left - 1) refl) v'.ran;
-              kept = take_less (at.base + at.vars) (at.base + at.vars + count) sc' sc₁ (omega arith) v'.kept ∙ passed.kept;
+              kept = take_less (at.frame.base + at.frame.vars) (at.frame.base + at.frame.vars + count) sc' sc₁ (omega arith) v'.kept ∙ passed.kept;
             }
 
 -- a visit that a limit ends

@@ -39,11 +39,11 @@ use Rattle.walk.proofs.LoopLaws.{vars_inside, same_frame, formed_after}
 
 -- the definition's visits of the body, in the terms of the start, with an item as the last variable; and of the items that are left
 abbrev pub turn : Sources → At → List ℕ → List ℕ → Asked → ℕ → State → End
-turn s at out₀ s₀ asked item = visit (input s.grammar s.templates s.value at.fuel out₀) (at.left - 1) asked (at.node + 2) (frame at.base at.vars s₀ ++ item ∷ [])
+turn s at out₀ s₀ asked item = visit (input s.grammar s.templates s.value at.fuel out₀) (at.left - 1) asked (at.node + 2) (frame at.frame.base at.frame.vars s₀ ++ item ∷ [])
 
 abbrev pub list_left : Sources → At → List ℕ → List ℕ → Separator → ℕ → List ℕ → State → End
 list_left s at out₀ s₀ x =
-    in_order (λ w. 1) (λ m w. visit_item (length out₀) (visit (input s.grammar s.templates s.value at.fuel out₀) (at.left - 1)) (filled_at s.grammar x) m (at.node + 2) (frame at.base at.vars s₀ ++ w ∷ []))
+    in_order (λ w. 1) (λ m w. visit_item (length out₀) (visit (input s.grammar s.templates s.value at.fuel out₀) (at.left - 1)) (filled_at s.grammar x) m (at.node + 2) (frame at.frame.base at.frame.vars s₀ ++ w ∷ []))
 
 pub record InFor (s : Sources) (at : At) (out₀ s₀ : List ℕ) (x : Separator) (before w count : ℕ) (out sc : List ℕ) (here : At) (done : ℕ) : Type 0 where
   pub most : done ≤ count
@@ -51,7 +51,7 @@ pub record InFor (s : Sources) (at : At) (out₀ s₀ : List ℕ) (x : Separator
   pub going : Going (list_left s at out₀ s₀ x (before + done) (drop done (children s.value w))) (turns_at s.grammar s.templates s.value x before at out₀ s₀) at out₀ s₀ (ended_at 0 here) out sc
 
 module _ {s : Sources} {at : At} {out₀ s₀ : List ℕ} (formed : Formed For s at out₀ s₀) {w count : ℕ} (list : Listed s.templates s.value at s₀ w count) where
-  there_listed : listed (input s.grammar s.templates s.value at.fuel out₀) (frame at.base at.vars s₀) at.node ≡ some (children s.value w)
+  there_listed : listed (input s.grammar s.templates s.value at.fuel out₀) (frame at.frame.base at.frame.vars s₀) at.node ≡ some (children s.value w)
   unfolding path
   there_listed = listed_is s.grammar s.templates s.value at.fuel out₀ at.node _ w list.found list.list
 
@@ -59,7 +59,7 @@ module _ {s : Sources} {at : At} {out₀ s₀ : List ℕ} (formed : Formed For s
   unfolding children
   length_list = length_heads (value_size s.value) (field_d s.value w) (w + 1) ∙ sym list.counted
 
-  pub for_brings : items_of (input s.grammar s.templates s.value at.fuel out₀) (frame at.base at.vars s₀) at.node ≡ count
+  pub for_brings : items_of (input s.grammar s.templates s.value at.fuel out₀) (frame at.frame.base at.frame.vars s₀) at.node ≡ count
   for_brings = items_listed s.grammar s.templates s.value at.fuel out₀ at.node _ formed.is _ there_listed ∙ length_list
 
   pub for_start : {x : Separator} {before : ℕ} → InFor s at out₀ s₀ x before w count out₀ s₀ at 0
@@ -105,13 +105,13 @@ module _ {s : Sources} {at : At} {out₀ s₀ : List ℕ} (formed : Formed For s
       turn_room = (formed_after formed inv.going).visitable.room
 
       module _ {u : Run} {out' : List ℕ} (v : RanFrom (separate_at s.grammar x (before + done) here out) here u out out') (len : length out' ≡ length out) where
-        apart_visited : Visited (separate (length out₀) (filled_at s.grammar x) (before + done) (state_of here.steps here.bytes out)) here.steps here.bytes u out out' (at.base + at.vars) sc sc
+        apart_visited : Visited (separate (length out₀) (filled_at s.grammar x) (before + done) (state_of here.steps here.bytes out)) here.steps here.bytes u out out' (at.frame.base + at.frame.vars) sc sc
         apart_visited = visited_ran _ sc (rw inv.going.len at v)
 
         pub for_apart_stop : (u.number ≡ 0 → ⊥) → VisitedFrom (turns_at s.grammar s.templates s.value x before at out₀ s₀) at u out₀ out' s₀ sc
         for_apart_stop z = going_stop inv.going _ apart_row apart_visited len z
 
-      pub for_slot : at.base + at.vars < length sc
+      pub for_slot : at.frame.base + at.frame.vars < length sc
       for_slot = omega (arith, vars_inside formed, inv.going.lens)
 
       -- past the separator, if one was due
@@ -122,11 +122,11 @@ module _ {s : Sources} {at : At} {out₀ s₀ : List ℕ} (formed : Formed For s
         pub for_level : 1 ≤ past.left
         for_level = rw is-past formed.level
 
-        pub for_vars : {there : At} → there ≡ below_at past (at.node + 2) 0 → there.vars < 2 ^ 16
+        pub for_vars : {there : At} → there ≡ below_at past (at.node + 2) 0 → there.frame.vars < 2 ^ 16
         for_vars e₃ = rw (e₃, is-past) (omega (arith, formed.visitable.alive))
 
         -- the item is bound, and the body visited
-        module _ (item : ℕ) (is : item ≡ get_or s.places (get_or s.firsts w 0 + done) 0) (sc₁ : List ℕ) (bound : Bound at.base at.vars item sc sc₁) (lens₁ : length sc₁ ≡ length sc)
+        module _ (item : ℕ) (is : item ≡ get_or s.places (get_or s.firsts w 0 + done) 0) (sc₁ : List ℕ) (bound : Bound at.frame.base at.frame.vars item sc sc₁) (lens₁ : length sc₁ ≡ length sc)
             {there inner : At} (e₃ : there ≡ below_at past (at.node + 2) 0) (e₄ : inner ≡ bound_at there) where
           item_is : item ≡ get_or (children s.value w) done 0
           item_is = is ∙ (child_there s.value s.firsts s.places formed.visitable.lent.value_lent.children w list.stands parent done inside).is
@@ -134,7 +134,7 @@ module _ {s : Sources} {at : At} {out₀ s₀ : List ℕ} (formed : Formed For s
           item_stands : Stands s.value item
           item_stands = rw item_is (child_stands s.value s.firsts s.places formed.visitable.lent.value_lent.children w list.stands parent done inside)
 
-          stacked : frame at.base (at.vars + 1) sc₁ ≡ frame at.base at.vars s₀ ++ item ∷ []
+          stacked : frame at.frame.base (at.frame.vars + 1) sc₁ ≡ frame at.frame.base at.frame.vars s₀ ++ item ∷ []
           stacked = bound.more ∙ ap (λ (l : List ℕ). l ++ item ∷ []) (same_frame formed apart_going)
 
           inner_is : inner ≡ bound_at (below_at (after_at at (ended_at 0 past)) (at.node + 2) 0)
@@ -147,7 +147,7 @@ module _ {s : Sources} {at : At} {out₀ s₀ : List ℕ} (formed : Formed For s
             in_body = body_more formed.visitable.in_body (for_below s.templates at.node formed.is).stands;
             alive = omega (arith, formed.level, formed.visitable.alive);
             stored = omega (arith, formed.visitable.stored, apart_going.lens, lens₁);
-            held = λ l. rw stacked (held_more s.value (frame at.base at.vars s₀) item (formed.visitable.held formed.level) item_stands);
+            held = λ l. rw stacked (held_more s.value (frame at.frame.base at.frame.vars s₀) item (formed.visitable.held formed.level) item_stands);
             room = omega (arith, apart_going.grown.inside, apart_going.len);
           })
 
@@ -158,11 +158,11 @@ module _ {s : Sources} {at : At} {out₀ s₀ : List ℕ} (formed : Formed For s
             there_visited : VisitedFrom (visit_at s.grammar s.templates s.value (bound_at (below_at (after_at at (ended_at 0 past)) (at.node + 2) 0)) out' sc₁) (bound_at (below_at (after_at at (ended_at 0 past)) (at.node + 2) 0)) u out' out'' sc₁ sc'
             there_visited = rw inner_is at v
 
-            for_visited : Visited (turn s at out₀ s₀ (piece (nonterminal (filled_at s.grammar x).nonterminal)) (get_or (children s.value w) done 0) (state_of past.steps past.bytes out')) past.steps past.bytes u out' out'' (at.base + at.vars) sc sc'
+            for_visited : Visited (turn s at out₀ s₀ (piece (nonterminal (filled_at s.grammar x).nonterminal)) (get_or (children s.value w) done 0) (state_of past.steps past.bytes out')) past.steps past.bytes u out' out'' (at.frame.base + at.frame.vars) sc sc'
             unfolding element_for
             for_visited = rw (← item_is) (record {
               ran = ran_is (visit_any _ _ _ _ _ _ _ ∙ visit_same s.grammar s.templates s.value at.fuel (at.left - 1) _ (at.node + 2) out' out₀ _ _ _ apart_going.len stacked) there_visited.ran;
-              kept = take_less (at.base + at.vars) (at.base + (at.vars + 1)) sc' sc₁ (omega arith) there_visited.kept ∙ bound.kept;
+              kept = take_less (at.frame.base + at.frame.vars) (at.frame.base + (at.frame.vars + 1)) sc' sc₁ (omega arith) there_visited.kept ∙ bound.kept;
             })
 
             pub for_stop : (u.number ≡ 0 → ⊥) → VisitedFrom (turns_at s.grammar s.templates s.value x before at out₀ s₀) at u out₀ out'' s₀ sc'
@@ -181,13 +181,13 @@ pub turned_over : {g t v : List ℕ} {x : Separator} {before : ℕ} {at : At} {o
     → VisitedFrom (asked_at (items (filled_at g x) before) g t v at out sc) at (stopped_of y) out out' sc sc' → Turned g t v x before at (stopped_of y) 0 out out' sc sc'
 turned_over y v = record { visited = v; more = λ z. absurd (stops y.why z); few = omega arith }
 
-pub list_there : {t v : List ℕ} {at : At} {sc : List ℕ} (w : ℕ) → path_value t v (frame at.base at.vars sc) (at.node + 1) ≡ some w → Stands v w
+pub list_there : {t v : List ℕ} {at : At} {sc : List ℕ} (w : ℕ) → path_value t v (frame at.frame.base at.frame.vars sc) (at.node + 1) ≡ some w → Stands v w
     → {list : Record} → Fetched v w list → list.kind ≡ 3 → Listed t v at sc w list.d
 unfolding path
 list_there w found stands f k = record { found = found; stands = stands; list = sym f.kind ∙ k; counted = f.d; few = omega (arith, count_small f) }
 
 module _ {s : Sources} (at : At) {here : At} {out sc : List ℕ} (is : here ≡ counted_at at) (formed : Formed For s here out sc) {w count : ℕ} (list : Listed s.templates s.value here sc w count) where
-  brought : items_of (input s.grammar s.templates s.value at.fuel out) (frame at.base at.vars sc) at.node ≡ count
+  brought : items_of (input s.grammar s.templates s.value at.fuel out) (frame at.frame.base at.frame.vars sc) at.node ≡ count
   brought = rw is at (for_brings formed list)
 
   pub turned_whole : {x : Separator} {before : ℕ} {r : Run} {out' sc' : List ℕ}

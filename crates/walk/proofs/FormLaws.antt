@@ -29,11 +29,11 @@ use Rattle.walk.specs.Marks.{PlaceText}
 -- a place
 
 module _ (g t v : List ℕ) (at : At) (out scratch : List ℕ) where
-  pub place_lost : path_value t v (frame at.base at.vars scratch) (at.node + 1) ≡ none → place_at g t v at out scratch ≡ stuck
+  pub place_lost : path_value t v (frame at.frame.base at.frame.vars scratch) (at.node + 1) ≡ none → place_at g t v at out scratch ≡ stuck
   unfolding place_at path
   place_lost h = on_none stuck _ h
 
-  module _ (w : ℕ) (h : path_value t v (frame at.base at.vars scratch) (at.node + 1) ≡ some w) (k : ℕ) (hk : k ≡ kind_of v w) where
+  module _ (w : ℕ) (h : path_value t v (frame at.frame.base at.frame.vars scratch) (at.node + 1) ≡ some w) (k : ℕ) (hk : k ≡ kind_of v w) where
     pub place_other : (k ≡ 1 → ⊥) → place_at g t v at out scratch ≡ stuck
     unfolding place_at path as_text
     place_other o = on_some stuck _ h ∙ on_none stuck _ (only_no _ _ (ne_eqb _ _ (λ e. o (hk ∙ e))))

@@ -33,10 +33,10 @@ use Rattle.walk.proofs.SeparatorLaws.{then_then, Apart}
 use Rattle.walk.proofs.FormLaws.{order_done, order_more, sequence_none, sequence_is, visit_same}
 
 module _ {form : Form} {s : Sources} {at : At} {out sc : List ℕ} (formed : Formed form s at out sc) where
-  pub vars_inside : at.base + at.vars < length sc
+  pub vars_inside : at.frame.base + at.frame.vars < length sc
   vars_inside = omega (arith, formed.level, formed.visitable.alive, formed.visitable.stored)
 
-  pub follows : Follows s.templates s.value s.firsts s.places at.base at.vars sc
+  pub follows : Follows s.templates s.value s.firsts s.places at.frame.base at.frame.vars sc
   follows = record {
     sized = formed.visitable.lent.templates_sized;
     value_lent = formed.visitable.lent.value_lent;
@@ -58,13 +58,13 @@ module _ {form : Form} {s : Sources} {at : At} {out sc : List ℕ} (formed : For
 
 -- the definition's visits of the nodes below, in the terms of the start
 abbrev pub visits : Sources → At → List ℕ → List ℕ → Asked → ℕ → State → End
-visits s at out₀ s₀ asked node = visit (input s.grammar s.templates s.value at.fuel out₀) (at.left - 1) asked node (frame at.base at.vars s₀)
+visits s at out₀ s₀ asked node = visit (input s.grammar s.templates s.value at.fuel out₀) (at.left - 1) asked node (frame at.frame.base at.frame.vars s₀)
 
 -- after the run so far
 module _ {form : Form} {s : Sources} {at : At} {out₀ s₀ : List ℕ} (formed : Formed form s at out₀ s₀)
     {rest : State → End} {whole : End} {r : Run} {out sc : List ℕ} (inv : Going rest whole at out₀ s₀ r out sc) where
-  pub same_frame : frame at.base at.vars sc ≡ frame at.base at.vars s₀
-  same_frame = frame_kept at.base at.vars s₀ sc (omega (arith, vars_inside formed)) inv.lens inv.kept
+  pub same_frame : frame at.frame.base at.frame.vars sc ≡ frame at.frame.base at.frame.vars s₀
+  same_frame = frame_kept at.frame.base at.frame.vars s₀ sc (omega (arith, vars_inside formed)) inv.lens inv.kept
 
   pub formed_after : Formed form s (after_at at r) out sc
   formed_after = record {
@@ -99,11 +99,11 @@ module _ {form : Form} {s : Sources} {at : At} {out₀ s₀ : List ℕ} (formed 
     below_node = rw e₂
 
     pub asked_visited : (asked : Asked) {u : Run} {out' sc' : List ℕ} → VisitedFrom (asked_at asked s.grammar s.templates s.value there out sc) there u out out' sc sc'
-        → Visited (visits s at out₀ s₀ asked node (state_of r.steps r.bytes out)) r.steps r.bytes u out out' (at.base + at.vars) sc sc'
+        → Visited (visits s at out₀ s₀ asked node (state_of r.steps r.bytes out)) r.steps r.bytes u out out' (at.frame.base + at.frame.vars) sc sc'
     asked_visited asked v = visited_is (visit_same s.grammar s.templates s.value at.fuel (at.left - 1) asked node out out₀ _ _ _ inv.len same_frame) (rw (e₂, e₁) at v)
 
     pub below_visited : {u : Run} {out' sc' : List ℕ} → VisitedFrom (visit_at s.grammar s.templates s.value there out sc) there u out out' sc sc'
-        → Visited (visits s at out₀ s₀ (piece (element_for s.grammar element)) node (state_of r.steps r.bytes out)) r.steps r.bytes u out out' (at.base + at.vars) sc sc'
+        → Visited (visits s at out₀ s₀ (piece (element_for s.grammar element)) node (state_of r.steps r.bytes out)) r.steps r.bytes u out out' (at.frame.base + at.frame.vars) sc sc'
     below_visited {u} {out'} {sc'} v =
         let e : there.element ≡ element = rw e₂ in
         asked_visited _ (subst (λ (n : ℕ). VisitedFrom (asked_at (piece (element_for s.grammar n)) s.grammar s.templates s.value there out sc) there u out out' sc sc') e v)
@@ -135,7 +135,7 @@ not_for f h = other_form _ (λ e. h (f.a ∙ e))
 abbrev pub items_left : Sources → At → List ℕ → List ℕ → Separator → ℕ → List ℕ → State → End
 items_left s at out₀ s₀ x =
     let i = input s.grammar s.templates s.value at.fuel out₀ in
-    let env = frame at.base at.vars s₀ in
+    let env = frame at.frame.base at.frame.vars s₀ in
     in_order (items_of i env) (visit_in i (visit i (at.left - 1)) (filled_at s.grammar x) env)
 
 pub record InSequence (s : Sources) (at : At) (out₀ s₀ : List ℕ) (x : Separator) (count : ℕ) (out sc : List ℕ) (item items : ℕ) (here : At) (visited : ℕ) : Type 0 where
@@ -175,9 +175,9 @@ module _ {s : Sources} {at : At} {out₀ s₀ : List ℕ} (formed : Formed Seque
       nodes_after n = items_left s at out₀ s₀ x n (heads (field_c s.templates) (count - (visited + 1)) (item + next.c))
 
       abbrev brings : ℕ
-      brings = items_of (input s.grammar s.templates s.value at.fuel out₀) (frame at.base at.vars s₀) item
+      brings = items_of (input s.grammar s.templates s.value at.fuel out₀) (frame at.frame.base at.frame.vars s₀) item
 
-      row_more : {e : End} (y : State) → visit_in (input s.grammar s.templates s.value at.fuel out₀) (visit (input s.grammar s.templates s.value at.fuel out₀) (at.left - 1)) (filled_at s.grammar x) (frame at.base at.vars s₀) items item y ≡ e
+      row_more : {e : End} (y : State) → visit_in (input s.grammar s.templates s.value at.fuel out₀) (visit (input s.grammar s.templates s.value at.fuel out₀) (at.left - 1)) (filled_at s.grammar x) (frame at.frame.base at.frame.vars s₀) items item y ≡ e
           → items_left s at out₀ s₀ x items (heads (field_c s.templates) (count - visited) item) y ≡ and_then e (nodes_after (items + brings))
       row_more y way = order_more _ _ items y (heads_more (field_c s.templates) count visited item more next.c f.c) ∙ ap (λ (e : End). and_then e (nodes_after (items + brings))) way
 
@@ -207,7 +207,7 @@ module _ {s : Sources} {at : At} {out₀ s₀ : List ℕ} (formed : Formed Seque
         turns_row y = row_more y (rw (is_for_lem f k))
 
         module _ {u : Run} {had : ℕ} {out' sc' : List ℕ} (v : Turned s.grammar s.templates s.value x items there u had out out' sc sc') (len : length out' ≡ length out) where
-          turns_visited : Visited (visits s at out₀ s₀ as_for item (state_of here.steps here.bytes out)) here.steps here.bytes u out out' (at.base + at.vars) sc sc'
+          turns_visited : Visited (visits s at out₀ s₀ as_for item (state_of here.steps here.bytes out)) here.steps here.bytes u out out' (at.frame.base + at.frame.vars) sc sc'
           turns_visited = asked_visited formed inv.going inv.is e₂ _ v.visited
 
           pub turns_stop : (u.number ≡ 0 → ⊥) → VisitedFrom (form_at Sequence s.grammar s.templates s.value at out₀ s₀) at u out₀ out' s₀ sc'
@@ -241,7 +241,7 @@ module _ {s : Sources} {at : At} {out₀ s₀ : List ℕ} (formed : Formed Seque
 
         -- the separator before it
         module _ {u : Run} {out₁ : List ℕ} (v : RanFrom (separate_at s.grammar x items here out) here u out out₁) (len : length out₁ ≡ length out) where
-          apart_visited : Visited (separate (length out₀) (filled_at s.grammar x) items (state_of here.steps here.bytes out)) here.steps here.bytes u out out₁ (at.base + at.vars) sc sc
+          apart_visited : Visited (separate (length out₀) (filled_at s.grammar x) items (state_of here.steps here.bytes out)) here.steps here.bytes u out out₁ (at.frame.base + at.frame.vars) sc sc
           apart_visited = visited_ran _ sc (rw inv.going.len at v)
 
           pub apart_stop : (u.number ≡ 0 → ⊥) → VisitedFrom (form_at Sequence s.grammar s.templates s.value at out₀ s₀) at u out₀ out₁ s₀ sc
@@ -260,7 +260,7 @@ module _ {s : Sources} {at : At} {out₀ s₀ : List ℕ} (formed : Formed Seque
             item_falls = below_falls formed apart_going is-past e₃
 
             module _ {w : Run} {out'' sc' : List ℕ} (v : VisitedFrom (visit_at s.grammar s.templates s.value there out' sc) there w out' out'' sc sc') (len : length out'' ≡ length out') where
-              item_visited : Visited (visits s at out₀ s₀ (piece (nonterminal (filled_at s.grammar x).nonterminal)) item (state_of past.steps past.bytes out')) past.steps past.bytes w out' out'' (at.base + at.vars) sc sc'
+              item_visited : Visited (visits s at out₀ s₀ (piece (nonterminal (filled_at s.grammar x).nonterminal)) item (state_of past.steps past.bytes out')) past.steps past.bytes w out' out'' (at.frame.base + at.frame.vars) sc sc'
               unfolding element_for
               item_visited = visited_is (visit_any _ _ _ _ _ _ _) (below_visited formed apart_going is-past e₃ v)
 

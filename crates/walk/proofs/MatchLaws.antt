@@ -54,7 +54,7 @@ module _ {t : List ℕ} {p : ℕ} {head : Record} (f : Fetched t p head) (y : �
   unfolding arms
   an_arm l e = nth_after (field_c t) (field_d t p) (first p) y (omega (arith, f.d)) ∙ ap some (sym e)
 
-pub arm_vars : {s : Sources} {at : At} {out sc : List ℕ} → Formed Match s at out sc → {b : ℕ} {there : At} → there ≡ below_at at b at.element → there.vars < 2 ^ 16
+pub arm_vars : {s : Sources} {at : At} {out sc : List ℕ} → Formed Match s at out sc → {b : ℕ} {there : At} → there ≡ below_at at b at.element → there.frame.vars < 2 ^ 16
 arm_vars formed e = rw e (omega (arith, formed.visitable.alive))
 
 -- the path of the match finds the value at w, which is a case; its arm is at b
@@ -69,7 +69,7 @@ module _ {s : Sources} {at : At} {out sc : List ℕ} (formed : Formed Match s at
       (c.head, c.entry)
 
   module _ {b : ℕ} (arm : nth (arms s.templates at.node) case.a ≡ some b) (inside : ℕ) (is : inside ≡ get_or s.places (get_or s.firsts w 0 + 0) 0)
-      (sc₁ : List ℕ) (bound : Bound at.base at.vars inside sc sc₁) {there inner : At} (e₁ : there ≡ below_at at b at.element) (e₂ : inner ≡ bound_at there) where
+      (sc₁ : List ℕ) (bound : Bound at.frame.base at.frame.vars inside sc sc₁) {there inner : At} (e₁ : there ≡ below_at at b at.element) (e₂ : inner ≡ bound_at there) where
     inside_is : inside ≡ content w
     inside_is = is ∙ (content_there s.value s.firsts s.places formed.visitable.lent.value_lent.children w stands is_case).is
 
@@ -89,23 +89,23 @@ module _ {s : Sources} {at : At} {out sc : List ℕ} (formed : Formed Match s at
           in_body = body_more formed.visitable.in_body below.stands;
           alive = omega (arith, formed.level, formed.visitable.alive);
           stored = omega (arith, formed.visitable.stored, lens);
-          held = λ h. rw bound.more (held_more s.value (frame at.base at.vars sc) inside (formed.visitable.held formed.level) inside_stands);
+          held = λ h. rw bound.more (held_more s.value (frame at.frame.base at.frame.vars sc) inside (formed.visitable.held formed.level) inside_stands);
           room = formed.visitable.room;
         })
 
     pub arm_falls : inner.fuel - inner.steps ≤ at.fuel - at.steps
     arm_falls = rw inner_is (omega arith)
 
-    pub arm_visited : path_value s.templates s.value (frame at.base at.vars sc) (at.node + 1) ≡ some w → {r : Run} {out' sc' : List ℕ}
+    pub arm_visited : path_value s.templates s.value (frame at.frame.base at.frame.vars sc) (at.node + 1) ≡ some w → {r : Run} {out' sc' : List ℕ}
         → VisitedFrom (visit_at s.grammar s.templates s.value inner out sc₁) inner r out out' sc₁ sc'
         → VisitedFrom (form_at Match s.grammar s.templates s.value at out sc) at r out out' sc sc'
     arm_visited got {r} {out'} {sc'} v =
         let v' : VisitedFrom (visit_at s.grammar s.templates s.value (bound_at (below_at at b at.element)) out sc₁) (bound_at (below_at at b at.element)) r out out' sc₁ sc' = rw inner_is at v in
-        let same : frame at.base (at.vars + 1) sc₁ ≡ frame at.base at.vars sc ++ content w ∷ [] = bound.more ∙ rw inside_is in
+        let same : frame at.frame.base (at.frame.vars + 1) sc₁ ≡ frame at.frame.base at.frame.vars sc ++ content w ∷ [] = bound.more ∙ rw inside_is in
         record {
           ran = ran_is
               (ap (λ (env : List ℕ). visit (input s.grammar s.templates s.value at.fuel out) (at.left - 1) (piece (element_for s.grammar at.element)) b env (state_of at.steps at.bytes out)) same
               ∙ match_is s.grammar s.templates s.value at.fuel out _ _ at.node _ _ w got _ f.kind k case.a f.a b arm)
               v'.ran;
-          kept = take_less (at.base + at.vars) (at.base + (at.vars + 1)) sc' sc₁ (omega arith) v'.kept ∙ bound.kept;
+          kept = take_less (at.frame.base + at.frame.vars) (at.frame.base + (at.frame.vars + 1)) sc' sc₁ (omega arith) v'.kept ∙ bound.kept;
         }

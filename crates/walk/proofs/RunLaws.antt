@@ -157,7 +157,7 @@ pub record Going (rest : State → End) (whole : End) (at : At) (out₀ s₀ : L
   pub goes : r.number ≡ 0
   pub same : rest (state_of r.steps r.bytes out) ≡ whole
   pub grown : Grown at.steps at.bytes r out₀ out
-  pub kept : take (at.base + at.vars) s ≡ take (at.base + at.vars) s₀
+  pub kept : take (at.frame.base + at.frame.vars) s ≡ take (at.frame.base + at.frame.vars) s₀
   pub len : length out ≡ length out₀
   pub lens : length s ≡ length s₀
 
@@ -180,7 +180,7 @@ module _ {rest : State → End} {whole : End} {at : At} {out₀ s₀ : List ℕ}
     }
 
     module _ {e : End} (next : State → End) (more : rest (state_of r.steps r.bytes out) ≡ and_then e next) {u : Run} {out' s' : List ℕ}
-        (v : Visited e r.steps r.bytes u out out' (at.base + at.vars) s s') (len' : length out' ≡ length out) where
+        (v : Visited e r.steps r.bytes u out out' (at.frame.base + at.frame.vars) s s') (len' : length out' ≡ length out) where
       pub going_stop : (u.number ≡ 0 → ⊥) → VisitedFrom whole at u out₀ out' s₀ s'
       going_stop z = record {
         ran = record {

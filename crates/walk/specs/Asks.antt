@@ -73,14 +73,14 @@ pub record Visitable (s : Sources) (at : At) (out scratch : List ℕ) : Type 0 w
   pub lent : WalkLent s
   pub near : InReach at.left at.node
   pub in_body : InBody s.templates at.node
-  pub alive : at.base + at.vars + 8 * at.left ≤ most_alive
+  pub alive : at.frame.base + at.frame.vars + 8 * at.left ≤ most_alive
   pub stored : most_stored ≤ length scratch
-  pub held : 1 ≤ at.left → Held s.value (frame at.base at.vars scratch)
+  pub held : 1 ≤ at.left → Held s.value (frame at.frame.base at.frame.vars scratch)
   pub room : at.bytes ≤ length out
 
 -- the path of a for finds the list at w, which has so many items
 pub record Listed (t v : List ℕ) (at : At) (scratch : List ℕ) (w count : ℕ) : Type 0 where
-  pub found : path_value t v (frame at.base at.vars scratch) (path at.node) ≡ some w
+  pub found : path_value t v (frame at.frame.base at.frame.vars scratch) (path at.node) ≡ some w
   pub stands : Stands v w
   pub list : kind_of v w ≡ 3
   pub counted : count ≡ field_d v w

@@ -18,6 +18,7 @@ use Rattle.walk.specs.declared.state.Progress.{Progress}
 use Rattle.walk.specs.declared.state.Run.{Run}
 use Rattle.walk.specs.declared.state.Stop.{Stop}
 use Rattle.walk.specs.declared.state.Why.{Why}
+use Rattle.walk.specs.declared.variables.Frame.{Frame}
 use Rattle.walk.specs.declared.state.Why.TheVariants.{FuelSpent, TooDeep}
 use Rattle.walk.specs.Run.{state_of, run_of}
 use Rattle.walk.specs.Frames.{frame}
@@ -25,22 +26,25 @@ use Rattle.walk.specs.Frames.{frame}
 -- the node with its step counted; after a run; one below it, for an element; another one; with one variable more; with another frame; how the run
 -- goes on from there, or stops there; the first of all
 abbrev pub counted_at : At → At
-counted_at at = record { node = at.node; element = at.element; base = at.base; vars = at.vars; left = at.left; fuel = at.fuel; steps = at.steps + 1; bytes = at.bytes }
+counted_at at = record { node = at.node; element = at.element; frame = at.frame; left = at.left; fuel = at.fuel; steps = at.steps + 1; bytes = at.bytes }
 
 abbrev pub after_at : At → Run → At
-after_at at r = record { node = at.node; element = at.element; base = at.base; vars = at.vars; left = at.left; fuel = at.fuel; steps = r.steps; bytes = r.bytes }
+after_at at r = record { node = at.node; element = at.element; frame = at.frame; left = at.left; fuel = at.fuel; steps = r.steps; bytes = r.bytes }
 
 abbrev pub below_at : At → ℕ → ℕ → At
-below_at at node element = record { node = node; element = element; base = at.base; vars = at.vars; left = at.left - 1; fuel = at.fuel; steps = at.steps; bytes = at.bytes }
+below_at at node element = record { node = node; element = element; frame = at.frame; left = at.left - 1; fuel = at.fuel; steps = at.steps; bytes = at.bytes }
 
 abbrev pub placed_at : At → ℕ → At
-placed_at at node = record { node = node; element = at.element; base = at.base; vars = at.vars; left = at.left; fuel = at.fuel; steps = at.steps; bytes = at.bytes }
+placed_at at node = record { node = node; element = at.element; frame = at.frame; left = at.left; fuel = at.fuel; steps = at.steps; bytes = at.bytes }
 
 abbrev pub bound_at : At → At
-bound_at at = record { node = at.node; element = at.element; base = at.base; vars = at.vars + 1; left = at.left; fuel = at.fuel; steps = at.steps; bytes = at.bytes }
+bound_at at = record { node = at.node; element = at.element; frame = record { base = at.frame.base; vars = at.frame.vars + 1 }; left = at.left; fuel = at.fuel; steps = at.steps; bytes = at.bytes }
 
-abbrev pub framed_at : At → ℕ → ℕ → At
-framed_at at base vars = record { node = at.node; element = at.element; base = base; vars = vars; left = at.left; fuel = at.fuel; steps = at.steps; bytes = at.bytes }
+abbrev pub framed_at : At → Frame → At
+framed_at at f = record { node = at.node; element = at.element; frame = f; left = at.left; fuel = at.fuel; steps = at.steps; bytes = at.bytes }
+
+abbrev pub behind_of : Frame → ℕ → Frame
+behind_of f vars = record { base = f.base + f.vars; vars = vars }
 
 abbrev pub progress_at : At → Progress
 progress_at at = record { bytes = at.bytes; steps = at.steps }
@@ -49,7 +53,7 @@ abbrev pub stopped_at : Why → At → Stop
 stopped_at why at = record { place = at.node; bytes = at.bytes; steps = at.steps; why = why }
 
 abbrev pub start_at : ℕ → ℕ → At
-start_at node fuel = record { node = node; element = 0; base = 0; vars = 1; left = 200; fuel = fuel; steps = 0; bytes = 0 }
+start_at node fuel = record { node = node; element = 0; frame = record { base = 0; vars = 1 }; left = 200; fuel = fuel; steps = 0; bytes = 0 }
 
 -- a run that has this number at the node
 abbrev pub ended_at : ℕ → At → Run
@@ -67,7 +71,7 @@ element_for g e = cond (eqb e 0) (nonterminal 0) (element_at g e)
 -- the definition's visit of a node, and what it does there by the node's form; `asked` is what its position asks for
 abbrev pub asked_at : Asked → List ℕ → List ℕ → List ℕ → At → List ℕ → List ℕ → End
 asked_at asked g t v at out scratch =
-    visit (input g t v at.fuel out) at.left asked at.node (frame at.base at.vars scratch) (state_of at.steps at.bytes out)
+    visit (input g t v at.fuel out) at.left asked at.node (frame at.frame.base at.frame.vars scratch) (state_of at.steps at.bytes out)
 
 abbrev pub visit_at : List ℕ → List ℕ → List ℕ → At → List ℕ → List ℕ → End
 visit_at g t v at out scratch = asked_at (piece (element_for g at.element)) g t v at out scratch
@@ -75,7 +79,7 @@ visit_at g t v at out scratch = asked_at (piece (element_for g at.element)) g t 
 abbrev pub form_asked_at : Form → Asked → List ℕ → List ℕ → List ℕ → At → List ℕ → List ℕ → End
 form_asked_at form asked g t v at out scratch =
     let i = input g t v at.fuel out in
-    visit_form i form (visit i (at.left - 1)) asked at.node (frame at.base at.vars scratch) (state_of at.steps at.bytes out)
+    visit_form i form (visit i (at.left - 1)) asked at.node (frame at.frame.base at.frame.vars scratch) (state_of at.steps at.bytes out)
 
 abbrev pub form_at : Form → List ℕ → List ℕ → List ℕ → At → List ℕ → List ℕ → End
 form_at form g t v at out scratch = form_asked_at form (piece (element_for g at.element)) g t v at out scratch
@@ -113,6 +117,6 @@ written_at at left long = cond (ltb left long) (ended_at 12 at) (run_of 0 0 at.s
 
 unfoldable pub place_at : List ℕ → List ℕ → List ℕ → At → List ℕ → List ℕ → End
 place_at g t v at out scratch =
-    on_found (path_value t v (frame at.base at.vars scratch) (path at.node)) stuck λ w.
+    on_found (path_value t v (frame at.frame.base at.frame.vars scratch) (path at.node)) stuck λ w.
     on_found (as_text v w) stuck λ x.
     write_at at (written_for g (piece (element_for g at.element)) x) out

@@ -77,7 +77,7 @@ abbrev pub RanFrom : End → At → Run → List ℕ → List ℕ → Type 0
 RanFrom e at r out out' = Ran e at.steps at.bytes r out out'
 
 abbrev pub VisitedFrom : End → At → Run → List ℕ → List ℕ → List ℕ → List ℕ → Type 0
-VisitedFrom e at r out out' scratch scratch' = Visited e at.steps at.bytes r out out' (at.base + at.vars) scratch scratch'
+VisitedFrom e at r out out' scratch scratch' = Visited e at.steps at.bytes r out out' (at.frame.base + at.frame.vars) scratch scratch'
 
 -- the whole walk: the output begins with the run's text and is as it was after it, and all of the scratch is zero
 pub record Walked (g t v : List ℕ) (fuel : ℕ) (r : Run) (out out' scratch scratch' : List ℕ) : Type 0 where

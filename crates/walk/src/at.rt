@@ -4,16 +4,16 @@ ghost use Rattle.walk.specs.Nodes.{Entered, counted_at, after_at, below_at, plac
 ghost use Rattle.walk.specs.Run.{going_of};
 
 use crate::state::{Progress, Stop, Why};
+use crate::variables::Frame;
 
 // Its place; the record of the element that it stands for, which says what its position asks for, or 0 where it stands for none: a body, an item,
-// a for; its variables, `vars` numbers of the scratch from `base` on; the levels that are left, its own among them; all the fuel; the steps and
+// a for; the frame of its variables; the levels that are left, its own among them; all the fuel; the steps and
 // the bytes so far.
 #[derive(Clone, Copy)]
 pub struct At {
     pub node: usize,
     pub element: usize,
-    pub base: usize,
-    pub vars: usize,
+    pub frame: Frame,
     pub left: usize,
     pub fuel: u32,
     pub steps: u32,
@@ -73,19 +73,18 @@ impl At {
 
     // The node, with one variable more.
     pub fn bound(mut self) -> At
-        requires { self.vars < 2 ^ 16 }
+        requires { self.frame.vars < 2 ^ 16 }
         ensures { result ≡ bound_at self }
     {
-        self.vars += 1;
+        self.frame.vars += 1;
         self
     }
 
     // The node, with other variables.
-    pub fn framed(mut self, base: usize, vars: usize) -> At
-        ensures { result ≡ framed_at self base vars }
+    pub fn framed(mut self, frame: Frame) -> At
+        ensures { result ≡ framed_at self frame }
     {
-        self.base = base;
-        self.vars = vars;
+        self.frame = frame;
         self
     }
 

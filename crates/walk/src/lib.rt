@@ -22,7 +22,7 @@ use sources::Sources;
 use state::{Run, come_out};
 use tables::head_at;
 pub use tables::mark;
-use variables::bind;
+use variables::Frame;
 use visits::{body_of, visit};
 
 // The machine nests so many levels deep.
@@ -42,8 +42,7 @@ fn start(node: usize, fuel: u32) -> At
     At {
         node,
         element: 0,
-        base: 0,
-        vars: 1,
+        frame: Frame { base: 0, vars: 1 },
         left: LEVELS,
         fuel,
         steps: 0,
@@ -72,7 +71,7 @@ pub fn run(
         return come_out(Err(start(0, fuel).stuck()));
     };
     let body = body_of(t, template);
-    bind(scratch, 0, 0, 0);
+    Frame { base: 0, vars: 0 }.bind(scratch, 0);
     let s = Sources {
         grammar: g,
         templates: t,

@@ -13,7 +13,7 @@ ghost use Rattle.walk.specs.Visits.{sources_of};
 
 use crate::sources::Sources;
 use crate::tables::child_at;
-use crate::variables::{bind, variable};
+use crate::variables::Frame;
 use records::path::{step_at, steps_of, variable_of};
 use stream::record::fetch;
 
@@ -31,18 +31,12 @@ fn field(s: &Sources<'_>, w: u16, j: u16) -> Option<u16>
 }
 
 // The value that the path at p finds.
-pub fn path_value(
-    s: &Sources<'_>,
-    scratch: &[u16],
-    base: usize,
-    vars: usize,
-    p: usize,
-) -> Option<u16>
-    requires { FollowsIn (sources_of s.now) base vars scratch.now }
-    ensures { Finds s.now.value.now (path_value s.now.templates.now s.now.value.now (frame base vars scratch.now) p) result }
+pub fn path_value(s: &Sources<'_>, scratch: &[u16], variables: Frame, p: usize) -> Option<u16>
+    requires { FollowsIn (sources_of s.now) variables.base variables.vars scratch.now }
+    ensures { Finds s.now.value.now (path_value s.now.templates.now s.now.value.now (frame variables.base variables.vars scratch.now) p) result }
 {
     let path = fetch(s.templates, p);
-    let mut w = variable(scratch, base, vars, variable_of(path))?;
+    let mut w = variables.variable(scratch, variable_of(path))?;
     for i in 0..steps_of(path) {
         w = field(s, w, step_at(path, i))?;
     }
@@ -53,22 +47,20 @@ pub fn path_value(
 pub fn pass(
     s: &Sources<'_>,
     scratch: &mut [u16],
-    base: usize,
-    vars: usize,
+    variables: Frame,
     p: usize,
     n: usize,
     stored: bool,
 ) -> bool
-    requires { (FollowsIn (sources_of s.now) base vars scratch.old) × (stored ≡ true → base + vars + n ≤ length scratch.old) × (p + n < 2 ^ 60) }
-    ensures { Passed s.now.templates.now s.now.value.now base vars p n stored result scratch.old scratch.new }
+    requires { (FollowsIn (sources_of s.now) variables.base variables.vars scratch.old) × (stored ≡ true → variables.base + variables.vars + n ≤ length scratch.old) × (p + n < 2 ^ 60) }
+    ensures { Passed s.now.templates.now s.now.value.now variables.base variables.vars p n stored result scratch.old scratch.new }
 {
-    let next = base + vars;
     for i in 0..n {
-        let Some(w) = path_value(s, scratch, base, vars, p + i) else {
+        let Some(w) = path_value(s, scratch, variables, p + i) else {
             return false;
         };
         if stored {
-            bind(scratch, next, i, w);
+            variables.behind(i).bind(scratch, w);
         }
     }
     true

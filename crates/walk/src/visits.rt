@@ -18,7 +18,6 @@ use crate::separator::{Separator, fills, is_due, separate, separator_of};
 use crate::sources::Sources;
 use crate::state::{Progress, Stop, Turns};
 use crate::tables::{child_at, head_at, production_at};
-use crate::variables::bind;
 use crate::writer::{place, write};
 use records::element::size_of;
 use records::node::{form_of, is_for, size_at, size_in};
@@ -114,7 +113,7 @@ fn for_node(
 {
     let here = at.entered()?;
     let path = here.node + 1;
-    let Some(w) = path_value(s, scratch, here.base, here.vars, path) else {
+    let Some(w) = path_value(s, scratch, here.frame, path) else {
         return Err(here.stuck());
     };
     let list = fetch(s.value, usize::from(w));
@@ -152,7 +151,7 @@ fn for_items(
             here = here.after(written);
         }
         let item = child_at(s.firsts, s.places, w, done);
-        bind(scratch, at.base, at.vars, item);
+        at.frame.bind(scratch, item);
         let below = here.below(body, 0).bound();
         let end = visit(below, s, out, scratch)?;
         here = here.after(end);
@@ -219,14 +218,12 @@ fn expand_body(
     let body = body_of(s.templates, template);
     let paths = at.node + 1;
     let count = usize::from(head.d);
-    let base = at.base;
-    let vars = at.vars;
-    let next = base + vars;
+    let next = at.frame.behind(count);
     let stored = 1 < at.left;
-    if !pass(s, scratch, base, vars, paths, count, stored) {
+    if !pass(s, scratch, at.frame, paths, count, stored) {
         return Err(at.stuck());
     }
-    let below = at.below(body, 0).framed(next, count);
+    let below = at.below(body, 0).framed(next);
     visit(below, s, out, scratch)
 }
 
@@ -237,7 +234,7 @@ fn if_branch(at: At, s: &Sources<'_>, out: &mut [u8], scratch: &mut [u16]) -> Re
     ensures { VisitedFrom (form_end Form.If (sources_of s.now) at out.old scratch.old) at (seen result) out.old out.new scratch.old scratch.new }
 {
     let path = at.node + 1;
-    let Some(w) = path_value(s, scratch, at.base, at.vars, path) else {
+    let Some(w) = path_value(s, scratch, at.frame, path) else {
         return Err(at.stuck());
     };
     let head = fetch(s.value, usize::from(w));
@@ -262,7 +259,7 @@ fn match_arm(
     ensures { VisitedFrom (form_end Form.Match (sources_of s.now) at out.old scratch.old) at (seen result) out.old out.new scratch.old scratch.new }
 {
     let path = at.node + 1;
-    let Some(w) = path_value(s, scratch, at.base, at.vars, path) else {
+    let Some(w) = path_value(s, scratch, at.frame, path) else {
         return Err(at.stuck());
     };
     let case = fetch(s.value, usize::from(w));
@@ -274,7 +271,7 @@ fn match_arm(
     }
     let arm = arm_of(s.templates, at.node, case.a);
     let content = child_at(s.firsts, s.places, w, 0);
-    bind(scratch, at.base, at.vars, content);
+    at.frame.bind(scratch, content);
     let below = at.below(arm, at.element).bound();
     visit(below, s, out, scratch)
 }

@@ -67,10 +67,10 @@ fn as_it_stands(g: &[u8], heads: &[u16], element: usize, v: &[u8], i: usize, n: 
 
 // A place writes the text that its path finds: in the position of an escaped class, its escaped form.
 pub fn place(s: &Sources<'_>, out: &mut [u8], scratch: &[u16], at: At) -> Result<Progress, Stop>
-    requires { (FollowsIn (sources_of s.now) at.base at.vars scratch.now) × (InReach 1 at.node) × (at.bytes ≤ length out.old) × (stream_length s.now.grammar.now ≡ none) × (ProductionHeads s.now.grammar.now s.now.production_heads.now) × (1 ≤ length s.now.production_heads.now) }
+    requires { (FollowsIn (sources_of s.now) at.frame.base at.frame.vars scratch.now) × (InReach 1 at.node) × (at.bytes ≤ length out.old) × (stream_length s.now.grammar.now ≡ none) × (ProductionHeads s.now.grammar.now s.now.production_heads.now) × (1 ≤ length s.now.production_heads.now) }
     ensures { RanFrom (place_at s.now.grammar.now s.now.templates.now s.now.value.now at out.old scratch.now) at (seen result) out.old out.new }
 {
-    let Some(w) = path_value(s, scratch, at.base, at.vars, at.node + 1) else {
+    let Some(w) = path_value(s, scratch, at.frame, at.node + 1) else {
         return Err(at.stuck());
     };
     let i = usize::from(w);

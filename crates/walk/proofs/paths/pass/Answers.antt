@@ -16,7 +16,7 @@ returns-in_default c = passing_stop c.loop-i.invariant c.requires.0 c.loop-i-tes
 pub loop-i-preserved : goal.loop-i-preserved
 loop-i-preserved c =
     elim c.if-stored.branch [
-      | then-stored w ↦ rw w.scratch-is (passing_stored c.loop-i.invariant c.requires.0 c.loop-i-test.true _ (sym c.in-Some.ensures.is) (value_stands c.in-Some.ensures) _ w.bind.auto.scratch w.bind.ensures)
+      | then-stored w ↦ rw w.scratch-is (passing_stored c.loop-i.invariant c.requires.0 c.loop-i-test.true _ (sym c.in-Some.ensures.is) (value_stands c.in-Some.ensures) _ w.bind.auto.scratch (rw w.behind.ensures at w.bind.ensures))
       | else-stored w ↦ rw w.scratch-is (passing_seen c.loop-i.invariant c.requires.0 c.loop-i-test.true _ (sym c.in-Some.ensures.is) (value_stands c.in-Some.ensures) w.if-stored.false)
     ]
 

@@ -77,10 +77,10 @@ pub expand_body-returns-then-not-pass : goal.expand_body-returns-then-not-pass
 expand_body-returns-then-not-pass t c = enter_lost c.requires.0 _ c.requires.1.b (sym c.in-Some.ensures) _ (c.from-count.ensures ∙ c.requires.1.d) c.pass.ensures c.pass.auto.scratch (c.if-not-pass.true) (ap stopped_of c.stuck-then-not-pass.ensures)
 
 pub expand_body-visit-requires : goal.expand_body-visit-requires
-expand_body-visit-requires t c = (omega (arith, c.decreases, enter_falls c.requires.0 _ c.requires.1.b (sym c.in-Some.ensures) _ (c.from-count.ensures ∙ c.requires.1.d) c.pass.ensures c.pass.auto.scratch (c.if-not-pass.false) _ c.body_of-body.ensures.0 c.below.ensures c.framed-below.ensures), enter_visitable c.requires.0 _ c.requires.1.b (sym c.in-Some.ensures) _ (c.from-count.ensures ∙ c.requires.1.d) c.pass.ensures c.pass.auto.scratch (c.if-not-pass.false) _ c.body_of-body.ensures.0 c.below.ensures c.framed-below.ensures c.body_of-body.ensures.1)
+expand_body-visit-requires t c = (omega (arith, c.decreases, enter_falls c.requires.0 _ c.requires.1.b (sym c.in-Some.ensures) _ (c.from-count.ensures ∙ c.requires.1.d) c.pass.ensures c.pass.auto.scratch (c.if-not-pass.false) _ c.body_of-body.ensures.0 c.below.ensures (rw c.behind-next.ensures at c.framed-below.ensures)), enter_visitable c.requires.0 _ c.requires.1.b (sym c.in-Some.ensures) _ (c.from-count.ensures ∙ c.requires.1.d) c.pass.ensures c.pass.auto.scratch (c.if-not-pass.false) _ c.body_of-body.ensures.0 c.below.ensures (rw c.behind-next.ensures at c.framed-below.ensures) c.body_of-body.ensures.1)
 
 pub expand_body-returns : goal.expand_body-returns
-expand_body-returns t c = enter_visited c.requires.0 _ c.requires.1.b (sym c.in-Some.ensures) _ (c.from-count.ensures ∙ c.requires.1.d) c.pass.ensures c.pass.auto.scratch (c.if-not-pass.false) _ c.body_of-body.ensures.0 c.below.ensures c.framed-below.ensures c.visit.ensures
+expand_body-returns t c = enter_visited c.requires.0 _ c.requires.1.b (sym c.in-Some.ensures) _ (c.from-count.ensures ∙ c.requires.1.d) c.pass.ensures c.pass.auto.scratch (c.if-not-pass.false) _ c.body_of-body.ensures.0 c.below.ensures (rw c.behind-next.ensures at c.framed-below.ensures) c.visit.ensures
 
 pub for_items-loop-done-init : goal.for_items-loop-done-init
 for_items-loop-done-init t c = for_start c.requires.0 c.requires.1
