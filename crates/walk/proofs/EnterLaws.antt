@@ -13,7 +13,7 @@ use Rattle.rules.specs.Faults.{only_if}
 use Rattle.rules.specs.Records.{field_b, field_d, row, nth}
 use Rattle.rules.specs.Templates.{form_numbered, form_of, body, first, second}
 use Rattle.rules.specs.Answers.{input}
-use Rattle.rules.specs.Walk.{End, stuck, path_values, Asked, piece, visit}
+use Rattle.rules.specs.Walk.{stuck, path_values, Asked, piece, visit}
 use Rattle.rules.specs.declared.Form.{Form}
 use Rattle.rules.specs.declared.Form.TheVariants.{Expand, If}
 use Rattle.stream.specs.Record.{Fetched}
@@ -22,7 +22,7 @@ use Rattle.records.proofs.NodeLaws.{form_is}
 use Rattle.walk.specs.declared.at.At.{At}
 use Rattle.walk.specs.declared.state.Run.{Run}
 use Rattle.walk.specs.Frames.{frame, Passed}
-use Rattle.walk.specs.Run.{state_of, RanFrom, VisitedFrom}
+use Rattle.walk.specs.Run.{state_of, VisitedFrom}
 use Rattle.walk.specs.declared.state.Stop.{Stop}
 use Rattle.std.specs.Prelude.{Err}
 use mathlib.Core.Logic.{inl, inr}
@@ -168,8 +168,3 @@ module _ {s : Sources} {at : At} {out sc : List ℕ} (visitable : Visitable s at
         let e : here.element ≡ at.element = rw is in
         form_asked visitable _ spare is level f
         (subst (λ (n : ℕ). VisitedFrom (form_asked_at form (piece (element_for s.grammar n)) s.grammar s.templates s.value here out sc) here u out out' sc sc') e v)
-
-    -- a form that only writes keeps all of the scratch
-    pub form_ran : {e : End} → e ≡ form_at form s.grammar s.templates s.value here out sc → {u : Run} {out' : List ℕ} → RanFrom e here u out out'
-        → VisitedFrom (visit_at s.grammar s.templates s.value at out sc) at u out out' sc sc
-    form_ran same ran = form_visited (visited_ran _ sc (ran_is same ran))

@@ -1,5 +1,5 @@
 -- The turns of a for: its list's items one by one, each the last variable in turn, so many items of its sequence before them. Assumes nothing.
-use Prim.Native.Nat.{ℕ, ◌+◌, ◌-◌, ◌≤◌, ◌<◌, ◌^◌}
+use Prim.Native.Nat.{ℕ, ◌+◌, ◌-◌, ◌≤◌, ◌<◌}
 use mathlib.Core.Path.{◌≡◌, refl, sym, ap, ◌∙◌}
 use mathlib.Core.List.{List, [], ◌∷◌, ◌++◌}
 use mathlib.Core.Option.{some}
@@ -35,7 +35,7 @@ use Rattle.walk.proofs.BodyLaws.{body_more, for_below, count_small}
 use Rattle.walk.proofs.AskedLaws.{visit_any}
 use Rattle.walk.proofs.SeparatorLaws.{then_then, Apart}
 use Rattle.walk.proofs.FormLaws.{order_done, order_more, listed_is, items_listed, for_is, visit_same}
-use Rattle.walk.proofs.LoopLaws.{vars_inside, same_frame, formed_after}
+use Rattle.walk.proofs.LoopLaws.{same_frame, formed_after}
 
 -- the definition's visits of the body, in the terms of the start, with an item as the last variable; and of the items that are left
 abbrev pub turn : Sources → At → List ℕ → List ℕ → Asked → ℕ → State → End
@@ -111,19 +111,10 @@ module _ {s : Sources} {at : At} {out₀ s₀ : List ℕ} (formed : Formed For s
         pub for_apart_stop : (u.number ≡ 0 → ⊥) → VisitedFrom (turns_at s.grammar s.templates s.value x before at out₀ s₀) at u out₀ out' s₀ sc
         for_apart_stop z = going_stop inv.going _ apart_row apart_visited len z
 
-      pub for_slot : at.frame.base + at.frame.vars < length sc
-      for_slot = omega (arith, vars_inside formed, inv.going.lens)
-
       -- past the separator, if one was due
       module _ {past : At} {out' : List ℕ} (apart : Apart s.grammar x (before + done) here out (ended_at 0 past) out') (is-past : past ≡ after_at at (ended_at 0 past)) where
         apart_going : Going turn_rest (turns_at s.grammar s.templates s.value x before at out₀ s₀) at out₀ s₀ (ended_at 0 past) out' sc
         apart_going = going_next inv.going _ apart_row (apart_visited apart.ran apart.len) apart.len refl refl
-
-        pub for_level : 1 ≤ past.left
-        for_level = rw is-past formed.level
-
-        pub for_vars : {there : At} → there ≡ below_at past (at.node + 2) 0 → there.frame.vars < 2 ^ 16
-        for_vars e₃ = rw (e₃, is-past) (omega (arith, formed.visitable.alive))
 
         -- the item is bound, and the body visited
         module _ (item : ℕ) (is : item ≡ get_or s.places (get_or s.firsts w 0 + done) 0) (sc₁ : List ℕ) (bound : Bound at.frame.base at.frame.vars item sc sc₁) (lens₁ : length sc₁ ≡ length sc)

@@ -5,10 +5,8 @@ use mathlib.Core.List.{List, [], ◌∷◌, ◌++◌, append-nil, append_assoc}
 use mathlib.Core.Bool.{Bool, true, false, false≢true}
 use mathlib.Core.Option.{Option, none, some}
 use native.Mathlib.Omega.{arith}
-use native.Mathlib.Nat.{le_refl}
-use native.Mathlib.Numerals.{add-one}
-use lib.ListN.{length, take, drop, set, length-drop}
-use lib.Seq.{take-take, take-add, drop_at, length-take-le, take-suc-set, take-set-le, drop-set-add}
+use lib.ListN.{length, take, drop}
+use lib.Seq.{take-take, take-add, drop_at, length-take-le}
 use Rattle.rules.specs.Faults.{on_found, only_if}
 use Rattle.rules.specs.Records.{row}
 use Rattle.rules.specs.Walk.{path_value, path_values}
@@ -20,12 +18,6 @@ use Rattle.walk.specs.Asks.{Follows}
 use Rattle.walk.proofs.PathLaws.{held_more, held_none}
 
 -- frames
-
-pub bound : (base vars w : ℕ) (s : List ℕ) → base + vars < length s → Bound base vars w s (set s (base + vars) w)
-bound base vars w s h = record {
-  more = rw (add-one, drop-set-add) (take-suc-set (drop base s) vars w (simp length-drop (omega arith)));
-  kept = take-set-le (base + vars) s (base + vars) w (le_refl _);
-}
 
 frame_of : (base vars : ℕ) (s : List ℕ) → base ≤ length s → frame base vars s ≡ drop base (take (base + vars) s)
 frame_of base vars s h = sym (rw take-add (drop_at (take base s) (take vars (drop base s)) base (length-take-le base s h)))

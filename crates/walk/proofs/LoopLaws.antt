@@ -81,12 +81,6 @@ module _ {form : Form} {s : Sources} {at : At} {out₀ s₀ : List ℕ} (formed 
     };
   }
 
-  pub after_level : {here : At} → here ≡ after_at at r → 1 ≤ here.left
-  after_level e = rw e formed.level
-
-  pub after_falls : {here : At} → here ≡ after_at at r → here.fuel - here.steps ≤ at.fuel - at.steps
-  after_falls e = rw e (omega (arith, inv.grown.steps_grow))
-
   -- a node below, and what its visit comes to
   module _ {node element : ℕ} {here there : At} (e₁ : here ≡ after_at at r) (e₂ : there ≡ below_at here node element) where
     pub below_visitable : NodeBelow s.templates at.node node → Visitable s there out sc

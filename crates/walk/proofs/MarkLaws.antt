@@ -164,9 +164,6 @@ pub record Marking (g before classes : List ℕ) (i : ℕ) : Type 0 where
   pub so_far : classes ≡ take i (map (mark_of g) before) ++ drop i before
   pub long : length classes ≡ length before
 
-pub marking_start : (g before : List ℕ) → Marking g before before 0
-marking_start g before = record { few = omega arith; so_far = refl; long = refl }
-
 pub mark_at : (g before : List ℕ) (i : ℕ) → i < length before → get_or (map (mark_of g) before) i 0 ≡ mark_of g (get_or before i 0)
 mark_at g [] i l = absurd (omega arith)
 mark_at g (p ∷ ps) zero l = refl
@@ -214,9 +211,6 @@ module _ {g before classes : List ℕ} {i : ℕ} (h : Marking g before classes i
       copy_all (map (mark_of g) before) classes before i (omega (arith, h.few, length-map before (mark_of g))) (omega (arith, h.long, length-map before (mark_of g))) h.so_far
       ∙ ap (λ (x : List ℕ). map (mark_of g) before ++ x) (drop_of_length-le before {i = length (map (mark_of g) before)} (omega (arith, length-map before (mark_of g))))
       ∙ append-nil (map (mark_of g) before)
-
-  pub some_marked : Marked g before classes (length classes)
-  some_marked = record { each = all_marks; all_used = λ z. h.long; none_used = λ z k. get_or-eq_default classes 0 {n = k} (omega (arith, z)) }
 
   pub none_marked : list_any (λ m. eqb m 1) classes ≡ false → Marked g before classes 0
   none_marked e = record { each = all_marks; all_used = λ z. absurd (z refl); none_used = λ z k. rw all_marks (no_mark g before (rw all_marks at e) k) }

@@ -1,5 +1,5 @@
 -- The arm of a match: the one for its case, with the case's content as the last variable. Assumes nothing.
-use Prim.Native.Nat.{ℕ, zero, suc, ◌+◌, ◌-◌, ◌*◌, ◌≤◌, ◌<◌, ◌^◌}
+use Prim.Native.Nat.{ℕ, zero, suc, ◌+◌, ◌-◌, ◌*◌, ◌≤◌, ◌<◌}
 use mathlib.Core.Path.{◌≡◌, refl, sym, ap, ◌∙◌}
 use mathlib.Core.List.{List, [], ◌∷◌, ◌++◌}
 use mathlib.Core.Option.{none, some}
@@ -53,9 +53,6 @@ module _ {t : List ℕ} {p : ℕ} {head : Record} (f : Fetched t p head) (y : �
   pub an_arm : y < head.d → {b : ℕ} → b ≡ after (field_c t) y (first p) → nth (arms t p) y ≡ some b
   unfolding arms
   an_arm l e = nth_after (field_c t) (field_d t p) (first p) y (omega (arith, f.d)) ∙ ap some (sym e)
-
-pub arm_vars : {s : Sources} {at : At} {out sc : List ℕ} → Formed Match s at out sc → {b : ℕ} {there : At} → there ≡ below_at at b at.element → there.frame.vars < 2 ^ 16
-arm_vars formed e = rw e (omega (arith, formed.visitable.alive))
 
 -- the path of the match finds the value at w, which is a case; its arm is at b
 module _ {s : Sources} {at : At} {out sc : List ℕ} (formed : Formed Match s at out sc) {w : ℕ} (stands : Stands s.value w)

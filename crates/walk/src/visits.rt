@@ -39,10 +39,7 @@ fn branch_of(t: &[u8], node: usize, a: u8) -> usize
     ensures { (result ≡ cond (eqb a 1) (first node) (second t.now node)) × (result ≤ node + 65537) }
 {
     let yes = node + 2;
-    if a == 1 {
-        return yes;
-    }
-    yes + size_at(t, yes)
+    if a == 1 { yes } else { yes + size_at(t, yes) }
 }
 
 // The arm of a match for the case of this number.
@@ -290,9 +287,8 @@ pub fn visit(at: At, s: &Sources<'_>, out: &mut [u8], scratch: &mut [u16]) -> Re
         Form::Place => place(s, out, scratch, here),
         Form::Expand => expand_body(here, head, s, out, scratch),
         Form::If => if_branch(here, s, out, scratch),
-        Form::For => Err(here.stuck()),
         Form::Sequence => sequence_items(here, head, s, out, scratch),
         Form::Match => match_arm(here, head, s, out, scratch),
-        Form::Unknown => Err(here.stuck()),
+        Form::For | Form::Unknown => Err(here.stuck()),
     }
 }

@@ -58,11 +58,12 @@ fn written(at: At, left: usize, long: usize) -> Result<Progress, Stop>
 
 // Whether the text of n bytes after the head at record i of v is written as it stands for an element: it is, unless its position asks for a
 // lexeme of an escaped class. Even there most texts have none of the five.
-fn as_it_stands(g: &[u8], heads: &[u16], element: usize, v: &[u8], i: usize, n: u16) -> bool
-    requires { (stream_length g.now ≡ none) × (ProductionHeads g.now heads.now) × (1 ≤ length heads.now) × (stream_length v.now ≡ none) }
-    ensures { PlaceText g.now element (text_of v.now n i) result }
+fn as_it_stands(s: &Sources<'_>, element: usize, i: usize, n: u16) -> bool
+    requires { (stream_length s.now.grammar.now ≡ none) × (ProductionHeads s.now.grammar.now s.now.production_heads.now) × (1 ≤ length s.now.production_heads.now) × (stream_length s.now.value.now ≡ none) }
+    ensures { PlaceText s.now.grammar.now element (text_of s.now.value.now n i) result }
 {
-    !is_escaped_at(g, heads, element) || is_own_form(v, text_after(v, i, usize::from(n)))
+    !is_escaped_at(s.grammar, s.production_heads, element)
+        || is_own_form(s.value, text_after(s.value, i, usize::from(n)))
 }
 
 // A place writes the text that its path finds: in the position of an escaped class, its escaped form.
@@ -78,14 +79,7 @@ pub fn place(s: &Sources<'_>, out: &mut [u8], scratch: &[u16], at: At) -> Result
     if head.kind != 1 {
         return Err(at.stuck());
     }
-    if as_it_stands(
-        s.grammar,
-        s.production_heads,
-        at.element,
-        s.value,
-        i,
-        head.b,
-    ) {
+    if as_it_stands(s, at.element, i, head.b) {
         write(s.value, i, head.b, out, at)
     } else {
         write_escaped(s.value, i, head.b, out, at)

@@ -17,6 +17,7 @@ use Rattle.walk.proofs.EnterLaws.{falls_there, branch_visitable, branch_visited,
 use Rattle.walk.proofs.MatchLaws.{no_arm, an_arm, arm_there, arm_visitable, arm_falls, arm_visited}
 use Rattle.walk.proofs.EnterLaws.{stopped_visited, form_asked, form_falls, form_here, form_formed, form_visited}
 use mathlib.Core.List.{List}
+use mathlib.Core.Logic.{inl, inr}
 use Rattle.rules.specs.Walk.{End, Asked}
 use Rattle.rules.specs.declared.Form.{Form}
 use Rattle.rules.specs.declared.Form.TheVariants.{For}
@@ -297,13 +298,15 @@ pub visit-returns-in-If : goal.visit-returns-in-If
 visit-returns-in-If t c = let h = (goal.at.visit-returns-in-If t c).After-form_of in visit_visited t h c.in-If.is c.if_branch.ensures
 
 pub visit-returns-in-For : goal.visit-returns-in-For
-visit-returns-in-For t c = let h = (goal.at.visit-returns-in-For t c).After-form_of in visit_visited t h c.in-For.is (visited_stuck c.in_ok-here.here (visit_formed t h c.in-For.is).visitable.room (ap stopped_of c.stuck.ensures) (for_piece _ _ _ _ _ _ _ _ _ _))
+visit-returns-in-For t c =
+    let h = (goal.at.visit-returns-in-For t c).After-form_of in
+    elim c.in-For.is [
+      | inl e ↦ visit_visited t h e (visited_stuck c.in_ok-here.here (visit_formed t h e).visitable.room (ap stopped_of c.stuck.ensures) (for_piece _ _ _ _ _ _ _ _ _ _))
+      | inr e ↦ visit_visited t h e (visited_stuck c.in_ok-here.here (visit_formed t h e).visitable.room (ap stopped_of c.stuck.ensures) (unknown_is _ _ _ _ _ _ _ _ _ _))
+    ]
 
 pub visit-returns-in-Sequence : goal.visit-returns-in-Sequence
 visit-returns-in-Sequence t c = let h = (goal.at.visit-returns-in-Sequence t c).After-form_of in visit_visited t h c.in-Sequence.is c.sequence_items.ensures
 
 pub visit-returns-in-Match : goal.visit-returns-in-Match
 visit-returns-in-Match t c = let h = (goal.at.visit-returns-in-Match t c).After-form_of in visit_visited t h c.in-Match.is c.match_arm.ensures
-
-pub visit-returns-in-Unknown : goal.visit-returns-in-Unknown
-visit-returns-in-Unknown t c = let h = (goal.at.visit-returns-in-Unknown t c).After-form_of in visit_visited t h c.in-Unknown.is (visited_stuck c.in_ok-here.here (visit_formed t h c.in-Unknown.is).visitable.room (ap stopped_of c.stuck-in-Unknown.ensures) (unknown_is _ _ _ _ _ _ _ _ _ _))

@@ -8,6 +8,6 @@ pub returns-then-a-eq1 : goal.returns-then-a-eq1
 unfolding first second
 returns-then-a-eq1 c = (sym (rw (eq-eqb _ _ c.if-a-eq1.true)), omega arith)
 
-pub returns : goal.returns
+pub returns-else-a-eq1 : goal.returns-else-a-eq1
 unfolding first second
-returns c = (sym (rw (ne_eqb _ _ c.if-a-eq1.false, ← c.size_at.ensures.0)), omega (arith, c.size_at.ensures.1))
+returns-else-a-eq1 c = (sym (rw (ne_eqb _ _ c.if-a-eq1.false, ← c.size_at.ensures.0)), omega (arith, c.size_at.ensures.1))
