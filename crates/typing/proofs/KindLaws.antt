@@ -31,6 +31,12 @@ pub entry_lent : (xs : List ℕ) (i : ℕ) (r : Maybe (Bor ℕ)) → IsItemAt xs
 entry_lent xs i None h = sym (nth_none xs i h.3)
 entry_lent xs i (Some x) h = ap some (h.4 (omega arith) 0) ∙ sym (nth_some xs i h.3.0)
 
+pub lent_there : (xs : List ℕ) (i : ℕ) (r : Maybe (Bor ℕ)) {q : Maybe ℕ} {n : ℕ} → IsItemAt xs i r → q ≡ option_copied r → q ≡ Some n → nth xs i ≡ some n
+lent_there xs i r h e k = sym (entry_lent xs i r h) ∙ ap found (sym e ∙ k)
+
+pub lent_missing : (xs : List ℕ) (i : ℕ) (r : Maybe (Bor ℕ)) {q : Maybe ℕ} → IsItemAt xs i r → q ≡ option_copied r → q ≡ None → nth xs i ≡ none
+lent_missing xs i r h e k = sym (entry_lent xs i r h) ∙ ap found (sym e ∙ k)
+
 -- types
 
 pub no_form : (t : List ℕ) (a p : ℕ) → (a ≡ 0 → ⊥) → (a ≡ 1 → ⊥) → (a ≡ 2 → ⊥) → (a ≡ 3 → ⊥) → (a ≡ 4 → ⊥) → no_type ≡ type_numbered t a p

@@ -35,9 +35,12 @@ unfoldable pub row_of : {A : Type 0} → (ℕ → ℕ → A) → (ℕ → ℕ) �
 row_of make size zero i p = []
 row_of make size (suc n) i p = make i p ∷ row_of make size n (i + 1) (p + size p)
 
--- a frame's site
+-- a frame's site, where variables of these types are in scope; and where those are the first of so many numbers
+abbrev pub site_at : List ℕ → Frame → Site
+site_at vars f = record { node = f.node; position = f.position; vars = vars }
+
 abbrev pub site_of : List ℕ → Frame → Site
-site_of scope f = record { node = f.node; position = f.position; vars = take f.count scope }
+site_of scope f = site_at (take f.count scope) f
 
 -- the position of node i of a row, and the entry of the table of asked elements that it is read by
 unfoldable pub position_in : List ℕ → List ℕ → Positions → ℕ → Position

@@ -1,5 +1,5 @@
 // Types by their numbers, and the types that paths find.
-ghost use Rattle.std.specs.Prelude.{◌≡◌, take};
+ghost use Rattle.std.specs.Prelude.{◌≡◌};
 ghost use Rattle.std.proofs.Math.Option.{none};
 ghost use Rattle.rules.specs.Blocks.{stream_length};
 ghost use Rattle.rules.specs.Faults.{on_found};
@@ -7,9 +7,9 @@ ghost use Rattle.rules.specs.Records.{nth};
 ghost use Rattle.rules.specs.Templates.{no_type, type_at, type_of};
 ghost use Rattle.rules.specs.Typing.{field_types, path_type};
 ghost use Rattle.typing.specs.Answers.{found, kind_form};
-ghost use Rattle.typing.specs.Asks.{TypeTable, Scope};
+ghost use Rattle.typing.specs.Asks.{TypeTable};
 
-use crate::{Kind, VARIABLES};
+use crate::Kind;
 use records::path::{step_at, steps_of, variable_of};
 use stream::record::fetch;
 
@@ -62,27 +62,13 @@ fn field_of(t: &[u8], types: &[u16], n: u16, j: u16) -> Option<u16>
     }
 }
 
-// The type of variable k of the first `count`.
-fn variable(scope: &[u16; VARIABLES], count: usize, k: usize) -> Option<u16>
-    requires { Scope scope.now count }
-    ensures { found result ≡ nth (take count scope.now) k }
-{
-    scope[..count].get(k).copied()
-}
-
-// The type that the path at p finds.
-pub fn path_type(
-    t: &[u8],
-    types: &[u16],
-    scope: &[u16; VARIABLES],
-    count: usize,
-    p: usize,
-) -> Option<u16>
-    requires { (TypeTable t.now types.now) × (Scope scope.now count) }
-    ensures { found result ≡ path_type t.now (take count scope.now) p }
+// The type that the path at p finds, from variables of these types.
+pub fn path_type(t: &[u8], types: &[u16], vars: &[u16], p: usize) -> Option<u16>
+    requires { TypeTable t.now types.now }
+    ensures { found result ≡ path_type t.now vars.now p }
 {
     let r = fetch(t, p);
-    let mut ty = variable(scope, count, variable_of(r))?;
+    let mut ty = vars.get(variable_of(r)).copied()?;
     for i in 0..steps_of(r) {
         ty = field_of(t, types, ty, step_at(r, i))?;
     }
@@ -90,11 +76,11 @@ pub fn path_type(
 }
 
 // What the path at p finds: missing, if it finds nothing.
-pub fn path_kind(t: &[u8], types: &[u16], scope: &[u16; VARIABLES], count: usize, p: usize) -> Kind
-    requires { (TypeTable t.now types.now) × (Scope scope.now count) }
-    ensures { kind_form t.now result ≡ on_found (path_type t.now (take count scope.now) p) no_type (type_of t.now) }
+pub fn path_kind(t: &[u8], types: &[u16], vars: &[u16], p: usize) -> Kind
+    requires { TypeTable t.now types.now }
+    ensures { kind_form t.now result ≡ on_found (path_type t.now vars.now p) no_type (type_of t.now) }
 {
-    let Some(n) = path_type(t, types, scope, count, p) else {
+    let Some(n) = path_type(t, types, vars, p) else {
         return Kind::Missing;
     };
     type_of(t, types, n)

@@ -83,8 +83,8 @@ impl Checker<'_> {
         Ok(())
     }
 
-    // Offends at the first node from the frame's on that does not suit its position, where `left` levels are left. A build, an if, a for, a sequence and a match
-    // differ only in the row that stands below them. The node's head comes from the caller: a row needs it too, for the node's size.
+    // Offends at the first node from the frame's on that does not suit its position, where `left` levels are left. A build, an if, a for, a sequence
+    // and a match differ only in the row that stands below them. The node's head comes from the caller: a row needs it too, for the node's size.
     #[cycle(nodes)]
     pub fn check(
         &self,
@@ -103,7 +103,7 @@ impl Checker<'_> {
         if left == 0 {
             return Err(misfit);
         }
-        let Some(below) = self.own_test(scope, f, head) else {
+        let Some(below) = self.own_test(&scope[..f.count], f, head) else {
             return Err(misfit);
         };
         self.row(scope, below, f.count, left - 1)

@@ -1,15 +1,15 @@
 // A node's own test: whether it suits its position, whatever stands below it.
-ghost use Rattle.std.specs.Prelude.{◌≡◌, List, map, ℕ, ◌+◌, ◌<◌, take};
+ghost use Rattle.std.specs.Prelude.{◌≡◌, List, map, ℕ, ◌+◌, ◌<◌};
 ghost use Rattle.rules.specs.Records.{field_b, row};
 ghost use Rattle.rules.specs.Templates.{form_of};
 ghost use Rattle.rules.specs.Typing.{asks_class, asks_nonterminal, asks_repetition, asks_item, arguments_fit, suits_form};
 ghost use Rattle.stream.specs.Record.{Fetched};
-ghost use Rattle.typing.specs.Answers.{found, site_of, leaf_of, Tests};
-ghost use Rattle.typing.specs.Asks.{RoomBelow, Scope};
+ghost use Rattle.typing.specs.Answers.{found, site_at, leaf_of, Tests};
+ghost use Rattle.typing.specs.Asks.{RoomBelow};
 
 use crate::checker::Checker;
 use crate::kinds::{head, path_kind, path_type};
-use crate::{Below, Brings, Frame, Kind, Positions, VARIABLES};
+use crate::{Below, Brings, Frame, Kind, Positions};
 use lexeme::{is_lexeme, source_of};
 use records::node::form_of;
 use rules::{Form, Position};
@@ -69,7 +69,7 @@ fn leaf(ok: bool) -> Option<Below>
 // A sequence: for a repetition. Its nodes are in the position of an item.
 fn suits_sequence(f: Frame, r: Record) -> Option<Below>
     requires { RoomBelow 1 f.node }
-    ensures { (g t asked scope : List ℕ) → Fetched t f.node r → Tests g t asked (site_of scope f) Form.Sequence result }
+    ensures { (g t asked vars : List ℕ) → Fetched t f.node r → Tests g t asked (site_at vars f) Form.Sequence result }
 {
     let n = asks_repetition(f.position)?;
     Some(Below {
@@ -83,7 +83,7 @@ impl Checker<'_> {
     // A build: of a production of its nonterminal, with a child for each element that is no keyword, in that element's position.
     fn suits_build(&self, f: Frame, r: Record) -> Option<Below>
         requires { RoomBelow 1 f.node }
-        ensures { (t scope : List ℕ) → Fetched t f.node r → Tests self.now.g.now t self.now.asked.now (site_of scope f) Form.Build result }
+        ensures { (t vars : List ℕ) → Fetched t f.node r → Tests self.now.g.now t self.now.asked.now (site_at vars f) Form.Build result }
     {
         let n = asks_nonterminal(f.position)?;
         let q = head(self.productions, r.b)?;
@@ -100,7 +100,7 @@ impl Checker<'_> {
 
     // A literal: a lexeme of its class.
     fn suits_literal(&self, f: Frame) -> bool
-        ensures { (scope : List ℕ) → result ≡ suits_form self.now.g.now self.now.t.now Form.Literal (site_of scope f) }
+        ensures { (vars : List ℕ) → result ≡ suits_form self.now.g.now self.now.t.now Form.Literal (site_at vars f) }
     {
         let Some(c) = asks_class(f.position) else {
             return false;
@@ -109,26 +109,26 @@ impl Checker<'_> {
     }
 
     // A place: its path finds a text of that very class, or of the plain class that an escaped class names.
-    fn suits_place(&self, scope: &[u16; VARIABLES], f: Frame) -> bool
-        requires { (RoomBelow 1 f.node) × (Scope scope.now f.count) }
-        ensures { result ≡ suits_form self.now.g.now self.now.t.now Form.Place (site_of scope.now f) }
+    fn suits_place(&self, vars: &[u16], f: Frame) -> bool
+        requires { RoomBelow 1 f.node }
+        ensures { result ≡ suits_form self.now.g.now self.now.t.now Form.Place (site_at vars.now f) }
     {
         let Some(c) = asks_class(f.position) else {
             return false;
         };
-        match path_kind(self.t, self.types, scope, f.count, f.node + 1) {
+        match path_kind(self.t, self.types, vars, f.node + 1) {
             Kind::Text(d) => source_of(self.g, self.classes, c).plain() == d,
             _ => false,
         }
     }
 
     // Whether the n paths of the node find the types of n parameters of the template at q, by their numbers.
-    fn arguments_fit(&self, scope: &[u16; VARIABLES], f: Frame, n: usize, q: usize) -> bool
-        requires { (RoomBelow 1 f.node) × (RoomBelow 1 q) × (n < 65536) × (Scope scope.now f.count) }
-        ensures { result ≡ arguments_fit self.now.t.now (take f.count scope.now) (row n (f.node + 1)) (map (field_b self.now.t.now) (row n (q + 1))) }
+    fn arguments_fit(&self, vars: &[u16], f: Frame, n: usize, q: usize) -> bool
+        requires { (RoomBelow 1 f.node) × (RoomBelow 1 q) × (n < 65536) }
+        ensures { result ≡ arguments_fit self.now.t.now vars.now (row n (f.node + 1)) (map (field_b self.now.t.now) (row n (q + 1))) }
     {
         for i in 0..n {
-            let Some(has) = path_type(self.t, self.types, scope, f.count, f.node + 1 + i) else {
+            let Some(has) = path_type(self.t, self.types, vars, f.node + 1 + i) else {
                 return false;
             };
             let r = fetch(self.t, q + 1 + i);
@@ -140,9 +140,9 @@ impl Checker<'_> {
     }
 
     // An expand: of a template of its nonterminal, with a path for each parameter that finds the parameter's type.
-    fn suits_expand(&self, scope: &[u16; VARIABLES], f: Frame, r: Record) -> bool
-        requires { (RoomBelow 1 f.node) × (Scope scope.now f.count) × (Fetched self.now.t.now f.node r) }
-        ensures { (g : List ℕ) → result ≡ suits_form g self.now.t.now Form.Expand (site_of scope.now f) }
+    fn suits_expand(&self, vars: &[u16], f: Frame, r: Record) -> bool
+        requires { (RoomBelow 1 f.node) × (Fetched self.now.t.now f.node r) }
+        ensures { (g : List ℕ) → result ≡ suits_form g self.now.t.now Form.Expand (site_at vars.now f) }
     {
         let Some(n) = asks_nonterminal(f.position) else {
             return false;
@@ -156,16 +156,16 @@ impl Checker<'_> {
         if p.b != n || r.d != parameters {
             return false;
         }
-        self.arguments_fit(scope, f, usize::from(r.d), q)
+        self.arguments_fit(vars, f, usize::from(r.d), q)
     }
 
     // An if: on a yes/no, for a nonterminal. Both branches are in the position of that nonterminal, whichever will be taken.
-    fn suits_if(&self, scope: &[u16; VARIABLES], f: Frame) -> Option<Below>
-        requires { (RoomBelow 1 f.node) × (Scope scope.now f.count) }
-        ensures { (g asked : List ℕ) → Tests g self.now.t.now asked (site_of scope.now f) Form.If result }
+    fn suits_if(&self, vars: &[u16], f: Frame) -> Option<Below>
+        requires { RoomBelow 1 f.node }
+        ensures { (g asked : List ℕ) → Tests g self.now.t.now asked (site_at vars.now f) Form.If result }
     {
         let n = asks_nonterminal(f.position)?;
-        let Kind::YesNo = path_kind(self.t, self.types, scope, f.count, f.node + 1) else {
+        let Kind::YesNo = path_kind(self.t, self.types, vars, f.node + 1) else {
             return None;
         };
         Some(Below {
@@ -176,12 +176,12 @@ impl Checker<'_> {
     }
 
     // A for: over a list, as an item of a sequence. Its body has one variable more, an item of the list.
-    fn suits_for(&self, scope: &[u16; VARIABLES], f: Frame) -> Option<Below>
-        requires { (RoomBelow 1 f.node) × (Scope scope.now f.count) }
-        ensures { (g asked : List ℕ) → Tests g self.now.t.now asked (site_of scope.now f) Form.For result }
+    fn suits_for(&self, vars: &[u16], f: Frame) -> Option<Below>
+        requires { RoomBelow 1 f.node }
+        ensures { (g asked : List ℕ) → Tests g self.now.t.now asked (site_at vars.now f) Form.For result }
     {
         let n = asks_item(f.position)?;
-        let Kind::Items(ty) = path_kind(self.t, self.types, scope, f.count, f.node + 1) else {
+        let Kind::Items(ty) = path_kind(self.t, self.types, vars, f.node + 1) else {
             return None;
         };
         Some(Below {
@@ -191,14 +191,14 @@ impl Checker<'_> {
         })
     }
 
-    // A match: on a variant, for a nonterminal, with an arm for each case. All arms are in the position of that nonterminal, whichever will be taken, and
-    // each has one variable more, the content of its case.
-    fn suits_match(&self, scope: &[u16; VARIABLES], f: Frame, r: Record) -> Option<Below>
-        requires { (RoomBelow 1 f.node) × (Scope scope.now f.count) × (Fetched self.now.t.now f.node r) }
-        ensures { (g asked : List ℕ) → Tests g self.now.t.now asked (site_of scope.now f) Form.Match result }
+    // A match: on a variant, for a nonterminal, with an arm for each case. All arms are in the position of that nonterminal, whichever will be taken,
+    // and each has one variable more, the content of its case.
+    fn suits_match(&self, vars: &[u16], f: Frame, r: Record) -> Option<Below>
+        requires { (RoomBelow 1 f.node) × (Fetched self.now.t.now f.node r) }
+        ensures { (g asked : List ℕ) → Tests g self.now.t.now asked (site_at vars.now f) Form.Match result }
     {
         let n = asks_nonterminal(f.position)?;
-        let Kind::Cases(h, d) = path_kind(self.t, self.types, scope, f.count, f.node + 1) else {
+        let Kind::Cases(h, d) = path_kind(self.t, self.types, vars, f.node + 1) else {
             return None;
         };
         if d != r.d {
@@ -212,19 +212,19 @@ impl Checker<'_> {
     }
 
     // A node's own test, from its head r, by its form: whether it suits its position, and what stands below it.
-    pub fn own_test(&self, scope: &[u16; VARIABLES], f: Frame, r: Record) -> Option<Below>
-        requires { (RoomBelow 1 f.node) × (Scope scope.now f.count) × (Fetched self.now.t.now f.node r) }
-        ensures { Tests self.now.g.now self.now.t.now self.now.asked.now (site_of scope.now f) (form_of self.now.t.now f.node) result }
+    pub fn own_test(&self, vars: &[u16], f: Frame, r: Record) -> Option<Below>
+        requires { (RoomBelow 1 f.node) × (Fetched self.now.t.now f.node r) }
+        ensures { Tests self.now.g.now self.now.t.now self.now.asked.now (site_at vars.now f) (form_of self.now.t.now f.node) result }
     {
         match form_of(r) {
             Form::Build => self.suits_build(f, r),
             Form::Literal => leaf(self.suits_literal(f)),
-            Form::Place => leaf(self.suits_place(scope, f)),
-            Form::Expand => leaf(self.suits_expand(scope, f, r)),
-            Form::If => self.suits_if(scope, f),
-            Form::For => self.suits_for(scope, f),
+            Form::Place => leaf(self.suits_place(vars, f)),
+            Form::Expand => leaf(self.suits_expand(vars, f, r)),
+            Form::If => self.suits_if(vars, f),
+            Form::For => self.suits_for(vars, f),
             Form::Sequence => suits_sequence(f, r),
-            Form::Match => self.suits_match(scope, f, r),
+            Form::Match => self.suits_match(vars, f, r),
             Form::Unknown => None,
         }
     }

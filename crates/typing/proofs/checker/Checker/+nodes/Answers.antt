@@ -9,8 +9,11 @@ use Rattle.typing.proofs.checker.Checker.+nodes.Goals as goal
 pub check-returns-then-left-eq0 : goal.check-returns-then-left-eq0
 check-returns-then-left-eq0 t c = checked_own _ c.requires.1 (misfit_deep _ _ _ _ c.if-left-eq0.true)
 
+pub check-shared_ref_as_front-own_test : goal.check-shared_ref_as_front-own_test
+check-shared_ref_as_front-own_test t c = omega (arith, c.requires.1, ready_few c.if-left-eq0.false c.requires.0)
+
 pub check-own_test-requires : goal.check-own_test-requires
-check-own_test-requires t c = (omega (arith, c.requires.0.near, c.if-left-eq0.false), (record { full = c.requires.1; few = ready_few c.if-left-eq0.false c.requires.0 }), c.requires.2)
+check-own_test-requires t c = (omega (arith, c.requires.0.near, c.if-left-eq0.false), c.requires.2)
 
 pub check-returns-in_default : goal.check-returns-in_default
 check-returns-in_default t c = checked_own _ c.requires.1 (misfit_own _ _ _ _ c.if-left-eq0.false (c.own_test.ensures.fails c.in_default.is))

@@ -15,8 +15,8 @@ returns-in_default c = λ g asked. unsuited (match_other g _ _ _ c.path_kind.ens
 
 pub returns-then-d-r : goal.returns-then-d-r
 unfolding case_types
-returns-then-d-r c = λ g asked. unsuited (match_counts g _ _ _ c.in-Cases.ensures _ (sym c.in_ok-n.ensures) _ _ refl _ c.requires.2.d (λ z. omega (arith, c.if-d-r.true, z)))
+returns-then-d-r c = λ g asked. unsuited (match_counts g _ _ _ c.in-Cases.ensures _ (sym c.in_ok-n.ensures) _ _ refl _ c.requires.1.d (λ z. omega (arith, c.if-d-r.true, z)))
 
 pub returns : goal.returns
 unfolding case_types
-returns c = λ g asked. let l : c.args.r.d < 65536 = omega arith in rw c.from.ensures (suited (match_is g _ _ _ c.in-Cases.ensures _ (sym c.in_ok-n.ensures) _ _ refl _ c.requires.2.d asked c.if-d-r.false l))
+returns c = λ g asked. let l : c.args.r.d < 65536 = omega arith in rw c.from.ensures (suited (match_is g _ _ _ c.in-Cases.ensures _ (sym c.in_ok-n.ensures) _ _ refl _ c.requires.1.d asked c.if-d-r.false l))

@@ -1,5 +1,0 @@
-use Rattle.typing.proofs.KindLaws.{entry_lent}
-use Rattle.typing.proofs.kinds.variable.Goals as goal
-
-pub returns : goal.returns
-returns c = rw c.copied.ensures (entry_lent _ _ _ c.get.ensures.lookup)
