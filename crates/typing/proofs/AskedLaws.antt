@@ -9,14 +9,15 @@ use lib.ListN.{length}
 use lib.Dec.{eqb}
 use borrow.Author.Tests.{ne_eqb}
 use Rattle.rules.specs.Records.{field_a, field_b, nth}
-use Rattle.rules.specs.Grammar.{productions, Element, element_numbered, element_at, element_heads, elements}
+use Rattle.rules.specs.Grammar.{Element, element_numbered, element_at, element_heads, elements}
 use Rattle.rules.specs.Typing.{positions}
 use Rattle.rules.specs.declared.Position.{Position}
 use Rattle.rules.specs.declared.Position.TheVariants.{Repetition, Nothing}
 use Rattle.stream.specs.declared.record.Record.{Record}
 use Rattle.stream.specs.Record.{Fetched}
 use Rattle.laws.specs.Lists.{length_map}
-use Rattle.typing.specs.Asked.{asked_among, asked_of, position_numbered, position_at, AskedRow, AskedFilled}
+use Rattle.typing.specs.Asks.{BuildAsks}
+use Rattle.typing.specs.Asked.{asked_among, asked_of, position_numbered, position_at, AskedRow}
 
 -- the positions of a production are those of its asked elements
 
@@ -50,8 +51,8 @@ pub positions_count : (g : List ℕ) (q : ℕ) → length (positions (elements g
 positions_count g q = ap length (positions_are g q) ∙ length_map (position_at g) (asked_of g q)
 
 -- the row of a production that was found by its number
-pub row_of : (g hs asked : List ℕ) → hs ≡ productions g → AskedFilled g asked → (k q : ℕ) → nth hs k ≡ some q → AskedRow g asked q
-row_of g hs asked e f k q h = f.rows k q (rw e at h)
+pub asked_row : {g hs asked : List ℕ} → BuildAsks g hs asked → (k q : ℕ) → nth hs k ≡ some q → AskedRow g asked q
+asked_row B k q h = B.filled.rows k q (rw B.productions_are at h)
 
 -- an element by its number a: a repetition with a separator or without, a keyword, a form that there isn't
 repetition_numbered : (a b : ℕ) → 3 ≤ a → a < 5 → Repetition b ≡ position_numbered a b

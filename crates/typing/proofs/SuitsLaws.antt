@@ -16,21 +16,25 @@ use Rattle.rules.specs.Faults.{on_found, exists}
 use Rattle.rules.specs.Records.{field_b, field_c, field_d, text_of, heads, row, nth}
 use Rattle.rules.specs.Lexeme.{is_lexeme}
 use Rattle.rules.specs.Limits.{loops_below}
-use Rattle.rules.specs.Grammar.{plain_of, productions, production}
-use Rattle.rules.specs.Templates.{TypeForm, no_type, type_of, form_of, nodes, path, first, second, nodes_of}
+use Rattle.rules.specs.Grammar.{plain_of, production}
+use Rattle.rules.specs.Templates.{TypeForm, no_type, type_of, form_numbered, form_of, nodes, path, first, second, nodes_of}
 use Rattle.rules.specs.Typing.{Site, site, asks_class, asks_nonterminal, asks_repetition, asks_item, text_class, is_yes_no, item_type, path_type, suits_form, sites, sites_of}
 use Rattle.rules.specs.declared.Form.{Form}
 use Rattle.rules.specs.declared.Form.TheVariants.{Build, Literal, Place, Expand, If, For, Sequence}
 use Rattle.rules.specs.declared.Position.{Position}
 use Rattle.rules.specs.declared.Position.TheVariants.{Nonterminal, Item}
 use Rattle.laws.specs.Faults.{on_some, on_none}
+use Rattle.stream.specs.Record.{Fetched}
+use Rattle.stream.specs.declared.record.Record.{Record}
+use Rattle.records.proofs.NodeLaws.{form_is}
 use Rattle.typing.specs.Answers.{row_of, position_in, entry_of, brings_of, brought, bindings, site_in, Suited, Tests, leaf_of}
 use Rattle.typing.specs.Asked.{asked_of, position_at, AskedRow}
+use Rattle.typing.specs.Asks.{BuildAsks}
 use Rattle.typing.specs.declared.Below.{Below}
 use Rattle.typing.specs.declared.Brings.TheVariants as brings
 use Rattle.typing.specs.declared.Brings.TheVariants.{Nothing}
 use Rattle.typing.specs.declared.Positions.TheVariants.{Alike, Asked}
-use Rattle.typing.proofs.AskedLaws.{positions_are, positions_count}
+use Rattle.typing.proofs.AskedLaws.{positions_are, positions_count, asked_row}
 use Rattle.typing.proofs.RowLaws.{map_row}
 
 -- the two answers
@@ -46,8 +50,9 @@ module _ {g t asked : List ℕ} {x : Site} {F : Form} where
   }
 
 -- the test by the form that was read
-pub by_form : {g t asked : List ℕ} {x : Site} {r : Maybe Below} {F G : Form} → F ≡ form_of t x.node → F ≡ G → Tests g t asked x G r → Tests g t asked x (form_of t x.node) r
-by_form {g} {t} {asked} {x} {r} e h k = subst (λ (F : Form). Tests g t asked x F r) (sym h ∙ e) k
+pub by_form : {g t asked : List ℕ} {x : Site} {head : Record} {r : Maybe Below} {F G : Form} → Fetched t x.node head → F ≡ form_numbered head.a → F ≡ G
+    → Tests g t asked x G r → Tests g t asked x (form_of t x.node) r
+by_form {g} {t} {asked} {x} {r} f e h k = subst (λ (F : Form). Tests g t asked x F r) (sym h ∙ form_is t x.node _ f _ e) k
 
 -- a node that has nothing below it
 
@@ -117,31 +122,32 @@ module _ (g t : List ℕ) (x : Site) where
   unfolding suits_form
   build_nothing h = on_none false _ h
 
-  module _ (n : ℕ) (asks : asks_nonterminal x.position ≡ some n) (hs : List ℕ) (he : hs ≡ productions g) (k : ℕ) (hk : k ≡ field_b t x.node) where
+  module _ (n : ℕ) (asks : asks_nonterminal x.position ≡ some n) {hs asked : List ℕ} (B : BuildAsks g hs asked) (k : ℕ) (hk : k ≡ field_b t x.node) where
     pub build_missing : nth hs k ≡ none → suits_form g t Build x ≡ false
     unfolding suits_form production
-    build_missing h = on_some false _ asks ∙ on_none false _ (rw (← hk, ← he) h)
+    build_missing h = on_some false _ asks ∙ on_none false _ (rw (← hk, ← B.productions_are) h)
 
     module _ (q : ℕ) (hq : nth hs k ≡ some q) (b : ℕ) (hb : b ≡ field_b g q) where
       build_found : suits_form g t Build x ≡ (eqb b n && eqb (length (asked_of g q)) (field_d t x.node))
       unfolding suits_form production
-      build_found = on_some false _ asks ∙ on_some {a = q} false _ (rw (← hk, ← he) hq) ∙ rw (← hb, positions_count g q)
+      build_found = on_some false _ asks ∙ on_some {a = q} false _ (rw (← hk, ← B.productions_are) hq) ∙ rw (← hb, positions_count g q)
 
       pub build_other : (b ≡ n → ⊥) → suits_form g t Build x ≡ false
       build_other h = build_found ∙ rw (ne_eqb _ _ h)
 
-      module _ (same : b ≡ n) {asked : List ℕ} (row : AskedRow g asked q) (d : ℕ) (hd : d ≡ field_d t x.node) where
+      module _ (same : b ≡ n) (d : ℕ) (hd : d ≡ field_d t x.node) where
         pub build_counts : (get_or asked q 0 ≡ d → ⊥) → suits_form g t Build x ≡ false
-        build_counts h = build_found ∙ rw (eq-eqb _ _ same, ← hd, ← row.count, ne_eqb _ _ h)
+        build_counts h = let row = asked_row B k q hq in build_found ∙ rw (eq-eqb _ _ same, ← hd, ← row.count, ne_eqb _ _ h)
 
         pub build_is : get_or asked q 0 ≡ d → d < 65536 → Suited g t asked x Build (record { first = x.node + 1; count = d; positions = Asked q })
         unfolding sites_of production nodes nodes_of loops_below brings_of brought entry_of
         build_is h l =
+            let row = asked_row B k q hq in
             let e : length (asked_of g q) ≡ d = sym row.count ∙ h in
             record {
               own = build_found ∙ rw (eq-eqb _ _ same, ← hd, eq-eqb _ _ e);
               sites_are =
-                  on_some {a = q} [] _ (rw (← hk, ← he) hq)
+                  on_some {a = q} [] _ (rw (← hk, ← B.productions_are) hq)
                   ∙ rw (positions_are g q, ← hd, ← e) (children_row g t x.vars _ (asked_of g q) 0 (x.node + 1) (child_in g t asked x.vars q row));
               nodes_are = rw hd;
               loops_are = λ m. sym (add-zero m);

@@ -13,7 +13,7 @@ use Rattle.std.specs.Prelude.{Result, Ok, Err}
 use Rattle.rules.specs.Faults.{every, on_found, only_if, exists, at}
 use Rattle.rules.specs.Records.{kind_of, field_a, field_b, field_d, text_of, heads, row, nth}
 use Rattle.rules.specs.Lexeme.{is_plain_lexeme}
-use Rattle.rules.specs.Templates.{list, fields, cases, type_of}
+use Rattle.rules.specs.Templates.{text, yes_no, list, fields, cases, no_type, type_of}
 use Rattle.rules.specs.Value.{value_size, children, content, as_text, as_yes_no, as_list, as_record, as_case}
 use Rattle.rules.specs.Limits.{deepest}
 use Rattle.rules.specs.Typing.{Typed, typed, has_form, has_type, paired, typed_of, typed_below, mistyped, declared_type, value_typing}
@@ -37,58 +37,55 @@ use Rattle.typing.proofs.RowLaws.{map_row, turns_start, turns_done, turns_more}
 
 -- the value's own test, by the kind of its type
 
-pub by_kind : (g v t : List ℕ) (w : ℕ) {K L : Kind} → K ≡ L → has_form g v (kind_form t L) w ≡ has_form g v (kind_form t K) w
-by_kind g v t w h = ap (λ (M : Kind). has_form g v (kind_form t M) w) (sym h)
-
-pub missing_is : (g v t : List ℕ) (w : ℕ) → false ≡ has_form g v (kind_form t Missing) w
+pub missing_is : (g v : List ℕ) (w : ℕ) → false ≡ has_form g v no_type w
 unfolding has_form
-missing_is g v t w = refl
+missing_is g v w = refl
 
-module _ (g v t : List ℕ) (w : ℕ) (r : Record) (f : Fetched v w r) where
-  text_is : (c : ℕ) → r.kind ≡ 1 → is_plain_lexeme g c (text_of v (field_b v w) w) ≡ has_form g v (kind_form t (Text c)) w
+module _ (g v : List ℕ) (w : ℕ) (r : Record) (f : Fetched v w r) where
+  text_is : (c : ℕ) → r.kind ≡ 1 → is_plain_lexeme g c (text_of v (field_b v w) w) ≡ has_form g v (text c) w
   unfolding has_form as_text on_found only_if
   text_is c h = sym (rw (eq-eqb _ _ (sym f.kind ∙ h)))
 
   -- the same of the text as it was read, which comes from a plain class
   pub text_read : (c : ℕ) (x : StreamText) {n : ℕ} → Begins v (text_of v r.b w) n x → r.kind ≡ 1
-      → admitted g (Plain c) (text_in v x) ≡ has_form g v (kind_form t (Text c)) w
+      → admitted g (Plain c) (text_in v x) ≡ has_form g v (text c) w
   text_read c x b h = admitted_plain g c (text_in v x) ∙ ap (is_plain_lexeme g c) (b.text ∙ ap (λ (n : ℕ). text_of v n w) f.b) ∙ text_is c h
 
-  pub text_other : (c : ℕ) → (r.kind ≡ 1 → ⊥) → false ≡ has_form g v (kind_form t (Text c)) w
+  pub text_other : (c : ℕ) → (r.kind ≡ 1 → ⊥) → false ≡ has_form g v (text c) w
   unfolding has_form as_text on_found only_if
   text_other c h = sym (rw (ne_eqb _ _ (λ e. h (f.kind ∙ e))))
 
-  pub yes_no_is : eqb r.kind 2 ≡ has_form g v (kind_form t YesNo) w
+  pub yes_no_is : eqb r.kind 2 ≡ has_form g v yes_no w
   unfolding has_form as_yes_no
   yes_no_is = rw f.kind (sym (if_exists _ _))
 
-  pub items_is : (ty : ℕ) → eqb r.kind 3 ≡ has_form g v (kind_form t (Items ty)) w
+  pub items_is : (ty : ℕ) → eqb r.kind 3 ≡ has_form g v (list ty) w
   unfolding has_form as_list
   items_is ty = rw f.kind (sym (if_exists _ _))
 
-  pub fields_is : (h n : ℕ) → r.kind ≡ 4 → eqb r.d n ≡ has_form g v (kind_form t (Fields h n)) w
+  pub fields_is : (t : List ℕ) (h n : ℕ) → r.kind ≡ 4 → eqb r.d n ≡ has_form g v (kind_form t (Fields h n)) w
   unfolding has_form as_record on_found only_if children row
-  fields_is h n e = sym (rw (eq-eqb _ _ (sym f.kind ∙ e), length_heads, length_map, length_heads, ← f.d))
+  fields_is t h n e = sym (rw (eq-eqb _ _ (sym f.kind ∙ e), length_heads, length_map, length_heads, ← f.d))
 
-  pub fields_other : (h n : ℕ) → (r.kind ≡ 4 → ⊥) → false ≡ has_form g v (kind_form t (Fields h n)) w
+  pub fields_other : (t : List ℕ) (h n : ℕ) → (r.kind ≡ 4 → ⊥) → false ≡ has_form g v (kind_form t (Fields h n)) w
   unfolding has_form as_record on_found only_if
-  fields_other h n e = sym (rw (ne_eqb _ _ (λ k. e (f.kind ∙ k))))
+  fields_other t h n e = sym (rw (ne_eqb _ _ (λ k. e (f.kind ∙ k))))
 
-  cases_there : (h n a : ℕ) → exists (nth (map (field_b t) (row n (h + 1))) a) ≡ ltb a n
+  cases_there : (t : List ℕ) (h n a : ℕ) → exists (nth (map (field_b t) (row n (h + 1))) a) ≡ ltb a n
   unfolding exists
-  cases_there h n a = go (ltb a n) refl
+  cases_there t h n a = go (ltb a n) refl
     where
       go : (b : Bool) → ltb a n ≡ b → exists (nth (map (field_b t) (row n (h + 1))) a) ≡ b
       go true e = rw (row_some (field_b t) n (h + 1) a (ltb-true a n e))
       go false e = rw (row_none (field_b t) n (h + 1) a (ltb-false a n e))
 
-  pub cases_is : (h n : ℕ) → r.kind ≡ 5 → ltb r.a n ≡ has_form g v (kind_form t (Cases h n)) w
+  pub cases_is : (t : List ℕ) (h n : ℕ) → r.kind ≡ 5 → ltb r.a n ≡ has_form g v (kind_form t (Cases h n)) w
   unfolding has_form as_case on_found only_if
-  cases_is h n e = sym (rw (eq-eqb _ _ (sym f.kind ∙ e), ← f.a) (cases_there h n r.a))
+  cases_is t h n e = sym (rw (eq-eqb _ _ (sym f.kind ∙ e), ← f.a) (cases_there t h n r.a))
 
-  pub cases_other : (h n : ℕ) → (r.kind ≡ 5 → ⊥) → false ≡ has_form g v (kind_form t (Cases h n)) w
+  pub cases_other : (t : List ℕ) (h n : ℕ) → (r.kind ≡ 5 → ⊥) → false ≡ has_form g v (kind_form t (Cases h n)) w
   unfolding has_form as_case on_found only_if
-  cases_other h n e = sym (rw (ne_eqb _ _ (λ k. e (f.kind ∙ k))))
+  cases_other t h n e = sym (rw (ne_eqb _ _ (λ k. e (f.kind ∙ k))))
 
 -- what stands below a value
 
@@ -172,8 +169,8 @@ below_are g t v w r f (Cases h n) e = go (eqb r.kind 5) refl
     go : (b : Bool) → eqb r.kind 5 ≡ b → typed (field_b t (h + 1 + r.a)) (w + 1) ∷ [] ≡ typed_of v (cases (map (field_b t) (row n (h + 1)))) w
     go true k =
         let z : r.kind ≡ 5 = eqb-true _ _ k in
-        case_below t v h n w r.a (sym f.kind ∙ z) f.a (ltb-true _ _ (cases_is g v t w r f h n z ∙ e))
-    go false k = absurd (false≢true (cases_other g v t w r f h n (eqb-false _ _ k) ∙ e))
+        case_below t v h n w r.a (sym f.kind ∙ z) f.a (ltb-true _ _ (cases_is g v w r f t h n z ∙ e))
+    go false k = absurd (false≢true (cases_other g v w r f t h n (eqb-false _ _ k) ∙ e))
 below_are g t v w r f Missing e = refl
 
 -- a row of values, turn by turn: what is left after i of n. The next of them is child i of a value of kind K

@@ -82,8 +82,8 @@ fn suits_sequence(f: Frame, r: Record) -> Option<Below>
 impl Checker<'_> {
     // A build: of a production of its nonterminal, with a child for each element that is no keyword, in that element's position.
     fn suits_build(&self, f: Frame, r: Record) -> Option<Below>
-        requires { RoomBelow 1 f.node }
-        ensures { (t vars : List ℕ) → Fetched t f.node r → Tests self.now.g.now t self.now.asked.now (site_at vars f) Form.Build result }
+        requires { (RoomBelow 1 f.node) × (Fetched self.now.t.now f.node r) }
+        ensures { (vars : List ℕ) → Tests self.now.g.now self.now.t.now self.now.asked.now (site_at vars f) Form.Build result }
     {
         let n = asks_nonterminal(f.position)?;
         let q = head(self.productions, r.b)?;
@@ -142,7 +142,7 @@ impl Checker<'_> {
     // An expand: of a template of its nonterminal, with a path for each parameter that finds the parameter's type.
     fn suits_expand(&self, vars: &[u16], f: Frame, r: Record) -> bool
         requires { (RoomBelow 1 f.node) × (Fetched self.now.t.now f.node r) }
-        ensures { (g : List ℕ) → result ≡ suits_form g self.now.t.now Form.Expand (site_at vars.now f) }
+        ensures { result ≡ suits_form self.now.g.now self.now.t.now Form.Expand (site_at vars.now f) }
     {
         let Some(n) = asks_nonterminal(f.position) else {
             return false;
@@ -162,7 +162,7 @@ impl Checker<'_> {
     // An if: on a yes/no, for a nonterminal. Both branches are in the position of that nonterminal, whichever will be taken.
     fn suits_if(&self, vars: &[u16], f: Frame) -> Option<Below>
         requires { RoomBelow 1 f.node }
-        ensures { (g asked : List ℕ) → Tests g self.now.t.now asked (site_at vars.now f) Form.If result }
+        ensures { Tests self.now.g.now self.now.t.now self.now.asked.now (site_at vars.now f) Form.If result }
     {
         let n = asks_nonterminal(f.position)?;
         let Kind::YesNo = path_kind(self.t, self.types, vars, f.node + 1) else {
@@ -178,7 +178,7 @@ impl Checker<'_> {
     // A for: over a list, as an item of a sequence. Its body has one variable more, an item of the list.
     fn suits_for(&self, vars: &[u16], f: Frame) -> Option<Below>
         requires { RoomBelow 1 f.node }
-        ensures { (g asked : List ℕ) → Tests g self.now.t.now asked (site_at vars.now f) Form.For result }
+        ensures { Tests self.now.g.now self.now.t.now self.now.asked.now (site_at vars.now f) Form.For result }
     {
         let n = asks_item(f.position)?;
         let Kind::Items(ty) = path_kind(self.t, self.types, vars, f.node + 1) else {
@@ -195,7 +195,7 @@ impl Checker<'_> {
     // and each has one variable more, the content of its case.
     fn suits_match(&self, vars: &[u16], f: Frame, r: Record) -> Option<Below>
         requires { (RoomBelow 1 f.node) × (Fetched self.now.t.now f.node r) }
-        ensures { (g asked : List ℕ) → Tests g self.now.t.now asked (site_at vars.now f) Form.Match result }
+        ensures { Tests self.now.g.now self.now.t.now self.now.asked.now (site_at vars.now f) Form.Match result }
     {
         let n = asks_nonterminal(f.position)?;
         let Kind::Cases(h, d) = path_kind(self.t, self.types, vars, f.node + 1) else {

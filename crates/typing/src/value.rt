@@ -1,5 +1,5 @@
 // Refusal 8: the value against its declared type.
-ghost use Rattle.std.specs.Prelude.{◌≡◌, List, ℕ, ◌<◌};
+ghost use Rattle.std.specs.Prelude.{◌≡◌, ◌<◌};
 ghost use Rattle.std.proofs.Math.Option.{none};
 ghost use Rattle.rules.specs.Blocks.{stream_length};
 ghost use Rattle.rules.specs.Faults.{every, at};
@@ -58,7 +58,7 @@ impl ValueChecker<'_> {
     // Whether the value at w, whose record is r, is of a kind, whatever stands below it.
     fn has_form(&self, kind: Kind, w: usize, r: Record) -> bool
         requires { Fetched self.now.v.now w r }
-        ensures { (t : List ℕ) → result ≡ has_form self.now.g.now self.now.v.now (kind_form t kind) w }
+        ensures { result ≡ has_form self.now.g.now self.now.v.now (kind_form self.now.t.now kind) w }
     {
         match kind {
             Kind::Text(c) => {

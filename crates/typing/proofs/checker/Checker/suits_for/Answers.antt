@@ -5,11 +5,11 @@ use Rattle.typing.proofs.SuitsLaws.{unsuited, suited, for_nothing, for_other, fo
 use Rattle.typing.proofs.checker.Checker.suits_for.Goals as goal
 
 pub returns-in_err-n : goal.returns-in_err-n
-returns-in_err-n c = λ g asked. rw c.from_residual.ensures (unsuited (for_nothing g _ _ (sym c.in_err-n.ensures)))
+returns-in_err-n c = rw c.from_residual.ensures (unsuited (for_nothing _ _ _ (sym c.in_err-n.ensures)))
 
 pub returns-in_default : goal.returns-in_default
-returns-in_default c = λ g asked. unsuited (for_other g _ _ _ c.path_kind.ensures _ (sym c.in_ok-n.ensures) (no_items _ _ c.in_default.not-Items))
+returns-in_default c = unsuited (for_other _ _ _ _ c.path_kind.ensures _ (sym c.in_ok-n.ensures) (no_items _ _ c.in_default.not-Items))
 
 pub returns : goal.returns
 unfolding item_type
-returns c = λ g asked. suited (for_is g _ _ _ c.in-Items.ensures _ (sym c.in_ok-n.ensures) asked _ refl)
+returns c = suited (for_is _ _ _ _ c.in-Items.ensures _ (sym c.in_ok-n.ensures) _ _ refl)

@@ -8,15 +8,15 @@ use Rattle.typing.proofs.SuitsLaws.{unsuited, suited}
 use Rattle.typing.proofs.checker.Checker.suits_match.Goals as goal
 
 pub returns-in_err-n : goal.returns-in_err-n
-returns-in_err-n c = λ g asked. rw c.from_residual.ensures (unsuited (match_nothing g _ _ (sym c.in_err-n.ensures)))
+returns-in_err-n c = rw c.from_residual.ensures (unsuited (match_nothing _ _ _ (sym c.in_err-n.ensures)))
 
 pub returns-in_default : goal.returns-in_default
-returns-in_default c = λ g asked. unsuited (match_other g _ _ _ c.path_kind.ensures _ (sym c.in_ok-n.ensures) (no_cases _ _ c.in_default.not-Cases))
+returns-in_default c = unsuited (match_other _ _ _ _ c.path_kind.ensures _ (sym c.in_ok-n.ensures) (no_cases _ _ c.in_default.not-Cases))
 
 pub returns-then-d-r : goal.returns-then-d-r
 unfolding case_types
-returns-then-d-r c = λ g asked. unsuited (match_counts g _ _ _ c.in-Cases.ensures _ (sym c.in_ok-n.ensures) _ _ refl _ c.requires.1.d (λ z. omega (arith, c.if-d-r.true, z)))
+returns-then-d-r c = unsuited (match_counts _ _ _ _ c.in-Cases.ensures _ (sym c.in_ok-n.ensures) _ _ refl _ c.requires.1.d (λ z. omega (arith, c.if-d-r.true, z)))
 
 pub returns : goal.returns
 unfolding case_types
-returns c = λ g asked. let l : c.args.r.d < 65536 = omega arith in rw c.from.ensures (suited (match_is g _ _ _ c.in-Cases.ensures _ (sym c.in_ok-n.ensures) _ _ refl _ c.requires.1.d asked c.if-d-r.false l))
+returns c = let l : c.args.r.d < 65536 = omega arith in rw c.from.ensures (suited (match_is _ _ _ _ c.in-Cases.ensures _ (sym c.in_ok-n.ensures) _ _ refl _ c.requires.1.d _ c.if-d-r.false l))
