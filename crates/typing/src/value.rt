@@ -62,7 +62,7 @@ impl ValueChecker<'_> {
     {
         match kind {
             Kind::Text(c) => {
-                let text = text_after(self.v, w, r.b as usize);
+                let text = text_after(self.v, w, usize::from(r.b));
                 r.kind == 1
                     && admits(
                         self.g,
