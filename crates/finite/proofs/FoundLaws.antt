@@ -7,7 +7,7 @@ use mathlib.Core.Logic.{inl, inr}
 use mathlib.Core.Option.{none, some, some-injective}
 use native.Mathlib.Omega.{arith}
 use native.Mathlib.Nat.{zero-div}
-use lib.ListN.{length, get_or, replicate, drop, get_or-eq_default, get_or-replicate, length-replicate}
+use lib.ListN.{length, get_or, replicate, get_or-eq_default, get_or-replicate, length-replicate}
 use lib.Dec.{eqb, ltb}
 use borrow.Author.Tests.{eqb-true, eqb-false, ltb-true, ltb-false}
 use Rattle.std.specs.Prelude.{Result, Ok, Err}
@@ -199,7 +199,3 @@ none_unfound g found s e = sym (in_every _ _ λ p i. (need_iff _ p).1 (s.derives
 
 pub first_is_ok : (g found : List ℕ) {T : Type 0} (r : Result T ℕ) → Sound g found → fault_of r ≡ unfound g found → is_ok r ≡ true → none ≡ grammar_finite g
 first_is_ok g found r s e k = none_unfound g found s (sym (none_found r k ∙ e))
-
-pub unfound_all : (g ps found : List ℕ) → ps ≡ productions g → every (λ p. need (is_marked found (field_b g p)) p) (drop 0 ps) ≡ unfound g found
-unfolding unfound
-unfound_all g ps found e = rw (← e)

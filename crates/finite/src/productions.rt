@@ -11,6 +11,7 @@ use records::element::size_of;
 use stream::record::{Record, fetch};
 
 // Whether the element at e derives a text. A repetition may be empty.
+#[tactic(auto, unfolding(rules::specs::Finite::derivable, rules::specs::Grammar::element_at, rules::specs::Grammar::element_numbered))]
 fn is_derivable(g: &[u8], e: usize, element: Record, lexemes: &[bool], found: &[u64; WORDS]) -> bool
     requires { ElementAsks g.now lexemes.now e element }
     ensures { result ≡ derivable g.now (is_marked found.now) (element_at g.now e) }

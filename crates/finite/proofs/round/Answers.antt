@@ -4,7 +4,7 @@ use mathlib.Core.Path.{◌≡◌, sym, ◌∙◌}
 use lib.ListN.{length}
 use native.Mathlib.Omega.{arith}
 use Rattle.finite.specs.Found.{turned}
-use Rattle.finite.proofs.FoundLaws.{in_table, rounding_start, rounding_next, rounding_done}
+use Rattle.finite.proofs.FoundLaws.{in_table, rounding_next, rounding_done}
 use Rattle.finite.proofs.round.Goals as goal
 use Rattle.finite.proofs.round.Goals.{then-back, else-back}
 

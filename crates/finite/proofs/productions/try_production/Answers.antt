@@ -2,7 +2,7 @@
 use mathlib.Core.Path.{sym, ◌∙◌}
 use native.Mathlib.Omega.{arith}
 use Rattle.finite.proofs.DerivableLaws.{none_left, some_left}
-use Rattle.finite.proofs.FoundLaws.{tried_known, tried_waiting, tried_found}
+use Rattle.finite.proofs.FoundLaws.{tried_waiting, tried_found}
 use Rattle.finite.proofs.productions.try_production.Goals as goal
 
 pub returns-then-rest-gt0 : goal.returns-then-rest-gt0
