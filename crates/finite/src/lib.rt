@@ -70,35 +70,21 @@ fn first_unfound(g: &[u8], productions: &[u16], found: &[u64; WORDS]) -> Result<
     Ok(())
 }
 
-// What one round from the last production to the first has left over: another the other way round, and then the lists.
-fn settle(
-    g: &[u8],
-    lexemes: &[bool],
-    productions: &[u16],
-    found: &mut [u64; WORDS],
-) -> Result<(), usize>
-    requires { SearchAsks g.now lexemes.now productions.now found.old }
-    ensures { fault_of result ≡ grammar_finite g.now }
-{
-    round(g, lexemes, productions, false, found);
-    if first_unfound(g, productions, found).is_ok() {
-        return Ok(());
-    }
-    by_lists(g, lexemes, productions, found);
-    rounds(g, lexemes, productions, found);
-    first_unfound(g, productions, found)
-}
-
-// The place of the first production whose nonterminal derives no text, of a grammar that 5 let through.
+// The place of the first production whose nonterminal derives no text, of a grammar that 5 let through: found in a round from the last production to
+// the first, or in one more the other way round, or by the lists.
 pub fn grammar_finite(g: &[u8], classes: &[u16], productions: &[u16]) -> Result<(), usize>
     requires { FiniteAsks g.now classes.now productions.now }
     ensures { fault_of result ≡ grammar_finite g.now }
 {
     let lexemes = class_lexemes(g, classes);
     let mut found = [0u64; WORDS];
-    round(g, &lexemes, productions, true, &mut found);
-    if first_unfound(g, productions, &found).is_ok() {
-        return Ok(());
+    for back in [true, false] {
+        round(g, &lexemes, productions, back, &mut found);
+        if first_unfound(g, productions, &found).is_ok() {
+            return Ok(());
+        }
     }
-    settle(g, &lexemes, productions, &mut found)
+    by_lists(g, &lexemes, productions, &mut found);
+    rounds(g, &lexemes, productions, &mut found);
+    first_unfound(g, productions, &found)
 }

@@ -1,10 +1,13 @@
--- All found in the first round, or the others settled.
+-- All found in one of the first rounds, or by the lists, or what is left derives no text.
 use mathlib.Core.Path.{sym, ◌∙◌}
-use Rattle.finite.proofs.FoundLaws.{sound_start, first_is_ok}
+use Rattle.finite.proofs.FoundLaws.{sound_start, all_found, first_is_ok}
 use Rattle.finite.proofs.grammar_finite.Goals as goal
 
-pub round-requires : goal.round-requires
-round-requires c = record { readable = record { sized = c.requires.of_classes.sized; noted = c.class_lexemes-lexemes.ensures }; productions_are = c.requires.productions_are; sound = sound_start _ }
+pub loop-back-init : goal.loop-back-init
+loop-back-init c = sound_start _
 
 pub returns-then-is_ok : goal.returns-then-is_ok
 returns-then-is_ok c = first_is_ok _ _ _ c.round.ensures.sound c.first_unfound.ensures (sym c.is_ok.ensures.value ∙ c.if-is_ok.true)
+
+pub returns : goal.returns
+returns c = c.first_unfound-2.ensures ∙ all_found _ _ c.rounds.ensures
