@@ -1,16 +1,17 @@
 -- The bits of the nonterminals: one more is set with each production.
-use Prim.Native.Nat.{ℕ, suc, ◌+◌, ◌-◌, ◌*◌, ◌/◌, ◌%◌, ◌^◌, max, ◌≤◌, ◌<◌}
+use Prim.Native.Nat.{ℕ, ◌+◌, ◌*◌, ◌/◌, ◌%◌, ◌^◌, ◌≤◌, ◌<◌}
 use mathlib.Core.Path.{◌≡◌, refl, sym, ap, ◌∙◌}
 use mathlib.Core.List.{List}
 use mathlib.Core.Bool.{Bool, true, false, ◌||◌}
 use native.Mathlib.Omega.{arith}
-use native.Mathlib.Nat.{div-eq_of_lt, div_self, zero-div, one-mul, mod-eq_of_lt, pow-suc}
+use native.Mathlib.Nat.{zero-div, one-mul, mod-eq_of_lt}
 use lib.ListN.{length, get_or, drop, replicate, length-set, get_or-replicate}
 use lib.Seq.{get_or-set_same, get_or-set_other}
-use lib.Dec.{eqb, ltb}
-use lib.Bits.{bit_or, or_step, or_shr}
-use lib.Pow.{pow_pos, pow-lt, pow-add, shl-shr}
-use borrow.Author.Tests.{eqb-true, eqb-false, ltb-true, ltb-false}
+use lib.Dec.{eqb}
+use lib.Bits.{bit_or}
+use lib.Pow.{pow-lt}
+use borrow.Author.Tests.{eqb-true, eqb-false}
+use Rattle.std.proofs.lemmas.Nat.Bits.{bit_at_or, bit_at-lt, bit_at-pow_same, bit_at-pow_other}
 use Rattle.rules.specs.Records.{field_b}
 use Rattle.rules.specs.Grammar.{productions, has_production, nonterminal_exists}
 use Rattle.limits.specs.Bits.{is_marked, with_bit, marked, Nonterminals}
@@ -21,33 +22,18 @@ pub with_bit_lem : (word bit : ℕ) → bit < 64 → bit_or word (1 * 2 ^ bit % 
 unfolding with_bit
 with_bit_lem word bit l = let e : 2 ^ bit < 2 ^ 64 = pow-lt l in rw (one-mul, mod-eq_of_lt e)
 
--- bit j of 2^i
-bit_same : (i j : ℕ) → i ≡ j → 2 ^ i / 2 ^ j % 2 ≡ 1
-bit_same i j e = rw (e, div_self (pow_pos j))
-
-even : (k : ℕ) → 2 ^ suc k % 2 ≡ 0
-even k = let e = pow-suc 2 k in omega arith
-
-bit_other : (i j : ℕ) → (i ≡ j → ⊥) → 2 ^ i / 2 ^ j % 2 ≡ 0
-bit_other i j h = go (ltb i j) refl
-  where
-    go : (b : Bool) → ltb i j ≡ b → 2 ^ i / 2 ^ j % 2 ≡ 0
-    go true e = rw (div-eq_of_lt (pow-lt (ltb-true i j e)))
-    go false e =
-        let l : j ≤ i = ltb-false i j e in
-        let s : i ≡ suc (i - j - 1) + j = omega arith in
-        rw (s, pow-add 2 (suc (i - j - 1)) j, shl-shr (2 ^ suc (i - j - 1)) j) (even (i - j - 1))
-
 -- bit j of a word with bit i set
-bit_or_lem : (word i j : ℕ) → with_bit word i / 2 ^ j % 2 ≡ max (word / 2 ^ j % 2) (2 ^ i / 2 ^ j % 2)
-unfolding with_bit
-bit_or_lem word i j = rw (or_shr word (2 ^ i) j) (let e = or_step (word / 2 ^ j) (2 ^ i / 2 ^ j) in omega arith)
-
 bit_set : (word i j : ℕ) → i ≡ j → with_bit word i / 2 ^ j % 2 ≡ 1
-bit_set word i j e = let a = bit_or_lem word i j in let b = bit_same i j e in omega arith
+unfolding with_bit
+bit_set word i j e =
+    let a = bit_at_or word (2 ^ i) j in
+    let b : 2 ^ i / 2 ^ j % 2 ≡ 1 = rw e (bit_at-pow_same j) in
+    let l = bit_at-lt word j in
+    omega arith
 
 bit_kept : (word i j : ℕ) → (i ≡ j → ⊥) → with_bit word i / 2 ^ j % 2 ≡ word / 2 ^ j % 2
-bit_kept word i j h = let a = bit_or_lem word i j in let b = bit_other i j h in omega arith
+unfolding with_bit
+bit_kept word i j h = let a = bit_at_or word (2 ^ i) j in let b = bit_at-pow_other i j (λ z. h (sym z)) in omega arith
 
 -- the bit of n set: it is 1, and the others are as they were
 module _ (bits : List ℕ) (n : ℕ) (l : n / 64 < length bits) where

@@ -27,27 +27,16 @@ fn nodes_below(t: &[u8], p: usize, head: Record, form: Form) -> Nodes
     requires { HeadIs t.now p head form }
     ensures { NodesBelow t.now p result }
 {
-    match form {
-        Form::Build | Form::Sequence => Nodes {
-            first: p + 1,
-            count: head.d as usize,
-        },
-        Form::If => Nodes {
-            first: p + 2,
-            count: 2,
-        },
-        Form::For => Nodes {
-            first: p + 2,
-            count: 1,
-        },
-        Form::Match => Nodes {
-            first: p + 2,
-            count: head.d as usize,
-        },
-        Form::Literal | Form::Place | Form::Expand | Form::Unknown => Nodes {
-            first: p + 1,
-            count: 0,
-        },
+    let (skipped, count) = match form {
+        Form::Build | Form::Sequence => (1, head.d as usize),
+        Form::If => (2, 2),
+        Form::For => (2, 1),
+        Form::Match => (2, head.d as usize),
+        Form::Literal | Form::Place | Form::Expand | Form::Unknown => (1, 0),
+    };
+    Nodes {
+        first: p + skipped,
+        count,
     }
 }
 

@@ -32,6 +32,7 @@ fn values_within(
     for _ in 0..count {
         let head = fetch_at(v, place);
         let size = size_of(head);
+        // Where the row goes on is found before the call, so that a level keeps no size: 200 levels of calls are deep.
         let after = at + size;
         let next = forward(place, size);
         let below = count_below(head);
