@@ -11,14 +11,13 @@ use lib.Dec.{eqb, ltb}
 use borrow.Author.Tests.{eqb-true, eqb-false, ltb-true, ltb-false}
 use borrow.Rule.Slice.PartMut.{put_mid}
 use Rattle.rules.specs.Faults.{on_found, only_if, exists}
-use Rattle.rules.specs.Records.{kind_of, record_count}
+use Rattle.rules.specs.Records.{kind_of}
 use Rattle.rules.specs.Grammar.{classes, productions, class, escaped_class}
 use Rattle.laws.specs.Lists.{nth_some, nth_none}
 use Rattle.layout.specs.Heads.{part}
 use Rattle.walk.proofs.MarkLaws.{mark_at}
 use Rattle.walk.specs.Marks.{mark_of, Marked}
-use Rattle.feed.specs.declared.set.Heads.{Heads}
-use Rattle.feed.specs.Asks.{HeadsFilled, MarkAsks, HeadsMarked}
+use Rattle.feed.specs.Asks.{MarkAsks, HeadsMarked}
 
 -- a mark tells whether its class is escaped
 
@@ -131,14 +130,3 @@ module _ {g heads : List ℕ} {cs ps : ℕ} (a : MarkAsks g heads cs ps) {after 
             table = rw (left, k, from_marks after (productions g) (drop (suc ps) heads) (get_or heads ps 0) r ps long_enough)
                 record { marks = after; is = rw n; tells = λ c. tells g c ∙ ap (λ (l : List ℕ). eqb (get_or l c 0) 1) (sym marks_are) };
           }
-
--- what it asks, of a table that has an entry to spare
-pub mark_asks : {g t of-g of-t : List ℕ} {h : Heads} → HeadsFilled g t of-g of-t h → record_count g < length of-g → MarkAsks g of-g h.classes h.productions
-mark_asks {of-g = of-g} {h = h} f l = record {
-  grammar_sized = f.tabled.grammar_sized;
-  few = omega (arith, f.tabled.few_classes, length-take (h.classes - 0) (drop 0 of-g), f.productions_behind, f.in_grammar);
-  behind = f.productions_behind;
-  inside = omega (arith, f.in_grammar);
-  classes_are = f.tabled.classes_are;
-  productions_are = f.tabled.productions_are;
-}

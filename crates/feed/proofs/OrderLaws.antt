@@ -173,13 +173,6 @@ split_three g t v next = rw (limits_three g t v, first_two (grammar_names g) (te
 pub firsts : (a b c x y z : Option ℕ) → a ≡ x → b ≡ y → c ≡ z → first_of a b c ≡ first_of x y z
 firsts a b c x y z ea eb ec = rw (ea, eb, ec)
 
-pub placed_some : (kind : ℕ) (o : Option ℕ) (place : ℕ) → o ≡ some place → placed kind o ≡ some (kind, place)
-unfolding placed
-placed_some kind o place e = rw e
-
-pub placed_none : (kind : ℕ) (o : Option ℕ) → o ≡ none → placed kind o ≡ none
-placed_none kind o e = (placed_iff kind o).1 e
-
 -- What the parts leave for those after them
 pub first_none : (a b c : Option ℕ) → first_of a b c ≡ none → (a ≡ none) × (b ≡ none) × (c ≡ none)
 unfolding first_of

@@ -1,5 +1,5 @@
 -- What refusals 4 to 8 and the walk ask of what came before them, and of the tables of heads.
-use Prim.Native.Nat.{ℕ, ◌+◌, ◌-◌, ◌*◌, ◌≤◌}
+use Prim.Native.Nat.{ℕ, ◌+◌, ◌-◌, ◌≤◌}
 use mathlib.Core.Path.{◌≡◌}
 use mathlib.Core.List.{List}
 use mathlib.Core.Option.{none}
@@ -16,14 +16,14 @@ use Rattle.rules.specs.Typing.{templates_typing}
 use Rattle.rules.specs.Answers.{scratch_needed}
 use Rattle.laws.specs.Reads.{few_records}
 use Rattle.records.specs.Children.{Children}
-use Rattle.lexeme.specs.Sets.{SetsLent, Compiled, LexemesReady}
+use Rattle.lexeme.specs.Sets.{Compiled, LexemesReady}
 use Rattle.layout.specs.Heads.{most_classes, LaidGrammar, LaidTemplates, Tables}
 use Rattle.layout.specs.declared.heads.Counts.{Counts}
-use Rattle.typing.specs.Asks.{TemplatesAsk, ValueAsks}
+use Rattle.typing.specs.Asks.{TemplatesAsk}
 use Rattle.walk.specs.Marks.{ProductionHeads}
 use Rattle.walk.specs.Asks.{sources, Walkable}
 use Rattle.feed.specs.Verdict.{SetLaid}
-use Rattle.feed.specs.Asks.{Tabled, Sized, SetsRoom, HeadsAsk, HeadsFilled, Room, ChildrenRoom, GrammarRoom, StreamsLaid}
+use Rattle.feed.specs.Asks.{Tabled, ValueSized, HeadsAsk, HeadsFilled, Room, ChildrenRoom, GrammarRoom, StreamsLaid}
 use Rattle.feed.proofs.OrderLaws.{two_laid, three_laid}
 use Rattle.feed.proofs.EndLaws.{paths_fit}
 
@@ -51,18 +51,11 @@ small_heads g l = let h = small_records g l in record { room = omega arith; few 
 pub large_heads : (g : List ℕ) → stream_length g ≡ none → GrammarRoom g 8065
 large_heads g e = let h = few_records g e in record { room = omega arith; few = omega arith }
 
--- and for the sets of a grammar's classes
-pub small_sets : (cs : List ℕ) → 128 * length cs ≤ 4096 → SetsRoom cs 4096
-small_sets cs l = record { room = l; few = omega arith }
-
-pub large_sets : (cs : List ℕ) → length cs ≤ 256 → SetsRoom cs 40832
-large_sets cs l = record { room = omega arith; few = omega arith }
-
 -- what judging asks, in a check and in an evaluate call
-pub none_sized : Sized None
+pub none_sized : ValueSized None
 none_sized = record { sized = λ v e. cc }
 
-pub some_sized : (v : List ℕ) → stream_length v ≡ none → Sized (Some v)
+pub some_sized : (v : List ℕ) → stream_length v ≡ none → ValueSized (Some v)
 some_sized v l = record { sized = λ w e. let h : v ≡ w = cc in rw (← h) l }
 
 pub check_judges : (g t of-g of-t : List ℕ) → SetLaid g t → record_count g ≤ length of-g → record_count t ≤ length of-t → HeadsAsk g t None of-g of-t
@@ -99,13 +92,7 @@ module _ (g t of-g of-t of-g₀ of-t₀ : List ℕ) (m n : Counts) (lg : LaidGra
     in_templates = b.fit;
   }
 
--- what the sets, 7, 8 and the walk ask
-pub small_of : (a b n : ℕ) → a + b ≤ n → a ≤ n
-small_of a b n l = omega arith
-
-pub sets_lent : (g t cs ps us ts sets : List ℕ) → Tabled g t cs ps us ts → 128 * length cs ≤ length sets → SetsLent g cs sets
-sets_lent g t cs ps us ts sets a l = record { grammar_sized = a.grammar_sized; heads = a.classes_are; room = l }
-
+-- what 7 and the walk ask
 pub lexemes_ready : (g t cs ps us ts sets : List ℕ) → Tabled g t cs ps us ts → Compiled g sets → LexemesReady g cs sets
 lexemes_ready g t cs ps us ts sets a c = record { grammar_sized = a.grammar_sized; heads = a.classes_are; sets = c }
 
@@ -118,16 +105,6 @@ typing_asks g t cs ps us ts sets a c e = record {
   sized_g = a.grammar_sized;
   sized_t = a.templates_sized;
   limits = e;
-}
-
-pub value_asks : (g t v cs ps us ts sets : List ℕ) → Tabled g t cs ps us ts → stream_length v ≡ none → LexemesReady g cs sets → ValueAsks g t v cs sets us ts
-value_asks g t v cs ps us ts sets a l r = record {
-  lexemes = r;
-  types_are = a.types_are;
-  templates_are = a.templates_are;
-  sized_g = a.grammar_sized;
-  sized_t = a.templates_sized;
-  sized_v = l;
 }
 
 pub walk_asks : (g t v cs ps us ts heads firsts places scratch : List ℕ) → Tabled g t cs ps us ts → ProductionHeads g heads → templates_limits t ≡ none → templates_typing g t ≡ none

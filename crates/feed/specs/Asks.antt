@@ -36,7 +36,7 @@ pub record Tabled (g t cs ps us ts : List ℕ) : Type 0 where
   pub few_classes : length cs ≤ 256
 
 -- a value has a right length, if one comes with the set
-pub record Sized (value : Maybe (List ℕ)) : Type 0 where
+pub record ValueSized (value : Maybe (List ℕ)) : Type 0 where
   pub sized : (v : List ℕ) → value ≡ Some v → stream_length v ≡ none
 
 -- an array of n numbers has room for a set of each class
@@ -53,7 +53,7 @@ pub record SetJudged (g t : List ℕ) (value : Option ℕ) (cs sets : List ℕ) 
 pub record HeadsAsk (g t : List ℕ) (value : Maybe (List ℕ)) (of-g of-t : List ℕ) : Type 0 where
   pub grammar_laid : LaidGrammar g
   pub templates_laid : LaidTemplates t
-  pub value_sized : Sized value
+  pub value_sized : ValueSized value
   pub grammar_room : record_count g ≤ length of-g
   pub templates_room : record_count t ≤ length of-t
 

@@ -4,7 +4,7 @@ ghost use Rattle.std.proofs.Math.Option.{none};
 ghost use Rattle.rules.specs.Answers.{try, accept};
 ghost use Rattle.rules.specs.Names.{grammar_names, templates_names};
 ghost use Rattle.stream.specs.Fault.{fault_of};
-ghost use Rattle.feed.specs.Asks.{Tabled, Sized, SetsRoom, SetJudged, HeadsAsk, HeadsJudged};
+ghost use Rattle.feed.specs.Asks.{Tabled, ValueSized, SetsRoom, SetJudged, HeadsAsk, HeadsJudged};
 ghost use Rattle.feed.specs.Verdict.{verdict_of, first_of, depth_of, judgement};
 
 use crate::verdict::{Kind, Refusal, Rule, against, first};
@@ -92,7 +92,7 @@ fn fits_small(g: &[u8], classes: usize) -> bool
 
 // What refusal 4 says of a value, if one comes.
 fn value_depth(value: Option<&[u8]>) -> Result<(), usize>
-    requires { Sized (option_copied value) }
+    requires { ValueSized (option_copied value) }
     ensures { fault_of result ≡ depth_of (option_copied value.entry) }
 {
     match value {
@@ -104,7 +104,7 @@ fn value_depth(value: Option<&[u8]>) -> Result<(), usize>
 // 4 to 8, with a table of class sets of N numbers.
 fn judge_over<const N: usize>(set: &Set, value: Option<&[u8]>) -> Result<(), Refusal>
     requires room { SetsRoom set.now.classes.now N }
-    requires value_sized { Sized (option_copied value) }
+    requires value_sized { ValueSized (option_copied value) }
     ensures { verdict_of result ≡ judgement set.now.g.now set.now.t.now (option_copied value.entry) }
 {
     let mut sets = [0u16; N];
@@ -126,7 +126,7 @@ fn judge_over<const N: usize>(set: &Set, value: Option<&[u8]>) -> Result<(), Ref
 
 // The same. Small grammars, which are most, take a small table, which is sooner cleared.
 fn judge_tabled(set: &Set, value: Option<&[u8]>) -> Result<(), Refusal>
-    requires { Sized (option_copied value) }
+    requires { ValueSized (option_copied value) }
     ensures { verdict_of result ≡ judgement set.now.g.now set.now.t.now (option_copied value.entry) }
 {
     if fits_small(set.g, set.classes.len()) {
