@@ -112,7 +112,7 @@ fn mark_heads(g: &[u8], heads: &mut [u16], classes: usize, productions: usize) -
 }
 
 // 4 to 9 of a set and a value that 1 to 3 let through, and the walk, with a table of N numbers for the grammar's heads. The templates' go into one
-// that is lent.
+// that is lent. (Fuel, output and scratch stay apart: clauses over a struct that lends two of them would read no plainer.)
 fn evaluate_tabled<const N: usize>(
     laid: &Laid,
     theads: &mut [u16],

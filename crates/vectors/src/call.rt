@@ -55,7 +55,7 @@ pub struct Lent<'a> {
 pub fn make_call(rt: &impl Print, number: u8, lent: &Lent) -> io::Result<()> {
     let mut out = [BYTE; 66048];
     let mut scratch = [NUMBER; 8192];
-    if lent.room > 66048 || lent.numbers > 8192 {
+    if lent.room > out.len() || lent.numbers > scratch.len() {
         return Ok(());
     }
     let Ok(call) = Call::try_from(number) else {
