@@ -9,7 +9,6 @@ use lib.ListN.{length, get_or, take, drop, set, length-append, length-take, leng
 use lib.Seq.{drop-drop, drop-cons, set_at, take_at, drop_at}
 use lib.Dec.{eqb, ltb}
 use borrow.Author.Tests.{eqb-true, eqb-false, ltb-true, ltb-false}
-use borrow.Rule.Slice.PartMut.{put_mid}
 use Rattle.rules.specs.Faults.{on_found, only_if, exists}
 use Rattle.rules.specs.Records.{kind_of}
 use Rattle.rules.specs.Grammar.{classes, productions, class, escaped_class}
@@ -69,15 +68,12 @@ module _ (ys ps tail : List ℕ) (x m : ℕ) where
       rw (drop_at ys (ps ++ m ∷ tail) (length ys) refl, k) front
 
 -- what the code leaves in the table
-module _ {g heads : List ℕ} {cs ps : ℕ} (a : MarkAsks g heads cs ps) {after : List ℕ} {r : ℕ} (h : Marked g (take (cs - 0) (drop 0 heads)) after r) where
-  own : take (cs - 0) (drop 0 heads) ≡ classes g
-  own = a.classes_are
-
+module _ {g heads : List ℕ} {cs ps : ℕ} (a : MarkAsks g heads cs ps) {after : List ℕ} {r : ℕ} (h : Marked g (take cs heads) after r) where
   marks_are : after ≡ map (mark_of g) (classes g)
-  marks_are = h.each ∙ ap (map (mark_of g)) own
+  marks_are = h.each ∙ ap (map (mark_of g)) a.classes_are
 
   classes_long : length (classes g) ≡ cs
-  classes_long = sym (ap length own) ∙ simp (sub-zero, length-take) (omega (arith, a.behind, a.inside))
+  classes_long = sym (ap length a.classes_are) ∙ simp length-take (omega (arith, a.behind, a.inside))
 
   after_long : length after ≡ cs
   after_long = ap length marks_are ∙ length-map (classes g) (mark_of g) ∙ classes_long
@@ -87,32 +83,32 @@ module _ {g heads : List ℕ} {cs ps : ℕ} (a : MarkAsks g heads cs ps) {after 
     where
       go : (b : Bool) → eqb r 0 ≡ b → r ≤ cs
       go true e = let z : r ≡ 0 = eqb-true r 0 e in omega arith
-      go false e = let z : r ≡ 0 → ⊥ = eqb-false r 0 e in omega (arith, h.all_used z, ap length own, classes_long)
+      go false e = let z : r ≡ 0 → ⊥ = eqb-false r 0 e in omega (arith, h.all_used z, ap length a.classes_are, classes_long)
 
   productions_long : length (productions g) ≡ ps - cs
   productions_long = sym (ap length a.productions_are) ∙ simp (length-take, length-drop) (omega (arith, a.behind, a.inside))
 
   -- the table between the two writes
-  table : put_mid 0 (cs - 0) heads after ≡ after ++ (productions g ++ get_or heads ps 0 ∷ drop (suc ps) heads)
+  table : after ++ drop cs heads ≡ after ++ (productions g ++ get_or heads ps 0 ∷ drop (suc ps) heads)
   table =
       let k : cs + (ps - cs) ≡ ps = omega (arith, a.behind) in
       let e : drop (ps - cs) (drop cs heads) ≡ get_or heads ps 0 ∷ drop (suc ps) heads =
       drop-drop (ps - cs) cs heads ∙ rw k (drop-cons heads ps 0 a.inside) in
-      rw sub-zero (ap (λ (l : List ℕ). after ++ l) (sym (take-append-drop (ps - cs) (drop cs heads)) ∙ rw (a.productions_are, e)))
+      ap (λ (l : List ℕ). after ++ l) (sym (take-append-drop (ps - cs) (drop cs heads)) ∙ rw (a.productions_are, e))
 
   long_enough : ps ≡ length after + length (productions g)
   long_enough = omega (arith, after_long, productions_long, a.behind)
 
-  left : set (put_mid 0 (cs - 0) heads after) ps r ≡ after ++ (productions g ++ r ∷ drop (suc ps) heads)
+  left : set (after ++ drop cs heads) ps r ≡ after ++ (productions g ++ r ∷ drop (suc ps) heads)
   left =
       ap (λ (l : List ℕ). set l ps r) table
       ∙ ap (λ (n : ℕ). set (after ++ (productions g ++ get_or heads ps 0 ∷ drop (suc ps) heads)) n r) long_enough
       ∙ put after (productions g) (drop (suc ps) heads) (get_or heads ps 0) r
 
-  pub marked : HeadsMarked g ps (set (put_mid 0 (cs - 0) heads after) ps r) (cs - r)
+  pub marked : HeadsMarked g ps (set (after ++ drop cs heads) ps r) (cs - r)
   marked = go (eqb r 0) refl
     where
-      go : (b : Bool) → eqb r 0 ≡ b → HeadsMarked g ps (set (put_mid 0 (cs - 0) heads after) ps r) (cs - r)
+      go : (b : Bool) → eqb r 0 ≡ b → HeadsMarked g ps (set (after ++ drop cs heads) ps r) (cs - r)
       go true e =
           let z : r ≡ 0 = eqb-true r 0 e in
           let k : cs - r ≡ length after = omega (arith, after_long) in
@@ -122,7 +118,7 @@ module _ {g heads : List ℕ} {cs ps : ℕ} (a : MarkAsks g heads cs ps) {after 
                 record { marks = []; is = rw z; tells = λ c. tells g c ∙ ap (λ (n : ℕ). eqb n 1) (ap (λ (l : List ℕ). get_or l c 0) (sym marks_are) ∙ h.none_used z c) };
           }
       go false e =
-          let z : r ≡ cs = h.all_used (eqb-false r 0 e) ∙ ap length own ∙ classes_long in
+          let z : r ≡ cs = h.all_used (eqb-false r 0 e) ∙ ap length a.classes_are ∙ classes_long in
           let k : cs - r ≡ 0 = omega arith in
           let n : r ≡ length after = z ∙ sym after_long in
           record {

@@ -85,7 +85,7 @@ module _ (g t of-g of-t of-g₀ of-t₀ : List ℕ) (m n : Counts) (lg : LaidGra
 
   pub heads_filled : HeadsFilled g t of-g of-t (record { classes = m.first; productions = m.first + m.second; types = n.first; templates = n.first + n.second })
   heads_filled = record {
-    tabled = simp sub-zero tabled;
+    tabled = tabled;
     productions_behind = omega arith;
     templates_behind = omega arith;
     in_grammar = a.fit;

@@ -1,5 +1,5 @@
 -- What the parts of a call are lent, and what they promise.
-use Rattle.std.specs.Prelude.{ℕ, ◌+◌, ◌*◌, ◌≤◌, ◌<◌, ◌≡◌, List, [], ◌∷◌, length, Result, OnOk, IfOk, Option as Maybe, Some}
+use Rattle.std.specs.Prelude.{ℕ, ◌+◌, ◌*◌, ◌≤◌, ◌<◌, ◌≡◌, List, [], ◌∷◌, length, take, Result, OnOk, IfOk, Option as Maybe, Some}
 use Rattle.std.proofs.Math.Option.{Option, none}
 use Rattle.rules.specs.Blocks.{stream_length}
 use Rattle.rules.specs.Records.{record_count}
@@ -59,7 +59,7 @@ pub record HeadsAsk (g t : List ℕ) (value : Maybe (List ℕ)) (of-g of-t : Lis
 
 -- the heads of each kind stand in their table, up to its end
 pub record HeadsFilled (g t of-g of-t : List ℕ) (h : Heads) : Type 0 where
-  pub tabled : Tabled g t (part 0 h.classes of-g) (part h.classes h.productions of-g) (part 0 h.types of-t) (part h.types h.templates of-t)
+  pub tabled : Tabled g t (take h.classes of-g) (part h.classes h.productions of-g) (take h.types of-t) (part h.types h.templates of-t)
   pub productions_behind : h.classes ≤ h.productions
   pub templates_behind : h.types ≤ h.templates
   pub in_grammar : h.productions ≤ record_count g
@@ -96,7 +96,7 @@ pub record MarkAsks (g heads : List ℕ) (cs ps : ℕ) : Type 0 where
   pub few : cs ≤ 256
   pub behind : cs ≤ ps
   pub inside : ps < length heads
-  pub classes_are : part 0 cs heads ≡ classes g
+  pub classes_are : take cs heads ≡ classes g
   pub productions_are : part cs ps heads ≡ productions g
 
 pub record HeadsMarked (g : List ℕ) (ps : ℕ) (heads : List ℕ) (r : ℕ) : Type 0 where

@@ -106,7 +106,7 @@ fn mark_heads(g: &[u8], heads: &mut [u16], classes: usize, productions: usize) -
     requires { MarkAsks g.now heads.old classes productions }
     ensures { HeadsMarked g.now productions heads.new result }
 {
-    let marks = mark(g, &mut heads[0..classes]);
+    let marks = mark(g, &mut heads[..classes]);
     heads[productions] = marks as u16;
     classes - marks
 }
