@@ -111,66 +111,68 @@ fn mark_heads(g: &[u8], heads: &mut [u16], classes: usize, productions: usize) -
     classes - marks
 }
 
-// 4 to 9 of a set and a value that 1 to 3 let through, and the walk, with a table of N numbers for the grammar's heads. The templates' go into one
-// that is lent. (Fuel, output and scratch stay apart: clauses over a struct that lends two of them would read no plainer.)
-fn evaluate_tabled<const N: usize>(
-    laid: &Laid,
-    theads: &mut [u16],
-    fuel: u32,
-    out: &mut [u8],
-    scratch: &mut [u16],
-) -> Result<Run, Refusal>
-    requires grammar_room { GrammarRoom laid.now.g.now N }
-    requires templates_room { record_count laid.now.t.now ≤ length theads.old }
-    ensures { outcome (evaluate_answer result) out.new scratch.new ≡ evaluate laid.now.g.now laid.now.t.now laid.now.v.now fuel out.old scratch.old }
-{
-    let mut table = [0u16; N];
-    let gheads = &mut table[..];
-    let heads = judge(laid.g, laid.t, Some(laid.v), gheads, theads)?;
-    if scratch.len() < SCRATCH {
-        return Err(Refusal {
-            rule: Rule::Scratch,
-            kind: Kind::NoStream,
-            place: 0,
-        });
+impl Laid<'_> {
+    // 4 to 9, and the walk, with a table of N numbers for the grammar's heads. The templates' go into one that is lent. (Fuel, output and scratch
+    // stay apart: clauses over a struct that lends two of them would read no plainer.)
+    fn evaluate_tabled<const N: usize>(
+        &self,
+        theads: &mut [u16],
+        fuel: u32,
+        out: &mut [u8],
+        scratch: &mut [u16],
+    ) -> Result<Run, Refusal>
+        requires grammar_room { GrammarRoom self.now.g.now N }
+        requires templates_room { record_count self.now.t.now ≤ length theads.old }
+        ensures { outcome (evaluate_answer result) out.new scratch.new ≡ evaluate self.now.g.now self.now.t.now self.now.v.now fuel out.old scratch.old }
+    {
+        let mut table = [0u16; N];
+        let gheads = &mut table[..];
+        let heads = judge(self.g, self.t, Some(self.v), gheads, theads)?;
+        if scratch.len() < SCRATCH {
+            return Err(Refusal {
+                rule: Rule::Scratch,
+                kind: Kind::NoStream,
+                place: 0,
+            });
+        }
+        let ts = &theads[heads.types..heads.templates];
+        let from = mark_heads(self.g, gheads, heads.classes, heads.productions);
+        let ps = &gheads[from..heads.productions + 1];
+        Ok(run(
+            self.g,
+            self.t,
+            self.v,
+            ps,
+            ts,
+            self.firsts,
+            self.places,
+            fuel,
+            out,
+            scratch,
+        ))
     }
-    let ts = &theads[heads.types..heads.templates];
-    let from = mark_heads(laid.g, gheads, heads.classes, heads.productions);
-    let ps = &gheads[from..heads.productions + 1];
-    Ok(run(
-        laid.g,
-        laid.t,
-        laid.v,
-        ps,
-        ts,
-        laid.firsts,
-        laid.places,
-        fuel,
-        out,
-        scratch,
-    ))
+
+    // The same with a table of N numbers for the templates' heads too.
+    fn evaluate<const N: usize>(
+        &self,
+        fuel: u32,
+        out: &mut [u8],
+        scratch: &mut [u16],
+    ) -> Result<Run, Refusal>
+        requires { Room self.now.t.now N }
+        ensures { outcome (evaluate_answer result) out.new scratch.new ≡ evaluate self.now.g.now self.now.t.now self.now.v.now fuel out.old scratch.old }
+    {
+        let mut theads = [0u16; N];
+        if self.g.len() <= SMALL_STREAM {
+            self.evaluate_tabled::<SMALL_GRAMMAR_HEADS>(&mut theads, fuel, out, scratch)
+        } else {
+            self.evaluate_tabled::<GRAMMAR_HEADS>(&mut theads, fuel, out, scratch)
+        }
+    }
 }
 
-// The same with a table of N numbers for the templates' heads too.
-fn evaluate_laid<const N: usize>(
-    laid: &Laid,
-    fuel: u32,
-    out: &mut [u8],
-    scratch: &mut [u16],
-) -> Result<Run, Refusal>
-    requires { Room laid.now.t.now N }
-    ensures { outcome (evaluate_answer result) out.new scratch.new ≡ evaluate laid.now.g.now laid.now.t.now laid.now.v.now fuel out.old scratch.old }
-{
-    let mut theads = [0u16; N];
-    if laid.g.len() <= SMALL_STREAM {
-        evaluate_tabled::<SMALL_GRAMMAR_HEADS>(laid, &mut theads, fuel, out, scratch)
-    } else {
-        evaluate_tabled::<GRAMMAR_HEADS>(laid, &mut theads, fuel, out, scratch)
-    }
-}
-
-// 1 to 9 of three streams, and the walk, with a table of N children. (1 to 3 are judged by each N: called from two places, the scan of the value
-// stays a function of its own in the machine code, and keeps its registers to itself.)
+// 1 to 9 of three streams, and the walk, with a table of N children. (1 to 3 are judged here and not before: called for both N, the scan of the
+// value stays a function of its own in the machine code, and keeps its registers to itself.)
 fn evaluate_streams<const N: usize>(
     g: &[u8],
     t: &[u8],
@@ -193,9 +195,9 @@ fn evaluate_streams<const N: usize>(
         places: &places,
     };
     if t.len() <= SMALL_STREAM {
-        evaluate_laid::<SMALL_RECORDS>(&laid, fuel, out, scratch)
+        laid.evaluate::<SMALL_RECORDS>(fuel, out, scratch)
     } else {
-        evaluate_laid::<RECORDS>(&laid, fuel, out, scratch)
+        laid.evaluate::<RECORDS>(fuel, out, scratch)
     }
 }
 

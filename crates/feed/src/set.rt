@@ -40,56 +40,6 @@ pub(crate) struct Heads {
     pub templates: usize,
 }
 
-// Refusal 5 of both streams. (The nonterminals are marked on this function's own stack, which is free again for the typing.)
-fn judge_names(set: &Set) -> Result<(), Refusal>
-    ensures { verdict_of result ≡ try 5 (first_of (grammar_names set.now.g.now) (templates_names set.now.g.now set.now.t.now) none) accept }
-{
-    let marked = nonterminals(set.g, set.productions);
-    let of_g = grammar_names(set.g, set.classes, set.productions, &marked);
-    let of_t = templates_names(
-        set.g,
-        set.t,
-        set.classes,
-        set.productions,
-        set.types,
-        set.templates,
-        &marked,
-    );
-    first(Rule::Names, of_g, of_t, Ok(()))
-}
-
-// `value` is what refusal 4 says of the value that comes with them. The class sets are compiled on the way, for the texts of the templates and
-// of the value.
-fn judge_set(set: &Set, value: Result<(), usize>, sets: &mut [u16]) -> Result<(), Refusal>
-    requires { 128 * length set.now.classes.now ≤ length sets.old }
-    ensures { SetJudged set.now.g.now set.now.t.now (fault_of value) set.now.classes.now sets.new result }
-{
-    let deep = templates_limits(set.t, set.templates);
-    first(Rule::Limits, Ok(()), deep, value)?;
-    judge_names(set)?;
-    let wrong = grammar_classes(set.g, set.classes);
-    against(Rule::Classes, Kind::Grammar, wrong)?;
-    class_sets(set.g, set.classes, sets);
-    let typed = templates_typing(
-        set.g,
-        set.t,
-        set.classes,
-        sets,
-        set.productions,
-        set.types,
-        set.templates,
-    );
-    against(Rule::TemplatesTyping, Kind::Templates, typed)
-}
-
-// Whether a small table has room for the sets of so many classes, and for hints to all ranges that the grammar could have.
-fn fits_small(g: &[u8], classes: usize) -> bool
-    requires { classes ≤ 256 }
-    ensures { IsTrue result → 128 * classes ≤ 4096 }
-{
-    128 * classes + g.len() / 8 <= SMALL_TABLE
-}
-
 // What refusal 4 says of a value, if one comes.
 fn value_depth(value: Option<&[u8]>) -> Result<(), usize>
     requires { ValueSized (option_copied value) }
@@ -101,38 +51,89 @@ fn value_depth(value: Option<&[u8]>) -> Result<(), usize>
     }
 }
 
-// 4 to 8, with a table of class sets of N numbers.
-fn judge_over<const N: usize>(set: &Set, value: Option<&[u8]>) -> Result<(), Refusal>
-    requires room { SetsRoom set.now.classes.now N }
-    requires value_sized { ValueSized (option_copied value) }
-    ensures { verdict_of result ≡ judgement set.now.g.now set.now.t.now (option_copied value.entry) }
-{
-    let mut sets = [0u16; N];
-    judge_set(set, value_depth(value), &mut sets)?;
-    let Some(v) = value else {
-        return Ok(());
-    };
-    let typed = value_typing(
-        set.g,
-        set.t,
-        v,
-        set.classes,
-        &sets,
-        set.types,
-        set.templates,
-    );
-    against(Rule::ValueTyping, Kind::Value, typed)
-}
+impl Set<'_> {
+    // Refusal 5 of both streams. (The nonterminals are marked on this function's own stack, which is free again for the typing.)
+    fn judge_names(&self) -> Result<(), Refusal>
+        ensures { verdict_of result ≡ try 5 (first_of (grammar_names self.now.g.now) (templates_names self.now.g.now self.now.t.now) none) accept }
+    {
+        let marked = nonterminals(self.g, self.productions);
+        let of_g = grammar_names(self.g, self.classes, self.productions, &marked);
+        let of_t = templates_names(
+            self.g,
+            self.t,
+            self.classes,
+            self.productions,
+            self.types,
+            self.templates,
+            &marked,
+        );
+        first(Rule::Names, of_g, of_t, Ok(()))
+    }
 
-// The same. Small grammars, which are most, take a small table, which is sooner cleared.
-fn judge_tabled(set: &Set, value: Option<&[u8]>) -> Result<(), Refusal>
-    requires { ValueSized (option_copied value) }
-    ensures { verdict_of result ≡ judgement set.now.g.now set.now.t.now (option_copied value.entry) }
-{
-    if fits_small(set.g, set.classes.len()) {
-        judge_over::<SMALL_TABLE>(set, value)
-    } else {
-        judge_over::<TABLE>(set, value)
+    // `value` is what refusal 4 says of the value that comes with them. The class sets are compiled on the way, for the texts of the templates and
+    // of the value.
+    fn judge_set(&self, value: Result<(), usize>, sets: &mut [u16]) -> Result<(), Refusal>
+        requires { 128 * length self.now.classes.now ≤ length sets.old }
+        ensures { SetJudged self.now.g.now self.now.t.now (fault_of value) self.now.classes.now sets.new result }
+    {
+        let deep = templates_limits(self.t, self.templates);
+        first(Rule::Limits, Ok(()), deep, value)?;
+        self.judge_names()?;
+        let wrong = grammar_classes(self.g, self.classes);
+        against(Rule::Classes, Kind::Grammar, wrong)?;
+        class_sets(self.g, self.classes, sets);
+        let typed = templates_typing(
+            self.g,
+            self.t,
+            self.classes,
+            sets,
+            self.productions,
+            self.types,
+            self.templates,
+        );
+        against(Rule::TemplatesTyping, Kind::Templates, typed)
+    }
+
+    // Whether a small table has room for the sets of its classes, and for hints to all ranges that its grammar could have.
+    fn fits_small(&self) -> bool
+        ensures { IsTrue result → 128 * length self.now.classes.now ≤ 4096 }
+    {
+        128 * self.classes.len() + self.g.len() / 8 <= SMALL_TABLE
+    }
+
+    // 4 to 8, with a table of class sets of N numbers.
+    fn judge_over<const N: usize>(&self, value: Option<&[u8]>) -> Result<(), Refusal>
+        requires room { SetsRoom self.now.classes.now N }
+        requires value_sized { ValueSized (option_copied value) }
+        ensures { verdict_of result ≡ judgement self.now.g.now self.now.t.now (option_copied value.entry) }
+    {
+        let mut sets = [0u16; N];
+        self.judge_set(value_depth(value), &mut sets)?;
+        let Some(v) = value else {
+            return Ok(());
+        };
+        let typed = value_typing(
+            self.g,
+            self.t,
+            v,
+            self.classes,
+            &sets,
+            self.types,
+            self.templates,
+        );
+        against(Rule::ValueTyping, Kind::Value, typed)
+    }
+
+    // The same. Small grammars, which are most, take a small table, which is sooner cleared.
+    fn judge_tabled(&self, value: Option<&[u8]>) -> Result<(), Refusal>
+        requires { ValueSized (option_copied value) }
+        ensures { verdict_of result ≡ judgement self.now.g.now self.now.t.now (option_copied value.entry) }
+    {
+        if self.fits_small() {
+            self.judge_over::<SMALL_TABLE>(value)
+        } else {
+            self.judge_over::<TABLE>(value)
+        }
     }
 }
 
@@ -165,7 +166,7 @@ pub(crate) fn judge<'a>(
         types: &of_t[..types],
         templates: &of_t[types..templates],
     };
-    judge_tabled(&set, value)?;
+    set.judge_tabled(value)?;
     Ok(Heads {
         classes,
         productions,

@@ -1,7 +1,7 @@
 use mathlib.Core.Path.{refl, ap}
 use Rattle.rules.specs.Answers.{placed}
 use Rattle.feed.proofs.OrderLaws.{handed, last_said, set_refuses, set_passes}
-use Rattle.feed.proofs.set.judge_over.Goals as goal
+use Rattle.feed.proofs.set.Set.judge_over.Goals as goal
 
 pub returns-in_err-judge_set : goal.returns-in_err-judge_set
 returns-in_err-judge_set g c = handed _ _ c.from_residual.ensures.1 (set_refuses _ _ _ c.value_depth.ensures c.in_err-judge_set.ensures.is)
