@@ -2,13 +2,14 @@
 ghost use Rattle.std.specs.Prelude.{◌≡◌, true, List, ◌++◌, ℕ, ◌≤◌, length, drop};
 ghost use Rattle.std.proofs.Math.Option.{some};
 ghost use Rattle.rules.specs.Escape.{unescaped};
-ghost use Rattle.rules.specs.Answers.{answer, unescape};
+ghost use Rattle.rules.specs.Answers.{unescape};
 ghost use Rattle.entities.specs.Utf8.{calm};
 ghost use Rattle.entities.specs.Measured.{length_from, measured, Plainly, Letter, Letters};
 
 use crate::entity::{is_own, plain_at};
 use crate::utf8::{between, next};
 use rules::Answer;
+use stream::answer::{finished, refused};
 use stream::copy::copy_into;
 
 // A byte that is a character by itself and its own escaped form.
@@ -81,29 +82,16 @@ fn write_plain(text: &[u8], long: usize, out: &mut [u8])
     }
 }
 
-#[tactic(auto, unfolding(rules::specs::Answers::answer))]
-fn answer(number: u64, bytes: usize) -> Answer
-    ensures { result ≡ answer number 0 0 0 bytes }
-{
-    Answer {
-        number,
-        kind: 0,
-        place: 0,
-        steps: 0,
-        bytes: bytes as u64,
-    }
-}
-
 // 8 if the text is the escaped form of no well-formed UTF-8, then 12 if the plain text doesn't fit. Refused, it writes nothing.
 pub fn unescape(text: &[u8], out: &mut [u8]) -> Answer
     ensures { (result ≡ (unescape text.now out.old).result) × (out.new ≡ (unescape text.now out.old).output) }
 {
     let Some(length) = measure(text) else {
-        return answer(8, 0);
+        return refused(8, 0, 0);
     };
     if out.len() < length {
-        return answer(12, 0);
+        return refused(12, 0, 0);
     }
     write_plain(text, length, out);
-    answer(0, length)
+    finished(0, length)
 }
