@@ -1,10 +1,10 @@
 // A table filled once per run: for each class the set of its characters below U+0800, one bit each, 16 to a number. It holds only characters that XML 1.0
 // admits, so a text is held against both at once. What is lent behind the sets takes hints for the characters above.
-ghost use Rattle.std.specs.Prelude.{◌≡◌, ℕ, ◌+◌, ◌-◌, ◌*◌, ◌/◌, ◌%◌, min, ◌≤◌, ◌<◌, ◌^◌, ◌&&◌, ◌||◌, length, replicate};
+ghost use Rattle.std.specs.Prelude.{◌≡◌, ℕ, ◌+◌, ◌-◌, ◌*◌, ◌%◌, min, ◌≤◌, ◌<◌, ◌^◌, ◌&&◌, ◌||◌, length};
 ghost use Rattle.std.proofs.Math.Option.{none};
 ghost use Rattle.rules.specs.Blocks.{stream_length};
 ghost use Rattle.rules.specs.Lexeme.{within, is_xml_char};
-ghost use Rattle.lexeme.specs.Sets.{bit_at, is_in, WordOf, ClassSet, Compiled, SetsLent, Added, Filled, XmlKept};
+ghost use Rattle.lexeme.specs.Sets.{bit_at, is_in, WordOf, ClassSet, Compiled, SetsLent, Added, XmlKept};
 
 use crate::class::range_count;
 use crate::hints::all_hints;

@@ -1,16 +1,11 @@
 use mathlib.Core.Path.{sym, ◌∙◌}
 use native.Mathlib.Omega.{arith}
 use Rattle.stream.proofs.PartsLaws.{turn}
-use Rattle.lexeme.proofs.LexemeLaws.{by_scan, by_kind, read_start, read_turn, read_bad, read_past, read_short, read_whole}
+use Rattle.lexeme.proofs.LexemeLaws.{by_scan, by_kind, read_turn, read_bad, read_past, read_short, read_whole}
 use Rattle.lexeme.proofs.admits_parts.Goals as goal
 
 pub returns-then-head-ne1 : goal.returns-then-head-ne1
 returns-then-head-ne1 c = by_kind _ _ _ (rw c.fetch-head.ensures.kind at c.if-head-ne1.true)
-
-pub loop-part-init : goal.loop-part-init
-loop-part-init c =
-    let all = c.parts_of-part-items.ensures in
-    rw c.into_iter-part-iterator.ensures.into_iter_gives (all.0, rw all.1 (read_start _ _ _ _ _ c.between-state.ensures))
 
 pub returns-in_default : goal.returns-in_default
 returns-in_default c =
