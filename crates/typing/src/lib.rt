@@ -21,7 +21,7 @@ pub const VARIABLES: usize = 24;
 pub const LEVELS: usize = 200;
 
 // What a type is: a text of a class, a yes/no, a list of items of a type, or a record or a variant, by the place of its head and its number of
-// fields or cases.
+// fields or cases. That a type is missing is a variant and no None, since rules has it among the forms of a type (TypeForm, no_type).
 #[derive(Clone, Copy)]
 pub enum Kind {
     Text(u16),
