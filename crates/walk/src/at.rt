@@ -7,8 +7,7 @@ use crate::state::{Progress, Stop, Why};
 use crate::variables::Frame;
 
 // Its place; the record of the element that it stands for, which says what its position asks for, or 0 where it stands for none: a body, an item,
-// a for; the frame of its variables; the levels that are left, its own among them; all the fuel; the steps and
-// the bytes so far.
+// a for; the frame of its variables; the levels that are left, its own among them; all the fuel; the steps and the bytes so far.
 #[derive(Clone, Copy)]
 pub struct At {
     pub node: usize,

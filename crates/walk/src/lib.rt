@@ -50,7 +50,8 @@ fn start(node: usize, fuel: u32) -> At
     }
 }
 
-// The walk from template 0's body on, with the value as its one variable. What it leaves in the scratch is cleared.
+// The walk from template 0's body on, with the value as its one variable. What it leaves in the scratch is cleared. (Its streams and tables come one
+// by one: they are no Sources before it, since this signature stays as it was.)
 pub fn run(
     g: &[u8],
     t: &[u8],

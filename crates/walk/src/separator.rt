@@ -39,7 +39,7 @@ pub fn separator_of(at: At, e: Record) -> Separator
 }
 
 // Whether a separator is written before an item that has so many before it in its sequence: not before the first, and most repetitions have none.
-// (It is asked outside `separate`, so that an item without a separator costs no run.)
+// (It is asked outside `separate`, so that an item without a separator costs no call.)
 pub fn is_due(sep: Separator, before: usize) -> bool
     ensures { result ≡ due_at sep before }
 {

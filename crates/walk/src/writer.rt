@@ -31,7 +31,7 @@ pub fn write(s: &[u8], i: usize, n: u16, out: &mut [u8], at: At) -> Result<Progr
     written(at, left, long)
 }
 
-// The same of the text's escaped form.
+// The same of the text's escaped form. (One function with the copy as a closure would be no plainer: each call would have to say what was copied.)
 fn write_escaped(s: &[u8], i: usize, n: u16, out: &mut [u8], at: At) -> Result<Progress, Stop>
     requires { (stream_length s.now ≡ none) × (at.bytes ≤ length out.old) }
     ensures { RanFrom (write_at at (escape (text_of s.now n i)) out.old) at (seen result) out.old out.new }
