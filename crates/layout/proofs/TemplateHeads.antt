@@ -71,9 +71,6 @@ pub place_next : (at : place.Place) (p k : ℕ) → at ≡ place_of (p + k + 1) 
 place_next at p k e = e ∙ ap place_of (add_assoc p k 1)
 
 -- places that heads are read from
-pub near_next : {s : List ℕ} {at next : place.Place} (a : CountsOn s at 65536) → next ≡ place_of (a.index + 1) → (n : ℕ) → n < 65536 → CountsOn s next n
-near_next a e n l = record { sized = a.sized; index = a.index + 1; place_is = e; near = omega (arith, a.near) }
-
 pub room_near : {s : List ℕ} {at : place.Place} {r : Record} {n : ℕ} → HeadIn s at r n → CountsOn s at 65536
 room_near a = record { sized = a.sized; index = a.within.index; place_is = a.within.place_is; near = omega (arith, a.within.near) }
 

@@ -117,9 +117,6 @@ module _ (t : List ℕ) (p : ℕ) (r : Record) (f : Fetched t p r) where
 abbrev pub TemplatesLeft : List ℕ → ℕ → ℕ → Type 0
 TemplatesLeft t p q = (n : ℕ) × ThingsLeft t (of_kind t 3) (λ n. template_end t) (while_is (of_kind t 3) (λ n. template_end t) (record_count t) 0 p) n q
 
-pub templates_start : (t : List ℕ) (p : ℕ) → TemplatesLeft t p p
-templates_start t p = (0, left_start p)
-
 ends_at : (t : List ℕ) (p e : ℕ) → some e ≡ while_is (of_kind t 3) (λ n. template_end t) (record_count t) 0 p → tail_right t e ≡ rest_right t p
 unfolding rest_right on_found
 ends_at t p e h = rw (← h)

@@ -5,7 +5,7 @@ use mathlib.Core.List.{List}
 use mathlib.Core.Bool.{Bool, true, false, ◌&&◌, false≢true}
 use mathlib.Core.Option.{Option, none, some}
 use native.Mathlib.Omega.{arith}
-use borrow.Author.Tests.{eqb-true, eqb-false, eq-eqb, ne_eqb, lt-ltb, le-ltb}
+use borrow.Author.Tests.{eqb-true, eqb-false, eq-eqb, ne_eqb, lt-ltb}
 use lib.Dec.{eqb, ltb}
 use Rattle.rules.specs.Faults.{on_found, only_if}
 use Rattle.rules.specs.Records.{record_count, field_b, units, padding_of, zeros}
@@ -21,7 +21,7 @@ use Rattle.layout.proofs.CommonLaws.{in_stream}
 use lib.ListN.{length}
 use Rattle.laws.specs.Reads.{few_records}
 use Rattle.layout.specs.Common.{most_records}
-use Rattle.layout.specs.Tree.{Stopped, SizedBefore, Chains, Thing, chain, scan, text_head, head_end, below, fills, Headed}
+use Rattle.layout.specs.Tree.{SizedBefore, Chains, Thing, chain, scan, text_head, head_end, below, fills, Headed}
 use Rattle.layout.proofs.TreeLaws.{fills_scan, scan_step, scan_long, scan_no_head, scan_no_chain, scan_end}
 use Rattle.laws.specs.Rows.{one_less}
 use Rattle.layout.proofs.TreeThings.{thing_is, head_grows}
@@ -48,17 +48,6 @@ module _ (size : ℕ → ℕ) (n k q e : ℕ) where
     chain_go g m z i = rw (one_less n k l, chain, lt-ltb q e g, lt-ltb 0 (size q) (omega arith), z)
 
 -- What the code says of the size of a thing
-
-module _ (s : List ℕ) (q e : ℕ) where
-  pub stopped_at : e ≤ q → Stopped s q e
-  stopped_at l = rw (le-ltb q e l)
-
-  pub stopped_none : {m : ℕ} → m ≡ value_size s q → m ≡ 0 → Stopped s q e
-  stopped_none {m} z i = rw (sym z ∙ i) (never (ltb q e))
-    where
-      never : (b : Bool) → (b && ltb 0 0) ≡ false
-      never true = refl
-      never false = refl
 
 module _ {s : List ℕ} {q e m : ℕ} {at : Place} (c : Chains s q at e) (h : SizedBefore s q e m) where
   pub chains_near : q < most_records

@@ -34,8 +34,8 @@ fn put_row(
 }
 
 // The records up to e, where the value at record 0 ends by its size, are exactly one value. Each head is looked at twice: in its turn, and among
-// the children of another. Each child starts at a record of its own, so that `used` stays below e. (Its loop is that of `one_node` with the rows put
-// down: one function for both would be handed a test of heads and a place for rows as closures, and be no plainer.)
+// the children of another. Each child starts at a record of its own, so that `used` stays below e.
+// (The loop of `one_node` with the rows put down: one function for both would need two closures, and is no plainer.)
 pub fn one_value(v: &[u8], e: usize, firsts: &mut [u16], places: &mut [u16]) -> bool
     requires { TableLent v.now e firsts.old places.old }
     ensures { TablePut v.now e firsts.new places.new result }

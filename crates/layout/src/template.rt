@@ -169,8 +169,8 @@ fn type_right(t: &[u8], at: Place, r: Record) -> bool
     }
 }
 
-// The types, from the first record on: where they end. (Not by `row_end` of a grammar: types have no number, and a place that is carried needs no
-// division.)
+// The types, from the first record on: where they end.
+// (Not by a grammar's `row_end`: types have no number, and a place that is carried needs no division.)
 fn types_end(t: &[u8]) -> Option<usize>
     requires { stream_length t.now ≡ none }
     ensures { end_of result ≡ types_end t.now }
