@@ -63,17 +63,29 @@ fn escaped_len(s: &[u8], t: Text) -> usize
     n
 }
 
-// The escaped form of a byte at the beginning of out.
+// An entity at the beginning of out.
+fn lay(entity: &[u8], out: &mut [u8]) -> usize
+    requires { length entity.now ≤ length out.old }
+    ensures { Put entity.now out.old out.new result }
+{
+    copy_into(entity, out);
+    entity.len()
+}
+
+// The escaped form of a byte at the beginning of out. (The five once more, and not by `entity_of`: what has a length that is known here is copied
+// by a store or two, and a text of quotes took 1.7 times as long.)
+#[tactic(auto, unfolding(rules::specs::Escape::entity))]
 fn put(b: u8, out: &mut [u8]) -> usize
     requires { length (entity b) ≤ length out.old }
     ensures { Put (entity b) out.old out.new result }
 {
-    match entity_of(b) {
-        Some(entity) => {
-            copy_into(entity, out);
-            entity.len()
-        }
-        None => {
+    match b {
+        b'&' => lay(b"&amp;", out),
+        b'<' => lay(b"&lt;", out),
+        b'>' => lay(b"&gt;", out),
+        b'"' => lay(b"&quot;", out),
+        b'\'' => lay(b"&apos;", out),
+        _ => {
             out[0] = b;
             1
         }
