@@ -9,8 +9,8 @@ use mathlib.Core.List.{List, [], ◌∷◌, ◌++◌, append_assoc, append-nil}
 use native.Mathlib.Omega.{arith}
 use native.Mathlib.Numerals.{add-one}
 use native.Mathlib.Nat.{add-zero}
-use lib.ListN.{length, take, drop, get_or, set, length-append, length-drop, take-append-drop}
-use lib.Seq.{drop-drop, take-suc, take_at, drop_at, take-length}
+use lib.ListN.{length, take, drop, get_or, length-append, length-drop, take-append-drop}
+use lib.Seq.{drop-drop, take-suc, take_at, drop_at}
 use borrow.Author.Tests.{le-leb, ne_eqb}
 use borrow.Rule.Slice.PartMut.{put_mid}
 use Rattle.rules.specs.Escape.{entity, escape}
@@ -36,9 +36,6 @@ escape_one b = append-nil (entity b)
 -- one byte more of a part
 pub escape_more : (part : List ℕ) (i : ℕ) → i < length part → escape (take (i + 1) part) ≡ escape (take i part) ++ entity (get_or part i 0)
 escape_more part i l = rw (add-one, take-suc part i 0 l, escape_append, escape_one)
-
-pub escape_all : (part : List ℕ) (i : ℕ) → i ≤ length part → length part ≤ i → escape (take i part) ≡ escape part
-escape_all part i l m = let e : i ≡ length part = omega arith in rw (e, take-length)
 
 pub escape_long : (part : List ℕ) (i : ℕ) → i < length part → length (escape (take i part)) + length (entity (get_or part i 0)) ≤ length (escape part)
 escape_long part i l =
@@ -116,9 +113,6 @@ pub laid_none : (out : List ℕ) → Put [] out out 0
 laid_none out = record { fits = omega arith; long = refl; written = refl }
 
 module _ {text before after : List ℕ} {r : ℕ} (h : Put text before after r) where
-  pub laid_length : length after ≡ length before
-  laid_length = ap length h.written ∙ simp (length-append, length-drop) (omega (arith, h.fits))
-
   laid_front : take r after ≡ text
   laid_front = ap (take r) h.written ∙ take_at text (drop (length text) before) r (sym h.long)
 
@@ -194,23 +188,6 @@ module _ (part : List ℕ) (i : ℕ) (l : i < length part) where
       → Put (entity (get_or part i 0)) (take (length out - done) (drop done out)) last m
       → Put (escape (take (i + 1) part)) out₀ (put_mid done (length out - done) out last) (done + m)
   put_more h k = rw (escape_more part i l) (laid_more h k)
-
--- what is laid is no longer than what is lent
-pub laid_within : {text before after : List ℕ} {r : ℕ} → Put text before after r → r ≤ length after
-laid_within h = omega (arith, h.long, h.fits, laid_length h)
-
--- a byte that is its own escaped form
-pub laid_itself : (b : ℕ) (out : List ℕ) → entity b ≡ b ∷ [] → length (entity b) ≤ length out → Put (entity b) out (set out 0 b) 1
-laid_itself b [] e l = absurd (omega (arith, ap length e))
-laid_itself b (x ∷ xs) e l = rw e record { fits = omega (arith, l); long = refl; written = refl }
-
-pub laid_fits : {text before after more last : List ℕ} {r m : ℕ} → Put text before after r → Put more (take (length after - r) (drop r after)) last m
-    → r + m ≤ length before
-laid_fits h k = omega (arith, h.long, h.fits, k.long, k.fits, laid_room h, laid_length h)
-
--- a part of a text, of which the stream's bytes are known to be few
-pub part_small : (s part : List ℕ) (t r : Text) → Rest s t r → part ≡ part_of s t → t.left ≤ 65535 → length part ≤ 65535
-part_small s part t r h e l = rw e (omega (arith, h.spent))
 
 module _ (s : List ℕ) (t r : Text) (part : List ℕ) (h : Rest s t r) (e : part ≡ part_of s t) where
   -- the length of what is left, and of the part

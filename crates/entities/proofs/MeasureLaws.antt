@@ -5,11 +5,11 @@ use mathlib.Core.List.{List, [], ◌∷◌}
 use mathlib.Core.Bool.{Bool, true, false}
 use mathlib.Core.Option.{Option, none, some}
 use native.Mathlib.Omega.{arith}
-use native.Mathlib.Nat.{add-zero, le_refl}
+use native.Mathlib.Nat.{add-zero}
 use lib.ListN.{length, drop, get_or, length-drop, drop_of_length-le}
 use lib.Seq.{drop-drop}
-use lib.Dec.{eqb, ltb}
-use borrow.Author.Tests.{eqb-true, eqb-false, ltb-true, ltb-false}
+use lib.Dec.{eqb}
+use borrow.Author.Tests.{eqb-true, eqb-false}
 use Rattle.std.specs.Prelude.{Option as Maybe, Some, None}
 use Rattle.std.specs.Bool.{then_some}
 use Rattle.rules.specs.Faults.{on_found, only_if}
@@ -51,9 +51,6 @@ pub record Measuring (text : List ℕ) (u : Utf8) (n at : ℕ) : Type 0 where
   pub inside : at ≤ length text
   pub fewer : n ≤ at
   pub same : length_from (Some u) n (unescaped (drop at text)) ≡ length_from (Some calm) 0 (unescaped text)
-
-pub measure_start : (text : List ℕ) (u : Utf8) → u ≡ calm → Measuring text u 0 0
-measure_start text u e = record { inside = omega arith; fewer = omega arith; same = rw e }
 
 drop_some : (text : List ℕ) (at : ℕ) → at < length text → 1 ≤ length (drop at text)
 drop_some text at l = rw length-drop (omega arith)
@@ -161,21 +158,3 @@ module _ {text : List ℕ} {u : Utf8} {n₀ at₀ at : ℕ} (g : Measuring text 
     }
 
 -- The run of letters, letter by letter
-
-pub run_start : (text : List ℕ) (from due : ℕ) → from ≤ length text → Letters text from due from
-run_start text from due l = record { onward = le_refl _; inside = l; letters = λ i x y. absurd (omega arith); idle = λ w. refl }
-
-pub run_more : {text : List ℕ} {from due i : ℕ} → Letters text from due i → due ≡ 0 → i < length text → Letter (get_or text i 0) → Letters text from due (i + 1)
-run_more {text} {from} {due} {i} h d l e = record {
-  onward = omega (arith, h.onward);
-  inside = omega arith;
-  letters = λ k x y. go k x y (ltb k i) refl;
-  idle = λ w. absurd (w d);
-}
-  where
-    go : (k : ℕ) → from ≤ k → k < i + 1 → (b : Bool) → ltb k i ≡ b → Letter (get_or text k 0)
-    go k x y true f = h.letters k x (ltb-true k i f)
-    go k x y false f = let z : k ≡ i = omega (arith, ltb-false k i f) in rw z e
-
-pub run_end : {text : List ℕ} {from due i : ℕ} → Letters text from due i → length text ≤ i → Letters text from due (length text)
-run_end {text} {from} {due} {i} h l = let e : i ≡ length text = omega (arith, h.inside) in rw e at h

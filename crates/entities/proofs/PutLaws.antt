@@ -29,9 +29,6 @@ pub record Putting (text out₀ out : List ℕ) (n at : ℕ) : Type 0 where
   pub so_far : out ≡ take n plain ++ drop n out₀
   pub long : length out ≡ length out₀
 
-pub put_start : (text out : List ℕ) → Plainly text (length out) → Putting text out out 0 0
-put_start text out p = record { plain = p.plain; is = p.is; fits = p.fits; few = omega arith; inside = omega arith; rest = p.is; so_far = refl; long = refl }
-
 -- what begins with no byte's escaped form, and is an escaped form, is empty
 read_none : (text x : List ℕ) → plain_in text ≡ none → unescaped text ≡ some x → text ≡ []
 read_none [] x p e = refl
@@ -122,9 +119,6 @@ module _ (text out : List ℕ) {long : ℕ} (p : Plainly text (length out)) (q :
   own_form =
       let f : escape p.plain ≡ text = escape_of_unescaped 0 text p.plain (unescaped_from text p.plain p.is) in
       sym (escape_same p.plain (omega (arith, ap length f, q p.plain p.is))) ∙ f
-
-  pub copy_room : length text ≤ length out
-  copy_room = omega (arith, p.fits, q p.plain p.is)
 
   pub copied : {last : List ℕ} → last ≡ text ++ drop (length text) out → (x : List ℕ) → unescaped text ≡ some x → last ≡ x ++ drop (length x) out
   copied f x g =

@@ -1,4 +1,3 @@
-use mathlib.Core.Bool.{false≢true}
 use mathlib.Core.Path.{sym, ◌∙◌}
 use native.Mathlib.Omega.{arith}
 use Rattle.stream.proofs.PartsLaws.{turn}

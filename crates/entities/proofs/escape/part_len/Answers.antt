@@ -1,8 +1,7 @@
-use mathlib.Core.Path.{refl, ap, ◌∙◌}
+use mathlib.Core.Path.{refl}
 use native.Mathlib.Omega.{arith}
-use lib.ListN.{length}
 use Rattle.rules.specs.Escape.{escape}
-use Rattle.entities.proofs.EscapeLaws.{escape_all, len_more, len_small}
+use Rattle.entities.proofs.EscapeLaws.{len_more, len_small}
 use Rattle.entities.proofs.escape.part_len.Goals as goal
 
 pub loop-b-init : goal.loop-b-init
@@ -14,6 +13,3 @@ overflow_add-n c = omega (arith, len_small c.args.part.now c.loop-b.b-index c.lo
 
 pub loop-b-preserved : goal.loop-b-preserved
 loop-b-preserved c = len_more _ _ c.loop-b-test.true _ _ c.loop-b.invariant c.byte_len-n.ensures
-
-pub returns : goal.returns
-returns c = c.loop-b.invariant ∙ ap length (escape_all _ _ c.loop-b.auto.b-index-end c.loop-b-test.false)

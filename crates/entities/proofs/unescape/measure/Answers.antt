@@ -1,9 +1,6 @@
 use native.Mathlib.Omega.{arith}
-use Rattle.entities.proofs.MeasureLaws.{measure_start, measure_none, measure_inside, measure_grows, measure_bad, measure_turn, measure_end}
+use Rattle.entities.proofs.MeasureLaws.{measure_none, measure_inside, measure_grows, measure_bad, measure_turn, measure_end}
 use Rattle.entities.proofs.unescape.measure.Goals as goal
-
-pub loop-at-init : goal.loop-at-init
-loop-at-init c = measure_start _ _ c.between-u.ensures
 
 pub returns-then-at-text : goal.returns-then-at-text
 returns-then-at-text c = measure_end c.loop-at.invariant c.ahead-here.ensures c.if-at-text.true c.then_some.ensures

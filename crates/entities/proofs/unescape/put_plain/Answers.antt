@@ -1,9 +1,6 @@
 use native.Mathlib.Omega.{arith}
-use Rattle.entities.proofs.PutLaws.{put_start, put_grows, put_inside, put_room, put_turn, put_end}
+use Rattle.entities.proofs.PutLaws.{put_grows, put_inside, put_room, put_turn, put_end}
 use Rattle.entities.proofs.unescape.put_plain.Goals as goal
-
-pub loop-plain-init : goal.loop-plain-init
-loop-plain-init c = put_start _ _ c.requires
 
 pub bounds-out-n : goal.bounds-out-n
 bounds-out-n c = put_room c.loop-plain.invariant c.in-Some.ensures
@@ -16,9 +13,6 @@ loop-plain-smaller c = omega (arith, put_grows c.loop-plain.invariant c.in-Some.
 
 pub loop-plain-preserved : goal.loop-plain-preserved
 loop-plain-preserved c = put_turn c.loop-plain.invariant c.in-Some.ensures
-
-pub shape_of-out : goal.shape_of-out
-shape_of-out c = c.loop-plain.invariant.long
 
 pub returns : goal.returns
 returns c = put_end c.loop-plain.invariant c.in_default.ensures
