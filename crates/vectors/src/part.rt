@@ -32,7 +32,7 @@ fn run(s: &mut [u8], first: u8, step: u8) {
 }
 
 // Reads until buf is full or the file ends, and answers how many bytes there are. A read that a signal interrupted brought nothing, and is made
-// again.
+// again. (`harbour` has the same function: a crate for this one alone would be no plainer.)
 fn read_full(file: &mut impl Read, buf: &mut [u8]) -> io::Result<usize>
     ensures { ReadsAtMost result buf.new }
 {
