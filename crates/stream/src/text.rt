@@ -33,13 +33,6 @@ pub fn text_after(s: &[u8], i: usize, n: usize) -> Text
     }
 }
 
-// The lesser of two numbers, for whoever cuts a part off.
-pub fn least(a: usize, b: usize) -> usize
-    ensures { result ≡ min a b }
-{
-    if a < b { a } else { b }
-}
-
 // How many bytes of payload a block has from an address on.
 fn room_at(at: usize) -> usize
     requires { at < 2 ^ 63 }
@@ -56,7 +49,7 @@ pub fn text_part(s: &[u8], t: Text) -> &[u8]
     if s.len() <= at {
         return &s[0..0];
     }
-    let end = least(at + least(t.left, room_at(at)), s.len());
+    let end = (at + t.left.min(room_at(at))).min(s.len());
     &s[at..end]
 }
 

@@ -1,16 +1,11 @@
 use native.Mathlib.Omega.{arith}
 use native.Mathlib.Nat.{zero-add, le_refl}
 use Rattle.stream.proofs.PartsLaws.{turn}
-use Rattle.entities.proofs.EscapeLaws.{part_small, lengths_add, lengths_end, escaped_small}
+use Rattle.entities.proofs.EscapeLaws.{lengths_add, lengths_end, escaped_small}
 use Rattle.entities.proofs.escape.escaped_len.Goals as goal
 
 pub loop-part-init : goal.loop-part-init
 loop-part-init c = let all = c.parts_of-part-items.ensures in rw c.into_iter-part-iterator.ensures.into_iter_gives (all.0, rw all.1 (le_refl _), rw all.1 (zero-add _))
-
-pub part_len-n-requires : goal.part_len-n-requires
-part_len-n-requires c =
-    let now = turn _ _ _ _ c.loop-part.invariant.0 c.in-Some.ensures.steps in
-    part_small _ _ _ _ now.rest now.part (omega (arith, c.loop-part.invariant.1, c.requires))
 
 pub overflow_add-n : goal.overflow_add-n
 overflow_add-n c =

@@ -7,9 +7,6 @@ use Rattle.entities.proofs.escape.is_own_form.Goals as goal
 pub loop-part-init : goal.loop-part-init
 loop-part-init c = let all = c.parts_of-part-items.ensures in rw c.into_iter-part-iterator.ensures.into_iter_gives (all.0, rw all.1 (λ e. e))
 
-pub returns-then-not-is_own_form_part : goal.returns-then-not-is_own_form_part
-returns-then-not-is_own_form_part c = λ e. absurd (false≢true e)
-
 pub loop-part-preserved : goal.loop-part-preserved
 loop-part-preserved c =
     let now = turn _ _ _ _ c.loop-part.invariant.0 c.in-Some.ensures.steps in

@@ -11,4 +11,4 @@ unfolding room
 overflow_add-at c = omega arith
 
 pub returns : goal.returns
-returns c = part_here _ _ _ _ (rw c.room_at.ensures at c.least.ensures) c.least-end.ensures
+returns c = part_here _ _ _ _ (rw c.room_at.ensures at c.min.ensures) c.min-end.ensures
