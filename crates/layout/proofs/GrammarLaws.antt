@@ -10,7 +10,7 @@ use Rattle.std.specs.Prelude as code
 use native.Mathlib.Omega.{arith}
 use native.Mathlib.Numerals.{add-one}
 use native.Mathlib.Nat.{sub-zero}
-use borrow.Author.Tests.{eq-eqb, ne_eqb, eqb-true}
+use borrow.Author.Tests.{eq-eqb, ne_eqb, eqb-true, eqb-false}
 use lib.Dec.{eqb, leb}
 use Rattle.rules.specs.Faults.{need, on_found, only_if}
 use Rattle.rules.specs.Blocks.{stream_length}
@@ -210,6 +210,14 @@ tells_kind r kind = record {
   told = λ s p f. ap (λ k. eqb k (suc kind)) f.kind;
   inside = λ s p w f e. inside s w p kind (kind_here f (suc kind) (eqb-true r.kind (suc kind) e));
 }
+
+-- and so of a kind that was tested
+module _ {kind : ℕ} {s : List ℕ} {p : ℕ} {r : Record} {b : Bool} (t : Tells (λ s. of_kind s kind) r b) (f : Fetched s p r) where
+  pub kind_is : b ≡ true → r.kind ≡ kind
+  kind_is e = f.kind ∙ eqb-true (kind_of s p) kind (sym (t.told s p f) ∙ e)
+
+  pub kind_not : b ≡ false → r.kind ≡ kind → ⊥
+  kind_not e z = eqb-false (kind_of s p) kind (sym (t.told s p f) ∙ e) (sym f.kind ∙ z)
 
 pub tells_class : (r : Record) (b : Bool) → b ≡ (eqb r.kind 1 || eqb r.kind 5) → Tells is_class r b
 tells_class r b e = record { told = λ s p f. class_is s p r f b e; inside = λ s p w f i. (class_stands f b e w i).inside }

@@ -12,6 +12,7 @@ ghost use Rattle.layout.specs.Template.{naming, path_record, TellsOne, types_end
 ghost use Rattle.layout.specs.Sorts.{HeadInside};
 
 use crate::common::{record_count, tail_right, zero_from};
+use crate::sorts::{Sort, Templates, Types};
 use crate::tree::{Head, chained, text_head};
 use records::node::form_of;
 use records::value::size_of;
@@ -179,7 +180,7 @@ fn types_end(t: &[u8]) -> Option<usize>
     let mut at = place_of(0);
     loop {
         let r = fetch_at(t, at);
-        if r.kind != 1 {
+        if !Types::is_head(r) {
             return Some(p);
         }
         if !type_right(t, at, r) {
@@ -211,7 +212,7 @@ fn templates_from(t: &[u8], p: usize) -> bool
     let mut q = p;
     loop {
         let r = fetch(t, q);
-        if r.kind != 3 {
+        if !Templates::is_head(r) {
             return tail_right(t, q);
         }
         if !template_right(t, q, r) {
