@@ -1,10 +1,6 @@
 use Rattle.std.proofs.Common.{sym, ◌∙◌}
-use Rattle.std.proofs.Math.Nat.{sub-zero}
 use Rattle.layout.proofs.GrammarLaws.{turns_stop, turns_done, turns_go, turns_broken}
 use Rattle.layout.proofs.grammar.row_end.Goals as goal
-
-pub loop-n-init : goal.loop-n-init
-loop-n-init g c = rw (sub-zero, c.record_count-n-end.ensures)
 
 pub returns-then-not-is_head : goal.returns-then-not-is_head
 returns-then-not-is_head g c = sym (turns_stop _ _ _ _ _ (sym (c.is_head.ensures.told _ _ c.fetch-head.ensures) ∙ c.if-not-is_head.true)) ∙ c.loop-n.invariant

@@ -1,11 +1,7 @@
-use Rattle.std.proofs.Common.{◌∙◌, arith, add-zero}
-use Rattle.std.proofs.Math.Nat.{sub-zero}
+use Rattle.std.proofs.Common.{◌∙◌, arith}
 use Rattle.layout.proofs.CommonLaws.{reach}
 use Rattle.layout.proofs.TemplateHeads.{record_wrong, record_right, records_done, place_next}
 use Rattle.layout.proofs.template.in_row.Goals as goal
-
-pub loop-init : goal.loop-init
-loop-init g c = λ p e. (rw add-zero e, λ one h. rw (add-zero, sub-zero))
 
 pub returns-then-not-is_one : goal.returns-then-not-is_one
 returns-then-not-is_one g c = λ one h p e. record_wrong _ _ _ p c.loop-test.true _ (h _ _ _ (c.fetch_at.ensures _ (c.loop.invariant p e).0) c.is_one.ensures) c.if-not-is_one.true ∙ (c.loop.invariant p e).1 one h

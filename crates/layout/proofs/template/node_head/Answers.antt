@@ -1,24 +1,9 @@
 use Rattle.std.proofs.Common.{refl}
-use Rattle.layout.proofs.TemplateHeads.{room_near, no_node, a_build, a_literal, not_literal, a_place, an_expand, an_if, a_for, a_sequence, not_sequence, a_match, unknown}
+use Rattle.layout.proofs.TemplateHeads.{no_node, a_build, a_literal, not_literal, a_place, an_expand, an_if, a_for, a_sequence, not_sequence, a_match, unknown}
 use Rattle.layout.proofs.template.node_head.Goals as goal
 
 pub returns-then-r-ne5 : goal.returns-then-r-ne5
 returns-then-r-ne5 c = λ p e f. no_node _ p _ f c.if-r-ne5.true
-
-pub bare_path_head-requires : goal.bare_path_head-requires
-bare_path_head-requires c = room_near c.requires
-
-pub expand_head-requires : goal.expand_head-requires
-expand_head-requires c = room_near c.requires
-
-pub bare_path_head-requires-in-If : goal.bare_path_head-requires-in-If
-bare_path_head-requires-in-If c = room_near c.requires
-
-pub bare_path_head-requires-in-For : goal.bare_path_head-requires-in-For
-bare_path_head-requires-in-For c = room_near c.requires
-
-pub path_head-requires : goal.path_head-requires
-path_head-requires c = room_near c.requires
 
 pub returns-in-Build : goal.returns-in-Build
 returns-in-Build c = λ p e f. rw c.from-below.ensures (a_build _ p _ f c.if-r-ne5.false c.form_of.ensures c.in-Build.is)
