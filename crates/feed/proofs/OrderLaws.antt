@@ -29,7 +29,7 @@ use Rattle.feed.specs.declared.verdict.Refusal.{Refusal}
 use Rattle.feed.specs.declared.verdict.Rule.{Rule}
 use Rattle.lexeme.specs.Sets.{LexemesReady}
 use Rattle.feed.specs.declared.set.Heads.{Heads}
-use Rattle.feed.specs.Asks.{AllJudged, SetJudged, HeadsJudged}
+use Rattle.feed.specs.Asks.{AllJudged, SetJudged, HeadsFilled, HeadsJudged}
 use Rattle.feed.specs.Verdict.{rule_number, kind_number, refusal_answer, verdict_of, first_of, streams_refusal, set_judgement, depth_of, typing_of, judgement, evaluate_answer, outcome}
 
 -- what a `?` hands on
@@ -266,8 +266,8 @@ module _ (g t : List ℕ) where
 
 -- with the tables of heads
 pub heads_refused : (g t : List ℕ) (value : Maybe (List ℕ)) (of-g of-t : List ℕ) (r : Result Heads Refusal) (x : Refusal) → IsErrAnd r (λ y. y ≡ x)
-    → some (refusal_answer x) ≡ judgement g t value → HeadsJudged g t value of-g of-t r
-heads_refused g t value of-g of-t r x h e = let p = err_from_is_err_and r h in rw (p.1, p.2) (record { is = e; filled = tt })
+    → some (refusal_answer x) ≡ judgement g t value → (heads : Heads) → HeadsFilled g t of-g of-t heads → HeadsJudged g t value of-g of-t r
+heads_refused g t value of-g of-t r x h e heads f = let p = err_from_is_err_and r h in rw (p.1, p.2) (record { is = e; filled = tt; heads = heads; tables = f })
 
 -- the check call
 module _ (g t : List ℕ) where

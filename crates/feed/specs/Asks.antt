@@ -65,10 +65,12 @@ pub record HeadsFilled (g t of-g of-t : List ℕ) (h : Heads) : Type 0 where
   pub in_grammar : h.productions ≤ record_count g
   pub in_templates : h.templates ≤ record_count t
 
--- the verdict is that of 4 to 8; if all passed, the tables are filled
+-- the verdict is that of 4 to 8; the tables are filled whatever it is, and if all passed it tells where their heads are
 pub record HeadsJudged (g t : List ℕ) (value : Maybe (List ℕ)) (of-g of-t : List ℕ) (r : Result Heads Refusal) : Type 0 where
   pub is : verdict_of r ≡ judgement g t value
   pub filled : IfOk r (HeadsFilled g t of-g of-t)
+  pub heads : Heads
+  pub tables : HeadsFilled g t of-g of-t heads
 
 -- an array of n numbers has room for the heads of a stream
 pub record Room (s : List ℕ) (n : ℕ) : Type 0 where
