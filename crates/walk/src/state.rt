@@ -58,7 +58,7 @@ pub struct Run {
     pub number: u32,
 }
 
-pub fn come_out(end: Result<Progress, Stop>) -> Run
+pub(crate) fn come_out(end: Result<Progress, Stop>) -> Run
     ensures { result ≡ seen end }
 {
     match end {

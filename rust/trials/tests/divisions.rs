@@ -10,7 +10,7 @@ use std::path::{Path, PathBuf};
 const NO_FETCH: [(&str, &str, &str); 3] = [
     (
         "crates/entities/src/escape.rt",
-        "if out.len() / 6 < t.left {",
+        "if out.len() / LONGEST < t.left {",
         "bytes of output: an entity has at most six",
     ),
     (
