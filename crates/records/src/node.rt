@@ -1,12 +1,11 @@
 // A template node, from its head.
 ghost use Rattle.std.specs.Prelude.{◌≡◌, ◌<◌, eqb};
-ghost use Rattle.std.proofs.Math.Option.{none};
-ghost use Rattle.rules.specs.Blocks.{stream_length};
 ghost use Rattle.rules.specs.Records.{field_c};
 ghost use Rattle.rules.specs.Templates.{form_numbered};
 
 use rules::Form;
-use stream::record::{Record, fetch};
+use stream::Stream;
+use stream::record::Record;
 
 // The form of the node with this head.
 pub fn form_of(head: Record) -> Form
@@ -40,9 +39,8 @@ pub fn size_in(head: Record) -> usize
 }
 
 // How many records the node at p has: where it ends, the next one begins.
-pub fn size_at(t: &[u8], p: usize) -> usize
-    requires { stream_length t.now ≡ none }
+pub fn size_at(t: &Stream<'_>, p: usize) -> usize
     ensures { (result ≡ field_c t.now p) × (result < 65536) }
 {
-    size_in(fetch(t, p))
+    size_in(t.fetch(p))
 }

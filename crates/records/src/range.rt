@@ -1,10 +1,8 @@
 // A range of a class, from its record.
 ghost use Rattle.std.specs.Prelude.{◌≡◌};
-ghost use Rattle.std.proofs.Math.Option.{none};
-ghost use Rattle.rules.specs.Blocks.{stream_length};
 ghost use Rattle.records.specs.Ranges.{RangeAt};
 
-use stream::record::fetch;
+use stream::Stream;
 
 // A range of code points, both ends in it.
 #[derive(Clone, Copy)]
@@ -14,11 +12,10 @@ pub struct Range {
 }
 
 // The range at record i. Three bytes for each end, so 24 bits: a and b; c and the low byte of d.
-pub fn range_at(g: &[u8], i: usize) -> Range
-    requires { stream_length g.now ≡ none }
+pub fn range_at(g: &Stream<'_>, i: usize) -> Range
     ensures { RangeAt g.now i result }
 {
-    let r = fetch(g, i);
+    let r = g.fetch(i);
     Range {
         lowest: r.a as usize + 256 * (r.b as usize),
         highest: r.c as usize + 65536 * (r.d as usize % 256),

@@ -4,3 +4,4 @@ pub mod Fnv
 pub mod Parts
 pub mod Record
 pub mod Text
+pub mod Whole

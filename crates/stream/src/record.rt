@@ -1,9 +1,9 @@
 // The fetch of a record, whole: by its index, or by a place that a scan carries from head to head.
 ghost use Rattle.std.specs.Prelude.{◌≡◌, ℕ, ◌+◌, ◌*◌, ◌/◌, ◌≤◌, ◌<◌, ◌^◌, length};
-ghost use Rattle.std.proofs.Math.Option.{none};
-ghost use Rattle.rules.specs.Blocks.{stream_length};
 ghost use Rattle.rules.specs.Records.{base};
 ghost use Rattle.stream.specs.Record.{Fetched, record_at, place_of, Reach};
+
+use crate::Stream;
 
 // A record: byte 0, byte 1, and three words of 16 bits. Bytes 2 to 7 are the words' low and high bytes.
 #[derive(Clone, Copy, Default)]
@@ -70,43 +70,46 @@ fn inside(s: &[u8], at: usize) -> Record
     }
 }
 
-// Record i: two tests and one address. Refusal 1 was tried, so that blocks are whole and no record is cut short; past the end all fields are 0.
-pub fn fetch(s: &[u8], i: usize) -> Record
-    requires { stream_length s.now ≡ none }
-    ensures { Fetched s.now i result }
-{
-    if NEAR <= i {
-        return Record::default();
+impl Stream<'_> {
+    // Record i: two tests and one address. Blocks are whole, so that no record is cut short; past the end all fields are 0.
+    pub fn fetch(&self, i: usize) -> Record
+        ensures { Fetched self.now i result }
+    {
+        let s = self.bytes();
+        if NEAR <= i {
+            return Record::default();
+        }
+        let block = block_of(i);
+        if block < s.len() / 512 {
+            return inside(s, address(i, block));
+        }
+        Record::default()
     }
-    let block = block_of(i);
-    if block < s.len() / 512 {
-        return inside(s, address(i, block));
-    }
-    Record::default()
-}
 
-// The record at a place.
-pub fn fetch_at(s: &[u8], p: Place) -> Record
-    requires { stream_length s.now ≡ none }
-    ensures { (i : ℕ) → p ≡ place_of i → Fetched s.now i result }
-{
-    let at = p.at;
-    if s.len() <= at {
-        return Record::default();
+    // The record at a place.
+    pub fn fetch_at(&self, p: Place) -> Record
+        ensures { (i : ℕ) → p ≡ place_of i → Fetched self.now i result }
+    {
+        let s = self.bytes();
+        let at = p.at;
+        if s.len() <= at {
+            return Record::default();
+        }
+        if s.len() - at < 8 {
+            return Record::default();
+        }
+        inside(s, at)
     }
-    if s.len() - at < 8 {
-        return Record::default();
-    }
-    inside(s, at)
-}
 
-// The record at a place whose 8 bytes lie in the stream: nothing is tested.
-pub fn fetch_in(s: &[u8], p: Place) -> Record
-    requires { p.at + 8 ≤ length s.now }
-    ensures { (i : ℕ) → p ≡ place_of i → Fetched s.now i result }
-{
-    let at = p.at;
-    inside(s, at)
+    // The record at a place whose 8 bytes lie in the stream: nothing is tested.
+    pub fn fetch_in(&self, p: Place) -> Record
+        requires { p.at + 8 ≤ length self.now }
+        ensures { (i : ℕ) → p ≡ place_of i → Fetched self.now i result }
+    {
+        let s = self.bytes();
+        let at = p.at;
+        inside(s, at)
+    }
 }
 
 // The place of record i: where a scan starts.

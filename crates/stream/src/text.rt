@@ -1,12 +1,11 @@
 // The reader of text. The bytes of a text lie in the payloads of blocks in a row; they are handed on block by block, as parts of the stream.
 ghost use Rattle.std.specs.Prelude.{◌≡◌, ◌+◌, ◌*◌, min, ◌≤◌, ◌<◌, ◌^◌, length};
-ghost use Rattle.std.proofs.Math.Option.{none};
-ghost use Rattle.rules.specs.Blocks.{stream_length};
 ghost use Rattle.rules.specs.Records.{text_of};
 ghost use Rattle.std.specs.Iterator.{at_most};
 ghost use Rattle.stream.specs.Text.{text_in, Begins, room, part_of, Rest, Skips, Copied};
 ghost use Rattle.stream.specs.Parts.{GivesPart};
 
+use crate::Stream;
 use crate::copy::copy_into;
 use crate::record::{NEAR, address, block_of};
 
@@ -17,19 +16,21 @@ pub struct Text {
     pub left: usize,
 }
 
-// The text of n bytes after the head at record i. A head past the end of the stream has none: its text would lie past the end as well, and of what
-// lies there `text_part` hands out nothing.
-pub fn text_after(s: &[u8], i: usize, n: usize) -> Text
-    requires { stream_length s.now ≡ none }
-    ensures { Begins s.now (text_of s.now n i) n result }
-{
-    if NEAR <= i {
-        return Text { at: 0, left: 0 };
-    }
-    let first = i + 1;
-    Text {
-        at: address(first, block_of(first)),
-        left: n,
+impl Stream<'_> {
+    // The text of n bytes after the head at record i. A head past the end of the stream has none: its text would lie past the end as well, and of
+    // what lies there `text_part` hands out nothing.
+    pub fn text_after(&self, i: usize, n: usize) -> Text
+        ensures { Begins self.now (text_of self.now n i) n result }
+    {
+        let _ = &self.bytes;
+        if NEAR <= i {
+            return Text { at: 0, left: 0 };
+        }
+        let first = i + 1;
+        Text {
+            at: address(first, block_of(first)),
+            left: n,
+        }
     }
 }
 
