@@ -3,8 +3,7 @@
 #![tactic(auto)]
 
 ghost use Rattle.std.specs.Prelude.{◌≡◌, false, ℕ};
-ghost use Rattle.std.proofs.Math.Option.{none, some};
-ghost use Rattle.rules.specs.Blocks.{stream_length};
+ghost use Rattle.std.proofs.Math.Option.{some};
 ghost use Rattle.rules.specs.Records.{field_b, text_of};
 ghost use Rattle.rules.specs.Grammar.{class};
 ghost use Rattle.rules.specs.Faults.{on_found};
@@ -26,16 +25,16 @@ use records::class::is_escaped;
 use runs::run_from;
 use scan::{between, scan_part};
 use sets::SET;
-use stream::record::fetch;
-use stream::text::{Text, parts_of, text_after, text_len, text_part, text_rest, text_skip};
+use stream::Stream;
+use stream::text::{Text, parts_of, text_len, text_part, text_rest, text_skip};
 
 // Whether a text is a lexeme of the class whose record is at p, by its number c; a class that is not plain has none here. It is read where it lies,
 // block by block, up to the part that settles it.
-fn admits_parts(g: &[u8], p: u16, set: &[u16], table: &[u16], s: &[u8], t: Text) -> bool
+fn admits_parts(g: &Stream<'_>, p: u16, set: &[u16], table: &[u16], s: &[u8], t: Text) -> bool
     requires { ClassSet g.now p set.now }
     ensures { (c : ℕ) → class g.now c ≡ some p → result ≡ is_plain_lexeme g.now c (text_in s.now t) }
 {
-    let head = fetch(g, p as usize);
+    let head = g.fetch(p as usize);
     if head.kind != 1 {
         return false;
     }
@@ -54,7 +53,7 @@ fn admits_parts(g: &[u8], p: u16, set: &[u16], table: &[u16], s: &[u8], t: Text)
 }
 
 // The same. Most texts lie in one block and have no character of more than two bytes: one run settles them, and no state is carried.
-fn admits_text(g: &[u8], p: u16, set: &[u16], table: &[u16], s: &[u8], t: Text) -> bool
+fn admits_text(g: &Stream<'_>, p: u16, set: &[u16], table: &[u16], s: &[u8], t: Text) -> bool
     requires { ClassSet g.now p set.now }
     ensures { (c : ℕ) → class g.now c ≡ some p → result ≡ is_plain_lexeme g.now c (text_in s.now t) }
 {
@@ -63,7 +62,7 @@ fn admits_text(g: &[u8], p: u16, set: &[u16], table: &[u16], s: &[u8], t: Text) 
     if rest.left == 0 {
         let run = run_from(part, 0, set);
         if part.len() <= run.at {
-            let head = fetch(g, p as usize);
+            let head = g.fetch(p as usize);
             return head.kind == 1 && head.b as usize <= run.count && run.count <= head.c as usize;
         }
     }
@@ -72,11 +71,11 @@ fn admits_text(g: &[u8], p: u16, set: &[u16], table: &[u16], s: &[u8], t: Text) 
 
 // Whether a text is the escaped form of a lexeme of the class whose record is at p, by its number c. The plain bytes go to the scan one by one:
 // escaped forms are tried where a designer wrote one, and these are few.
-fn admits_escaped(g: &[u8], p: u16, set: &[u16], table: &[u16], s: &[u8], t: Text) -> bool
+fn admits_escaped(g: &Stream<'_>, p: u16, set: &[u16], table: &[u16], s: &[u8], t: Text) -> bool
     requires { ClassSet g.now p set.now }
     ensures { (c : ℕ) → class g.now c ≡ some p → result ≡ on_found (unescaped (text_in s.now t)) false (is_plain_lexeme g.now c) }
 {
-    let head = fetch(g, p as usize);
+    let head = g.fetch(p as usize);
     if head.kind != 1 {
         return false;
     }
@@ -120,12 +119,12 @@ impl Source {
     }
 }
 
-pub fn source_of(g: &[u8], classes: &[u16], c: u16) -> Source
+pub fn source_of(g: &Stream<'_>, classes: &[u16], c: u16) -> Source
     requires { ClassesLent g.now classes.now }
     ensures { SourceOf g.now c result }
 {
     if let Some(p) = classes.get(c as usize) {
-        let head = fetch(g, *p as usize);
+        let head = g.fetch(*p as usize);
         if is_escaped(head) {
             return Source::Escaped(head.b);
         }
@@ -135,7 +134,14 @@ pub fn source_of(g: &[u8], classes: &[u16], c: u16) -> Source
 
 // Whether a text is a lexeme of the plain class of a source, or, if that is escaped, the escaped form of one. There are no lexemes of a class that
 // doesn't exist.
-pub fn admits(g: &[u8], classes: &[u16], sets: &[u16], source: Source, s: &[u8], t: Text) -> bool
+pub fn admits(
+    g: &Stream<'_>,
+    classes: &[u16],
+    sets: &[u16],
+    source: Source,
+    s: &[u8],
+    t: Text,
+) -> bool
     requires { LexemesReady g.now classes.now sets.now }
     ensures { result ≡ admitted g.now source (text_in s.now t) }
 {
@@ -152,12 +158,18 @@ pub fn admits(g: &[u8], classes: &[u16], sets: &[u16], source: Source, s: &[u8],
 }
 
 // Whether the text of the head at record i of s, of as many bytes as its field b says, is a lexeme of class c.
-pub fn is_lexeme(g: &[u8], classes: &[u16], sets: &[u16], c: u16, s: &[u8], i: usize) -> bool
-    requires lexemes_ready { LexemesReady g.now classes.now sets.now }
-    requires s_value { stream_length s.now ≡ none }
+pub fn is_lexeme(
+    g: &Stream<'_>,
+    classes: &[u16],
+    sets: &[u16],
+    c: u16,
+    s: &Stream<'_>,
+    i: usize,
+) -> bool
+    requires { LexemesReady g.now classes.now sets.now }
     ensures { result ≡ is_lexeme g.now c (text_of s.now (field_b s.now i) i) }
 {
-    let head = fetch(s, i);
-    let text = text_after(s, i, head.b as usize);
-    admits(g, classes, sets, source_of(g, classes, c), s, text)
+    let head = s.fetch(i);
+    let text = s.text_after(i, head.b as usize);
+    admits(g, classes, sets, source_of(g, classes, c), s.bytes(), text)
 }

@@ -9,6 +9,7 @@ use crate::class::in_class;
 use crate::runs::{TextRun, run_from};
 use crate::sets::{has, word};
 use entities::first_bytes::{least_next, most_next};
+use stream::Stream;
 
 // Between two bytes, if all was well so far: how many bytes of a character are still due, the next of them from low to high, and its bits so
 // far; and the characters before it.
@@ -75,7 +76,7 @@ fn lead(count: usize, b: u8) -> Option<Scan>
     Some(inside(count, 3, least_next(b), most_next(b), usize::from(b - 0xf0)))
 }
 
-fn first(g: &[u8], p: u16, set: &[u16], count: usize, b: u8) -> Option<Scan>
+fn first(g: &Stream<'_>, p: u16, set: &[u16], count: usize, b: u8) -> Option<Scan>
     requires class_set { ClassSet g.now p set.now }
     requires count_bound { count + 1 < 2 ^ 64 }
     ensures { result ≡ judged g.now (ranges g.now p) count (first_byte [] b) }
@@ -88,7 +89,15 @@ fn first(g: &[u8], p: u16, set: &[u16], count: usize, b: u8) -> Option<Scan>
 }
 
 // A later byte of a character brings six bits. The class has so many ranges.
-fn later(g: &[u8], p: u16, many: u16, set: &[u16], table: &[u16], s: Scan, b: u8) -> Option<Scan>
+fn later(
+    g: &Stream<'_>,
+    p: u16,
+    many: u16,
+    set: &[u16],
+    table: &[u16],
+    s: Scan,
+    b: u8,
+) -> Option<Scan>
     requires { LaterByte g.now p many set.now s }
     ensures { result ≡ seen g.now (ranges g.now p) s b }
 {
@@ -117,7 +126,7 @@ fn ahead(part: &[u8], from: usize, set: &[u16]) -> TextRun
 // leave, longer characters and the borders of blocks, goes byte by byte; inside a character no run is looked for. The class has so many ranges: who
 // fetched its head hands their number on, so that it isn't fetched for each character.
 pub(crate) fn scan_part(
-    g: &[u8],
+    g: &Stream<'_>,
     p: u16,
     many: u16,
     set: &[u16],

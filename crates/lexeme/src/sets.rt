@@ -10,6 +10,7 @@ use crate::class::range_count;
 use crate::hints::all_hints;
 use crate::xml::is_xml_char;
 use records::range::range_at;
+use stream::Stream;
 
 // The characters that a set tells apart: those that UTF-8 writes in one byte or two.
 pub(crate) const CHARACTERS: usize = 2048;
@@ -133,7 +134,7 @@ fn keep_xml(set: &mut [u16])
 }
 
 // The set of the class whose record is at p.
-fn class_set(g: &[u8], p: u16, set: &mut [u16])
+fn class_set(g: &Stream<'_>, p: u16, set: &mut [u16])
     requires { (length set.old ≡ 128) × (stream_length g.now ≡ none) }
     ensures { ClassSet g.now p set.new }
 {
@@ -147,7 +148,7 @@ fn class_set(g: &[u8], p: u16, set: &mut [u16])
 }
 
 // The sets of all classes, by their numbers: once per run. The hints go first, so that a set is in its place whatever they left there.
-pub fn class_sets(g: &[u8], classes: &[u16], sets: &mut [u16])
+pub fn class_sets(g: &Stream<'_>, classes: &[u16], sets: &mut [u16])
     requires { SetsLent g.now classes.now sets.old }
     ensures { Compiled g.now sets.new }
 {

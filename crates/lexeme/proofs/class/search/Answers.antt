@@ -12,4 +12,4 @@ pub returns : goal.returns
 returns c =
     any_from_yields_List (λ (i : ℕ). within (lowest c.args.g.now i) (highest c.args.g.now i) c.args.x) _ _ _ c.any.ensures.ran
     (YieldsList-from_range (c.args.p + 1) (c.args.p + 1 + c.args.count) c.args.count (cc) (omega arith)) (λ x b q k. (search rules, search rules))
-    ∙ search_all _ _ _ _ c.requires.1
+    ∙ search_all _ _ _ _ c.requires.0
