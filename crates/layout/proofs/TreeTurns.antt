@@ -15,10 +15,7 @@ use Rattle.layout.specs.declared.tree.Head.{Head}
 use Rattle.std.specs.Prelude.{Some, None}
 use Rattle.std.specs.Prelude as code
 use Rattle.stream.specs.declared.record.Place.{Place}
-use Rattle.stream.specs.Record.{place_of, Fetched}
-use Rattle.stream.specs.declared.record.Record.{Record}
-use Rattle.layout.proofs.CommonLaws.{in_stream}
-use lib.ListN.{length}
+use Rattle.stream.specs.Record.{place_of}
 use Rattle.laws.specs.Reads.{few_records}
 use Rattle.layout.specs.Common.{most_records}
 use Rattle.layout.specs.Tree.{SizedBefore, Chains, Thing, chain, scan, text_head, head_end, below, fills, Headed}
@@ -172,12 +169,3 @@ module _ {thing : Thing} {s : List ℕ} {q e size : ℕ} {h : code.Option Head} 
     unfolding rest
     turn_go f =
         scan_step (head_end thing s) (value_size s) (below thing s) (head_grows thing s) q (q + x.own) e t.before ends (turn_right x w).0 (sym chain_is ∙ f)
-
--- the unit that a text ends with
-pub unit_inside : (s : List ℕ) (at : Place) (i : ℕ) → at ≡ place_of i → (n : ℕ) → i + n < record_count s
-    → (x : Place) → ((p : ℕ) → at ≡ place_of p → x ≡ place_of (p + n)) → x.at + 8 ≤ length s
-unit_inside s at i e n l x h = in_stream s (h _ e) l
-
-pub unit_fetched : (s : List ℕ) (at : Place) (p : ℕ) → at ≡ place_of p → (n : ℕ) (r : Record)
-    → (x : Place) → ((p : ℕ) → at ≡ place_of p → x ≡ place_of (p + n)) → ((p : ℕ) → x ≡ place_of p → Fetched s p r) → Fetched s (p + n) r
-unit_fetched s at p e n r x h f = f _ (h _ e)

@@ -5,11 +5,12 @@ ghost use Rattle.layout.specs.Children.{PlacesLent, PlacesPut, TableLent, TableP
 use crate::tree::{Head, size_before};
 use crate::value::value_head;
 use records::value::size_of;
-use stream::record::{Place, fetch_in, forward, place_of};
+use stream::Stream;
+use stream::record::{Place, forward, place_of};
 
 // As `chained`, of the n children from record p on; and their places go into the row that begins at `used`.
 fn put_row(
-    v: &[u8],
+    v: &Stream<'_>,
     n: usize,
     p: usize,
     at: Place,
@@ -36,7 +37,7 @@ fn put_row(
 // The records up to e, where the value at record 0 ends by its size, are exactly one value. Each head is looked at twice: in its turn, and among
 // the children of another. Each child starts at a record of its own, so that `used` stays below e.
 // (The loop of `one_node` with the rows put down: one function for both would need two closures, and is no plainer.)
-pub fn one_value(v: &[u8], e: usize, firsts: &mut [u16], places: &mut [u16]) -> bool
+pub fn one_value(v: &Stream<'_>, e: usize, firsts: &mut [u16], places: &mut [u16]) -> bool
     requires { TableLent v.now e firsts.old places.old }
     ensures { TablePut v.now e firsts.new places.new result }
 {
@@ -47,7 +48,7 @@ pub fn one_value(v: &[u8], e: usize, firsts: &mut [u16], places: &mut [u16]) -> 
     let mut at = place_of(0);
     let mut used = 0;
     while q < e {
-        let r = fetch_in(v, at);
+        let r = v.fetch_in(at);
         let size = size_of(r);
         let end = q + size;
         if e < end {

@@ -1,15 +1,15 @@
 // What the layout of every stream asks: the rest of a text's last unit is zero, and so are the records after the last thing.
 ghost use Rattle.std.specs.Prelude.{◌≡◌, ℕ, List, ◌+◌, ◌-◌, ◌≤◌, ◌<◌, ◌^◌, drop};
-ghost use Rattle.std.proofs.Math.Option.{none};
-ghost use Rattle.rules.specs.Blocks.{stream_length};
 ghost use Rattle.rules.specs.Records.{record_count, records_from, padding_of, units, zeros};
 ghost use Rattle.rules.specs.Layout.{tail_right};
 ghost use Rattle.stream.specs.Record.{bytes_of, Fetched};
+ghost use Rattle.stream.specs.Whole.{Whole};
 ghost use Rattle.stream.specs.declared.record.Record.{Record};
 ghost use Rattle.layout.specs.Common.{number_of};
 
 use records::element::units;
-use stream::record::{Record, fetch_at, forward, place_of};
+use stream::Stream;
+use stream::record::{Record, forward, place_of};
 
 // A block's bytes, and the records that it carries.
 const BLOCK_BYTES: usize = 512;
@@ -24,11 +24,18 @@ fn number_of(r: Record) -> u64
     r.kind as u64 + 256 * (r.a as u64) + 65536 * words
 }
 
+// What a stream's type says of its bytes, for a proof: it costs nothing.
+pub fn whole(s: &Stream<'_>)
+    ensures { Whole s.now }
+{
+    let _ = s.bytes();
+}
+
 // How many records a stream has.
-pub fn record_count(s: &[u8]) -> usize
+pub fn record_count(s: &Stream<'_>) -> usize
     ensures { result ≡ record_count s.now }
 {
-    s.len() / BLOCK_BYTES * BLOCK_RECORDS
+    s.bytes().len() / BLOCK_BYTES * BLOCK_RECORDS
 }
 
 // The bytes of a record from byte j on are zero.
@@ -49,14 +56,13 @@ pub fn padded<F: FnOnce(usize) -> Record>(b: u16, unit: F) -> bool
 }
 
 // The records from p up to record n are zero.
-fn zero_records(s: &[u8], p: usize, n: usize) -> bool
-    requires s_value { stream_length s.now ≡ none }
-    requires p_le_n { (p ≤ n) × (n < 2 ^ 60) }
+fn zero_records(s: &Stream<'_>, p: usize, n: usize) -> bool
+    requires { (p ≤ n) × (n < 2 ^ 60) }
     ensures { result ≡ zeros (records_from s.now (n - p) p) }
 {
     let mut at = place_of(p);
     for _ in p..n {
-        if !zero_from(fetch_at(s, at), 0) {
+        if !zero_from(s.fetch_at(at), 0) {
             return false;
         }
         at = forward(at, 1);
@@ -65,10 +71,10 @@ fn zero_records(s: &[u8], p: usize, n: usize) -> bool
 }
 
 // The last thing ends at record p, and after it come zero records only, fewer than 63.
-pub fn tail_right(s: &[u8], p: usize) -> bool
-    requires { stream_length s.now ≡ none }
+pub fn tail_right(s: &Stream<'_>, p: usize) -> bool
     ensures { result ≡ tail_right s.now p }
 {
+    whole(s);
     let n = record_count(s);
     0 < p && p <= n && n - p < BLOCK_RECORDS && zero_records(s, p, n)
 }

@@ -1,28 +1,28 @@
 // Refusal 3 of a grammar: classes with their ranges, productions with their elements, then zero records.
 ghost use Rattle.std.specs.Prelude.{◌≡◌, ℕ, ◌+◌, ◌<◌, ◌^◌, List};
-ghost use Rattle.std.proofs.Math.Option.{Option, none};
+ghost use Rattle.std.proofs.Math.Option.{Option};
 ghost use Rattle.rules.specs.Faults.{need};
-ghost use Rattle.rules.specs.Blocks.{stream_length};
 ghost use Rattle.rules.specs.Records.{record_count};
 ghost use Rattle.rules.specs.Layout.{in_row, while_is, range_end, class_end, element_end, production_end, grammar_end, grammar_layout};
+ghost use Rattle.stream.specs.Record.{Fetched};
 ghost use Rattle.layout.specs.Grammar.{end_of, class_head, element_head};
 ghost use Rattle.layout.specs.Sorts.{HeadInside};
 
-use crate::common::{padded, record_count, tail_right};
+use crate::common::{padded, record_count, tail_right, whole};
 use crate::sorts::{Classes, Productions, Sort};
 use records::class::is_escaped;
 use records::element::{text_length, units};
 use records::production::number_of;
-use stream::record::{Record, fetch};
+use stream::Stream;
+use stream::record::Record;
 
 // n ranges from record p on, and the place after them. Byte 7 of a range, the high byte of d, is unused.
-fn ranges_end(g: &[u8], p: usize, n: usize) -> Option<usize>
-    requires g_value { stream_length g.now ≡ none }
-    requires n_bound { p + n < 2 ^ 64 }
+fn ranges_end(g: &Stream<'_>, p: usize, n: usize) -> Option<usize>
+    requires { p + n < 2 ^ 64 }
     ensures { end_of result ≡ in_row (range_end g.now) n p }
 {
     for k in 0..n {
-        let range = fetch(g, p + k);
+        let range = g.fetch(p + k);
         if range.kind != 2 || 255 < range.d {
             return None;
         }
@@ -45,16 +45,21 @@ fn is_element(e: Record) -> bool
 }
 
 // The place after the element at record p: one record, and after it its text, of which only the padding is looked at.
-fn element_end(g: &[u8], p: usize) -> Option<usize>
-    requires { stream_length g.now ≡ none }
+fn element_end(g: &Stream<'_>, p: usize) -> Option<usize>
     ensures { end_of result ≡ element_end g.now p }
 {
-    let e = fetch(g, p);
+    whole(g);
+    let e = g.fetch(p);
     if !is_element(e) {
         return None;
     }
     let text = text_length(e);
-    if padded(text, |n| fetch(g, p + n)) {
+    // The unit n records on. (With its clauses, since none are inferred for a closure that holds a stream.)
+    let unit = |n: usize| -> Record
+        requires { p + n < 2 ^ 64 }
+        ensures { Fetched g.entry.now (p + n) result }
+    { g.fetch(p + n) };
+    if padded(text, unit) {
         Some(p + 1 + units(text as usize))
     } else {
         None
@@ -62,8 +67,7 @@ fn element_end(g: &[u8], p: usize) -> Option<usize>
 }
 
 // The place after n elements from record p on.
-fn elements_end(g: &[u8], p: usize, n: usize) -> Option<usize>
-    requires { stream_length g.now ≡ none }
+fn elements_end(g: &Stream<'_>, p: usize, n: usize) -> Option<usize>
     ensures { end_of result ≡ in_row (element_end g.now) n p }
 {
     let mut q = p;
@@ -78,7 +82,7 @@ trait Numbered: Sort {
     ghost end: { List ℕ → ℕ → ℕ → Option ℕ };
 
     // The place after the thing at record p, whose head is r, where its number is n.
-    fn end(g: &[u8], n: usize, p: usize, r: Record) -> Option<usize>
+    fn end(g: &Stream<'_>, n: usize, p: usize, r: Record) -> Option<usize>
         requires { HeadInside g.now p r }
         ensures { end_of result ≡ end g.now n p };
 }
@@ -86,7 +90,7 @@ trait Numbered: Sort {
 impl Numbered for Classes {
     ghost end = { class_end };
 
-    fn end(g: &[u8], n: usize, p: usize, r: Record) -> Option<usize> {
+    fn end(g: &Stream<'_>, n: usize, p: usize, r: Record) -> Option<usize> {
         if r.a as usize != n || !is_laid(r) {
             return None;
         }
@@ -97,7 +101,7 @@ impl Numbered for Classes {
 impl Numbered for Productions {
     ghost end = { production_end };
 
-    fn end(g: &[u8], n: usize, p: usize, r: Record) -> Option<usize> {
+    fn end(g: &Stream<'_>, n: usize, p: usize, r: Record) -> Option<usize> {
         if number_of(r) != n {
             return None;
         }
@@ -106,13 +110,13 @@ impl Numbered for Productions {
 }
 
 // The things of a sort from record start on: where they end. There are no more than records.
-fn row_end<S: Numbered>(g: &[u8], start: usize) -> Option<usize>
-    requires { stream_length g.now ≡ none }
+fn row_end<S: Numbered>(g: &Stream<'_>, start: usize) -> Option<usize>
     ensures { end_of result ≡ while_is (S.is g.now) (S.end g.now) (record_count g.now) 0 start }
 {
+    whole(g);
     let mut p = start;
     for n in 0..record_count(g) {
-        let head = fetch(g, p);
+        let head = g.fetch(p);
         if !S::is_head(head) {
             return Some(p);
         }
@@ -122,8 +126,7 @@ fn row_end<S: Numbered>(g: &[u8], start: usize) -> Option<usize>
 }
 
 // Where the classes end, and after them the productions.
-fn grammar_end(g: &[u8]) -> Option<usize>
-    requires { stream_length g.now ≡ none }
+fn grammar_end(g: &Stream<'_>) -> Option<usize>
     ensures { end_of result ≡ grammar_end g.now }
 {
     let middle = row_end::<Classes>(g, 0)?;
@@ -131,9 +134,11 @@ fn grammar_end(g: &[u8]) -> Option<usize>
 }
 
 // The records of a grammar are laid out: refusal 3 where they are not. Each record is fetched once, and a text only skipped.
-pub fn grammar_layout(g: &[u8]) -> bool
-    requires { stream_length g.now ≡ none }
+pub fn grammar_layout(g: &Stream<'_>) -> bool
     ensures { need result 0 ≡ grammar_layout g.now }
 {
-    grammar_end(g).is_some_and(|end| tail_right(g, end))
+    let Some(end) = grammar_end(g) else {
+        return false;
+    };
+    tail_right(g, end)
 }

@@ -1,7 +1,6 @@
 // The templates' layout: types, then templates, each with its parameters and one body node, then zero records.
 ghost use Rattle.std.specs.Prelude.{◌≡◌, ℕ, ◌+◌};
-ghost use Rattle.std.proofs.Math.Option.{Option, none};
-ghost use Rattle.rules.specs.Blocks.{stream_length};
+ghost use Rattle.std.proofs.Math.Option.{Option};
 ghost use Rattle.rules.specs.Faults.{need, only_if};
 ghost use Rattle.rules.specs.Records.{field_d};
 ghost use Rattle.rules.specs.Layout.{in_row, path_end, fields_end, type_end, template_end, templates_layout};
@@ -11,13 +10,14 @@ ghost use Rattle.layout.specs.Tree.{Node, path_head, bare_path_head, head_end, b
 ghost use Rattle.layout.specs.Template.{naming, path_record, TellsOne, types_end, rest_right, within};
 ghost use Rattle.layout.specs.Sorts.{HeadInside};
 
-use crate::common::{record_count, tail_right, zero_from};
+use crate::common::{record_count, tail_right, whole, zero_from};
 use crate::sorts::{Sort, Templates, Types};
 use crate::tree::{Head, chained, text_head};
 use records::node::form_of;
 use records::value::size_of;
 use rules::Form;
-use stream::record::{Place, Record, fetch, fetch_at, fetch_in, forward, place_of};
+use stream::Stream;
+use stream::record::{Place, Record, forward, place_of};
 
 // A field or a parameter: it names a type, and nothing else.
 fn names_type(r: Record, kind: u8) -> bool
@@ -35,14 +35,14 @@ fn is_path(r: Record) -> bool
 }
 
 // n records from a place on, each of which passes a test.
-fn in_row<F: Fn(Record) -> bool>(t: &[u8], at: Place, n: u16, is_one: F) -> bool
+fn in_row<F: Fn(Record) -> bool>(t: &Stream<'_>, at: Place, n: u16, is_one: F) -> bool
     requires counts_on { CountsOn t.now at n }
     requires callable { F.IsAlwaysCallable is_one }
     ensures { (one : ℕ → Option ℕ) → TellsOne t.now one (F.post is_one) → (p : ℕ) → at ≡ place_of p → only_if result (p + n) ≡ in_row one n p }
 {
     let mut here = at;
     for _ in 0..n {
-        if !is_one(fetch_at(t, here)) {
+        if !is_one(t.fetch_at(here)) {
             return false;
         }
         here = forward(here, 1);
@@ -51,11 +51,11 @@ fn in_row<F: Fn(Record) -> bool>(t: &[u8], at: Place, n: u16, is_one: F) -> bool
 }
 
 // A head that a path follows, and then n nodes; b is unused.
-fn path_head(t: &[u8], at: Place, r: Record, n: u32) -> Option<Head>
+fn path_head(t: &Stream<'_>, at: Place, r: Record, n: u32) -> Option<Head>
     requires { CountsOn t.now at 65536 }
     ensures { (p : ℕ) → at ≡ place_of p → Fetched t.now p r → Headed p result (path_head t.now p) n }
 {
-    if r.b == 0 && is_path(fetch_at(t, forward(at, 1))) {
+    if r.b == 0 && is_path(t.fetch_at(forward(at, 1))) {
         Some(Head { own: 2, below: n })
     } else {
         None
@@ -63,7 +63,7 @@ fn path_head(t: &[u8], at: Place, r: Record, n: u32) -> Option<Head>
 }
 
 // The head of a place, an if or a for, whose form says how many nodes come: d is unused, too.
-fn bare_path_head(t: &[u8], at: Place, r: Record, n: u32) -> Option<Head>
+fn bare_path_head(t: &Stream<'_>, at: Place, r: Record, n: u32) -> Option<Head>
     requires { CountsOn t.now at 65536 }
     ensures { (p : ℕ) → at ≡ place_of p → Fetched t.now p r → Headed p result (bare_path_head t.now p) n }
 {
@@ -75,7 +75,7 @@ fn bare_path_head(t: &[u8], at: Place, r: Record, n: u32) -> Option<Head>
 }
 
 // The head of an expand, with its d paths.
-fn expand_head(t: &[u8], at: Place, r: Record) -> Option<Head>
+fn expand_head(t: &Stream<'_>, at: Place, r: Record) -> Option<Head>
     requires { CountsOn t.now at 65536 }
     ensures { (p : ℕ) → at ≡ place_of p → Fetched t.now p r → Headed p result (in_row (path_end t.now) (field_d t.now p) (p + 1)) 0 }
 {
@@ -90,7 +90,7 @@ fn expand_head(t: &[u8], at: Place, r: Record) -> Option<Head>
 }
 
 // A node's head, by its form.
-fn node_head(t: &[u8], at: Place, r: Record, size: usize) -> Option<Head>
+fn node_head(t: &Stream<'_>, at: Place, r: Record, size: usize) -> Option<Head>
     requires { HeadIn t.now at r size }
     ensures { (p : ℕ) → at ≡ place_of p → Fetched t.now p r → Headed p result (head_end Node t.now p) (below Node t.now p) }
 {
@@ -112,7 +112,7 @@ fn node_head(t: &[u8], at: Place, r: Record, size: usize) -> Option<Head>
 }
 
 // The records from p to e are exactly one node. Each head is looked at twice: in its turn, and among the nodes below another.
-fn one_node(t: &[u8], p: usize, e: usize) -> bool
+fn one_node(t: &Stream<'_>, p: usize, e: usize) -> bool
     requires { UpTo t.now p e }
     ensures { result ≡ fills Node t.now p e }
 {
@@ -122,7 +122,7 @@ fn one_node(t: &[u8], p: usize, e: usize) -> bool
         return false;
     }
     while q < e {
-        let r = fetch_in(t, at);
+        let r = t.fetch_in(at);
         let size = size_of(r);
         let end = q + size;
         if e < end {
@@ -145,7 +145,7 @@ fn one_node(t: &[u8], p: usize, e: usize) -> bool
 const CASES: u16 = 256;
 
 // The d fields of a record or a variant; b is unused, as c is of every type.
-fn fields_right(t: &[u8], at: Place, r: Record) -> bool
+fn fields_right(t: &Stream<'_>, at: Place, r: Record) -> bool
     requires counts_on { CountsOn t.now at 65536 }
     requires c_value { r.c ≡ 0 }
     ensures { (p : ℕ) → at ≡ place_of p → Fetched t.now p r → only_if result (p + 1 + field_d t.now p) ≡ fields_end t.now p }
@@ -154,7 +154,7 @@ fn fields_right(t: &[u8], at: Place, r: Record) -> bool
 }
 
 // The type at a place: its fields by its form. It has one record and one for each field, of which only a record and a variant have any.
-fn type_right(t: &[u8], at: Place, r: Record) -> bool
+fn type_right(t: &Stream<'_>, at: Place, r: Record) -> bool
     requires { CountsOn t.now at 65536 }
     ensures { (p : ℕ) → at ≡ place_of p → Fetched t.now p r → only_if result (p + 1 + field_d t.now p) ≡ type_end t.now p }
 {
@@ -172,14 +172,14 @@ fn type_right(t: &[u8], at: Place, r: Record) -> bool
 
 // The types, from the first record on: where they end.
 // (Not by a grammar's `row_end`: types have no number, and a place that is carried needs no division.)
-fn types_end(t: &[u8]) -> Option<usize>
-    requires { stream_length t.now ≡ none }
+fn types_end(t: &Stream<'_>) -> Option<usize>
     ensures { end_of result ≡ types_end t.now }
 {
+    whole(t);
     let mut p: usize = 0;
     let mut at = place_of(0);
     loop {
-        let r = fetch_at(t, at);
+        let r = t.fetch_at(at);
         if !Types::is_head(r) {
             return Some(p);
         }
@@ -193,7 +193,7 @@ fn types_end(t: &[u8]) -> Option<usize>
 }
 
 // The template at record p, whose head is r: it ends by its size, within the stream.
-fn template_right(t: &[u8], p: usize, r: Record) -> bool
+fn template_right(t: &Stream<'_>, p: usize, r: Record) -> bool
     requires { HeadInside t.now p r }
     ensures { result ≡ within t.now (template_end t.now p) }
 {
@@ -205,13 +205,13 @@ fn template_right(t: &[u8], p: usize, r: Record) -> bool
 }
 
 // The templates from record p on, and the zero records after the last.
-fn templates_from(t: &[u8], p: usize) -> bool
-    requires { stream_length t.now ≡ none }
+fn templates_from(t: &Stream<'_>, p: usize) -> bool
     ensures { result ≡ rest_right t.now p }
 {
+    whole(t);
     let mut q = p;
     loop {
-        let r = fetch(t, q);
+        let r = t.fetch(q);
         if !Templates::is_head(r) {
             return tail_right(t, q);
         }
@@ -223,9 +223,11 @@ fn templates_from(t: &[u8], p: usize) -> bool
 }
 
 // The records of a template set are laid out: refusal 3 where they are not.
-pub fn templates_layout(t: &[u8]) -> bool
-    requires { stream_length t.now ≡ none }
+pub fn templates_layout(t: &Stream<'_>) -> bool
     ensures { need result 0 ≡ templates_layout t.now }
 {
-    types_end(t).is_some_and(|p| templates_from(t, p))
+    let Some(end) = types_end(t) else {
+        return false;
+    };
+    templates_from(t, end)
 }

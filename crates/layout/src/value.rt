@@ -1,7 +1,5 @@
 // The value's layout: one value, then zero records.
 ghost use Rattle.std.specs.Prelude.{◌≡◌, true, ℕ, ◌≤◌, length};
-ghost use Rattle.std.proofs.Math.Option.{none};
-ghost use Rattle.rules.specs.Blocks.{stream_length};
 ghost use Rattle.rules.specs.Faults.{need};
 ghost use Rattle.rules.specs.Records.{record_count};
 ghost use Rattle.rules.specs.Layout.{value_layout};
@@ -10,10 +8,11 @@ ghost use Rattle.records.specs.Children.{Children};
 ghost use Rattle.layout.specs.Tree.{Value, yes_no, case_head, head_end, below, Headed, HeadIn};
 
 use crate::children::one_value;
-use crate::common::{record_count, tail_right};
+use crate::common::{record_count, tail_right, whole};
 use crate::tree::{Head, text_head};
 use records::value::size_of;
-use stream::record::{Place, Record, fetch};
+use stream::Stream;
+use stream::record::{Place, Record};
 
 // A yes/no: 0 or 1, and no size.
 fn yes_no(r: Record) -> bool
@@ -30,7 +29,7 @@ fn is_case(r: Record) -> bool
 }
 
 // A value's head, by its kind.
-pub(crate) fn value_head(v: &[u8], at: Place, r: Record, size: usize) -> Option<Head>
+pub(crate) fn value_head(v: &Stream<'_>, at: Place, r: Record, size: usize) -> Option<Head>
     requires { HeadIn v.now at r size }
     ensures { (p : ℕ) → at ≡ place_of p → Fetched v.now p r → Headed p result (head_end Value v.now p) (below Value v.now p) }
 {
@@ -48,12 +47,12 @@ pub(crate) fn value_head(v: &[u8], at: Place, r: Record, size: usize) -> Option<
 
 // The records of a value are laid out: refusal 3 where they are not. Where they are, the rows have the places of all children; a value of n records
 // has fewer than n, so that a small stream takes small rows.
-pub fn value_layout(v: &[u8], firsts: &mut [u16], places: &mut [u16]) -> bool
-    requires v_value { stream_length v.now ≡ none }
+pub fn value_layout(v: &Stream<'_>, firsts: &mut [u16], places: &mut [u16]) -> bool
     requires firsts_room { record_count v.now ≤ length firsts.old }
     requires places_room { record_count v.now ≤ length places.old }
     ensures { (need result 0 ≡ value_layout v.now) × (result ≡ true → Children v.now firsts.new places.new) }
 {
-    let e = size_of(fetch(v, 0));
+    whole(v);
+    let e = size_of(v.fetch(0));
     e <= record_count(v) && one_value(v, e, firsts, places) && tail_right(v, e)
 }

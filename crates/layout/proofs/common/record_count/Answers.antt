@@ -4,4 +4,4 @@ use Rattle.layout.proofs.common.record_count.Goals as goal
 
 pub returns : goal.returns
 unfolding record_count
-returns c = refl
+returns c = rw (← c.bytes.ensures.bytes) refl

@@ -1,11 +1,10 @@
 use Rattle.std.proofs.Common.{rules, arith}
-use Rattle.rules.specs.Records.{record_count}
+use Rattle.laws.specs.Reads.{few_records}
 use Rattle.rules.specs.Layout.{tail_right}
 use Rattle.layout.proofs.common.tail_right.Goals as goal
 
-pub zero_records-requires-clause-p_le_n : goal.zero_records-requires-clause-p_le_n
-unfolding record_count
-zero_records-requires-clause-p_le_n c = grind (arith, c.record_count-n.ensures)
+pub zero_records-requires : goal.zero_records-requires
+zero_records-requires c = (omega arith, omega (arith, few_records _ c.whole.ensures.sized, c.record_count-n.ensures))
 
 pub returns-then-n-p-lt-BLOCK_RECORDS : goal.returns-then-n-p-lt-BLOCK_RECORDS
 unfolding tail_right

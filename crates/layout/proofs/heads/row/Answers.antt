@@ -1,5 +1,5 @@
-use Rattle.std.proofs.Common.{arith, sym, ◌∙◌}
-use Rattle.layout.proofs.HeadsFillLaws.{fill_start, fill_near, fill_go}
+use Rattle.std.proofs.Common.{arith, sym, ◌∙◌, ◌≡◌, length}
+use Rattle.layout.proofs.HeadsFillLaws.{fill_start, fill_near, fill_go, fill_stop, fill_full}
 use Rattle.layout.proofs.heads.row.Goals as goal
 
 pub loop-count-init : goal.loop-count-init
@@ -13,3 +13,8 @@ next-next-requires g c = record { sized = c.loop-count.invariant.ahead.sized; fe
 
 pub loop-count-preserved : goal.loop-count-preserved
 loop-count-preserved g c = fill_go (sym (c.is_head.ensures.told _ _ c.fetch-head.ensures) ∙ c.if-not-is_head.false) c.next-next.ensures c.loop-count.invariant
+
+pub returns : goal.returns
+returns g c =
+    let e : length c.loop-count.table ≡ c.loop-count.count = omega (arith, c.loop-count.auto.table, c.loop-count.auto.count-end, c.loop-count-test.false) in
+    rw e (fill_stop (fill_full (omega (arith, e)) c.loop-count.invariant) c.loop-count.invariant)

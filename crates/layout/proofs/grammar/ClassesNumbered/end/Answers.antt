@@ -14,8 +14,8 @@ returns-then-r-n c =
 pub overflow_add-p : goal.overflow_add-p
 overflow_add-p c = omega (arith, c.requires.inside, few_records _ c.requires.sized)
 
-pub ranges_end-requires-clause-n_bound : goal.ranges_end-requires-clause-n_bound
-ranges_end-requires-clause-n_bound c = omega (arith, c.requires.inside, few_records _ c.requires.sized)
+pub ranges_end-requires : goal.ranges_end-requires
+ranges_end-requires c = omega (arith, c.requires.inside, few_records _ c.requires.sized)
 
 pub returns : goal.returns
 returns c = c.ranges_end.ensures ∙ sym (class_ranges c.requires.fetched _ c.if-r-n.false (sym c.is_laid.ensures ∙ c.if-not-is_laid.false))
