@@ -1,7 +1,6 @@
 -- What the checks of a row of things answer, and where such rows stand. (The definitions of crate rules are made of these.)
 use Rattle.std.specs.Prelude.{ℕ, ◌+◌, ◌*◌, ◌^◌, ◌≤◌, ◌<◌, ◌≡◌, List, true, ltb}
-use Rattle.std.proofs.Math.Option.{Option, none}
-use Rattle.rules.specs.Blocks.{stream_length}
+use Rattle.std.proofs.Math.Option.{Option}
 use Rattle.rules.specs.Faults.{need, every, tree, at}
 use Rattle.rules.specs.Records.{field_b, field_c, heads, row, numbered}
 use Rattle.rules.specs.Grammar.{element_at, element_heads}
@@ -24,15 +23,9 @@ pub record RowNear (left first count : ℕ) : Type 0 where
   pub few : count < 65536
 
 -- a row of values, with the place of its first
-pub record ValueRow (v : List ℕ) (left first : ℕ) (from : Place) (count : ℕ) : Type 0 where
-  pub sized : stream_length v ≡ none
+pub record ValueRow (left first : ℕ) (from : Place) (count : ℕ) : Type 0 where
   pub near : RowNear left first count
   pub from_is : from ≡ place_of first
-
--- a row of nodes
-pub record NodeRow (t : List ℕ) (left first count : ℕ) : Type 0 where
-  pub sized : stream_length t ≡ none
-  pub near : RowNear left first count
 
 -- refusal 4 in a row of values, each at most left deep
 unfoldable pub values_within : List ℕ → ℕ → ℕ → ℕ → Option ℕ
@@ -70,11 +63,7 @@ templates_named g t ts = every (template_names g t) ts
 unfoldable pub ranges_right : List ℕ → ℕ → ℕ → Option ℕ
 ranges_right g count p = every (λ r. need (range_right g r) r) (row count (p + 1))
 
--- a node may be read at p; its head, and its form
-pub record Readable (t : List ℕ) (p : ℕ) : Type 0 where
-  pub sized : stream_length t ≡ none
-  pub near : p < 2 ^ 60
-
+-- the head of the node at p, and its form
 pub record HeadIs (t : List ℕ) (p : ℕ) (head : Record) (form : Form) : Type 0 where
   pub near : p < 2 ^ 60
   pub fetched : Fetched t p head

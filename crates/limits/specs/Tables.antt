@@ -1,35 +1,26 @@
--- What the rules are lent: streams that refusal 1 let through, the heads of classes, productions, types and templates, each at its number, and the
--- nonterminals that exist.
+-- What the rules are lent: the heads of classes, productions, types and templates of a stream, each at its number, and the nonterminals that exist.
 use Rattle.std.specs.Prelude.{ℕ, ◌≡◌, List, length}
-use Rattle.std.proofs.Math.Option.{none}
-use Rattle.rules.specs.Blocks.{stream_length}
 use Rattle.rules.specs.Grammar.{classes, productions}
 use Rattle.rules.specs.Templates.{types, templates}
 use Rattle.limits.specs.declared.names.NameCounts.{NameCounts}
 use Rattle.limits.specs.Bits.{Nonterminals}
 
 pub record ClassTable (g cs : List ℕ) : Type 0 where
-  pub sized : stream_length g ≡ none
   pub classes_are : cs ≡ classes g
 
 pub record ProductionTable (g ps : List ℕ) : Type 0 where
-  pub sized : stream_length g ≡ none
   pub productions_are : ps ≡ productions g
 
 pub record TemplateTable (t ts : List ℕ) : Type 0 where
-  pub sized : stream_length t ≡ none
   pub templates_are : ts ≡ templates t
 
 pub record GrammarTables (g cs ps bits : List ℕ) : Type 0 where
-  pub sized : stream_length g ≡ none
   pub classes_are : cs ≡ classes g
   pub productions_are : ps ≡ productions g
   pub nonterminals_are : Nonterminals g bits
 
 -- of the grammar the classes are read, for the plain ones among them
 pub record AllTables (g t cs ps us ts bits : List ℕ) : Type 0 where
-  pub grammar_sized : stream_length g ≡ none
-  pub sized : stream_length t ≡ none
   pub classes_are : cs ≡ classes g
   pub productions_are : ps ≡ productions g
   pub types_are : us ≡ types t
@@ -38,14 +29,11 @@ pub record AllTables (g t cs ps us ts bits : List ℕ) : Type 0 where
 
 -- what an element of a grammar may name: so many classes, and the nonterminals that exist
 pub record Nameable (g : List ℕ) (count : ℕ) (bits : List ℕ) : Type 0 where
-  pub sized : stream_length g ≡ none
   pub classes_are : count ≡ length (classes g)
   pub nonterminals_are : Nonterminals g bits
 
 -- what a type may name: the plain ones among the classes, so many types
 pub record TypeCounts (g t cs : List ℕ) (us : ℕ) : Type 0 where
-  pub grammar_sized : stream_length g ≡ none
-  pub sized : stream_length t ≡ none
   pub classes_are : cs ≡ classes g
   pub types_are : us ≡ length (types t)
 
@@ -56,7 +44,6 @@ pub record NodeCounts (g t : List ℕ) (ps ts : ℕ) : Type 0 where
 
 -- how many there are of what a template may name
 pub record Counted (g t : List ℕ) (n : NameCounts) : Type 0 where
-  pub sized : stream_length t ≡ none
   pub productions_are : n.productions ≡ length (productions g)
   pub types_are : n.types ≡ length (types t)
   pub templates_are : n.templates ≡ length (templates t)

@@ -10,13 +10,14 @@ use crate::nonterminals::{WORDS, is_marked};
 use crate::plain::is_plain_class;
 use records::class::is_escaped;
 use records::element::size_of;
-use stream::record::{Record, fetch};
+use stream::Stream;
+use stream::record::Record;
 
 // Whether what the element at e names exists: a class, or a nonterminal. A keyword names nothing, and neither does an element whose form there
 // isn't.
 #[tactic(auto, using(crate::proofs::NameLaws::class_there), unfolding(rules::specs::Names::element_named, rules::specs::Grammar::element_at, rules::specs::Grammar::element_numbered))]
 fn is_named(
-    g: &[u8],
+    g: &Stream<'_>,
     e: usize,
     element: Record,
     classes: usize,
@@ -34,7 +35,7 @@ fn is_named(
 
 // The elements of the production at p.
 fn elements_named(
-    g: &[u8],
+    g: &Stream<'_>,
     p: u16,
     classes: usize,
     nonterminals: &[u64; WORDS],
@@ -42,10 +43,10 @@ fn elements_named(
     requires { Nameable g.now classes nonterminals.now }
     ensures { fault_of result ≡ elements_named g.now p }
 {
-    let head = fetch(g, p as usize);
+    let head = g.fetch(p as usize);
     let mut e = p as usize + 1;
     for _ in 0..head.d {
-        let element = fetch(g, e);
+        let element = g.fetch(e);
         if !is_named(g, e, element, classes, nonterminals) {
             return Err(e);
         }
@@ -56,16 +57,16 @@ fn elements_named(
 
 // Whether class n, whose head is at p, names an earlier plain class, if it is an escaped one.
 #[tactic(auto, unfolding(rules::specs::Names::class_named))]
-fn class_named(g: &[u8], classes: &[u16], n: usize, p: u16) -> bool
+fn class_named(g: &Stream<'_>, classes: &[u16], n: usize, p: u16) -> bool
     requires { ClassTable g.now classes.now }
     ensures { result ≡ class_named g.now (n, p) }
 {
-    let head = fetch(g, p as usize);
+    let head = g.fetch(p as usize);
     !is_escaped(head) || ((head.b as usize) < n && is_plain_class(g, classes, head.b))
 }
 
 // The place of the first escaped class that names no earlier plain class.
-fn classes_named(g: &[u8], classes: &[u16]) -> Result<(), usize>
+fn classes_named(g: &Stream<'_>, classes: &[u16]) -> Result<(), usize>
     requires { ClassTable g.now classes.now }
     ensures { fault_of result ≡ classes_named g.now classes.now }
 {
@@ -79,7 +80,7 @@ fn classes_named(g: &[u8], classes: &[u16]) -> Result<(), usize>
 
 // The place of the first escaped class that names no earlier plain class, or element that names a class or a nonterminal that isn't there.
 pub fn grammar_names(
-    g: &[u8],
+    g: &Stream<'_>,
     classes: &[u16],
     productions: &[u16],
     nonterminals: &[u64; WORDS],

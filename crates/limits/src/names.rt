@@ -1,19 +1,17 @@
 // Refusal 5 of a template set: the classes, nonterminals, productions, types and templates that its records name.
 ghost use Rattle.std.specs.Prelude.{ℕ, ◌≡◌, List, length};
-ghost use Rattle.std.proofs.Math.Option.{none};
-ghost use Rattle.rules.specs.Blocks.{stream_length};
 ghost use Rattle.rules.specs.Names.{type_named, type_names, form_named, template_names, templates_names};
 ghost use Rattle.rules.specs.Templates.{type_at};
 ghost use Rattle.stream.specs.Fault.{fault_of};
 ghost use Rattle.limits.specs.Tables.{TypeCounts, NodeCounts, Naming, AllTables};
-ghost use Rattle.limits.specs.Rows.{NodeRow, types_below, types_named, nodes_named, templates_named};
+ghost use Rattle.limits.specs.Rows.{RowNear, types_below, types_named, nodes_named, templates_named};
 
 use crate::DEEPEST;
 use crate::node::{Node, node_at};
 use crate::nonterminals::{WORDS, is_marked};
 use crate::plain::is_plain_class;
 use rules::Form;
-use stream::record::fetch;
+use stream::Stream;
 
 // How many there are of what a template names by number.
 #[derive(Clone, Copy)]
@@ -24,11 +22,11 @@ struct NameCounts {
 }
 
 // A text type names a plain class, a list type any type.
-fn type_named(g: &[u8], t: &[u8], classes: &[u16], types: usize, p: u16) -> bool
+fn type_named(g: &Stream<'_>, t: &Stream<'_>, classes: &[u16], types: usize, p: u16) -> bool
     requires { TypeCounts g.now t.now classes.now types }
     ensures { result ≡ type_named g.now t.now (type_at t.now p) }
 {
-    let head = fetch(t, p as usize);
+    let head = t.fetch(p as usize);
     match head.a {
         0 => is_plain_class(g, classes, head.b),
         2 => (head.b as usize) < types,
@@ -37,13 +35,12 @@ fn type_named(g: &[u8], t: &[u8], classes: &[u16], types: usize, p: u16) -> bool
 }
 
 // So many fields or parameters behind the head at p: each names a type below a bound.
-fn types_below(t: &[u8], p: u16, count: u16, bound: usize) -> Result<(), usize>
-    requires { stream_length t.now ≡ none }
+fn types_below(t: &Stream<'_>, p: u16, count: u16, bound: usize) -> Result<(), usize>
     ensures { fault_of result ≡ types_below t.now bound count p }
 {
     let first = p as usize + 1;
     for at in first..first + count as usize {
-        let naming = fetch(t, at);
+        let naming = t.fetch(at);
         if bound <= naming.b as usize {
             return Err(at);
         }
@@ -53,8 +50,8 @@ fn types_below(t: &[u8], p: u16, count: u16, bound: usize) -> Result<(), usize>
 
 // What type n names, its head first; each of its fields an earlier type.
 fn type_names(
-    g: &[u8],
-    t: &[u8],
+    g: &Stream<'_>,
+    t: &Stream<'_>,
     classes: &[u16],
     types: usize,
     n: usize,
@@ -66,12 +63,12 @@ fn type_names(
     if !type_named(g, t, classes, types, p) {
         return Err(p as usize);
     }
-    let head = fetch(t, p as usize);
+    let head = t.fetch(p as usize);
     types_below(t, p, head.d, n)
 }
 
 // What all types name.
-fn types_named(g: &[u8], t: &[u8], classes: &[u16], types: &[u16]) -> Result<(), usize>
+fn types_named(g: &Stream<'_>, t: &Stream<'_>, classes: &[u16], types: &[u16]) -> Result<(), usize>
     requires { TypeCounts g.now t.now classes.now (length types.now) }
     ensures { fault_of result ≡ types_named g.now t.now types.now }
 {
@@ -102,14 +99,14 @@ fn is_named(node: Node, productions: usize, templates: usize) -> bool
 // What a row of nodes and all below them name, where left levels may follow each other. (200 levels of calls are deep: each is passed only
 // what it reads, and of the grammar that is the number of productions.)
 fn nodes_named(
-    t: &[u8],
+    t: &Stream<'_>,
     productions: usize,
     templates: usize,
     first: usize,
     count: usize,
     left: usize,
 ) -> Result<(), usize>
-    requires { NodeRow t.now left first count }
+    requires { RowNear left first count }
     ensures { (g : List ℕ) → NodeCounts g t.now productions templates → fault_of result ≡ nodes_named g t.now left count first }
 {
     if count == 0 {
@@ -136,8 +133,8 @@ fn nodes_named(
 
 // What the template at p names: its nonterminal, the types of its parameters, what its body names.
 fn template_names(
-    g: &[u8],
-    t: &[u8],
+    g: &Stream<'_>,
+    t: &Stream<'_>,
     counts: NameCounts,
     nonterminals: &[u64; WORDS],
     p: u16,
@@ -145,7 +142,7 @@ fn template_names(
     requires { Naming g.now t.now counts nonterminals.now }
     ensures { fault_of result ≡ template_names g.now t.now p }
 {
-    let head = fetch(t, p as usize);
+    let head = t.fetch(p as usize);
     if !is_marked(nonterminals, head.b) {
         return Err(p as usize);
     }
@@ -156,8 +153,8 @@ fn template_names(
 
 // What all templates name.
 fn templates_named(
-    g: &[u8],
-    t: &[u8],
+    g: &Stream<'_>,
+    t: &Stream<'_>,
     templates: &[u16],
     counts: NameCounts,
     nonterminals: &[u64; WORDS],
@@ -173,8 +170,8 @@ fn templates_named(
 
 // The place of the first head that names what isn't there, or field that names no earlier type: types first.
 pub fn templates_names(
-    g: &[u8],
-    t: &[u8],
+    g: &Stream<'_>,
+    t: &Stream<'_>,
     classes: &[u16],
     productions: &[u16],
     types: &[u16],

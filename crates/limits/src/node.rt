@@ -1,9 +1,11 @@
 // A template node, from its head, with the row of nodes directly below it.
-ghost use Rattle.limits.specs.Rows.{Readable, HeadIs, NodesBelow, NodeIs};
+ghost use Rattle.std.specs.Prelude.{◌<◌, ◌^◌};
+ghost use Rattle.limits.specs.Rows.{HeadIs, NodesBelow, NodeIs};
 
 use records::node::form_of;
 use rules::Form;
-use stream::record::{Record, fetch};
+use stream::Stream;
+use stream::record::Record;
 
 // Nodes in a row: where they begin, and how many.
 #[derive(Clone, Copy)]
@@ -23,7 +25,7 @@ pub(crate) struct Node {
 
 // The d nodes of a build or a sequence follow the head; behind a path come the two of an if, the one of a for and the d arms of a match. Other
 // forms have none.
-fn nodes_below(t: &[u8], p: usize, head: Record, form: Form) -> Nodes
+fn nodes_below(t: &Stream<'_>, p: usize, head: Record, form: Form) -> Nodes
     requires { HeadIs t.now p head form }
     ensures { NodesBelow t.now p result }
 {
@@ -41,11 +43,11 @@ fn nodes_below(t: &[u8], p: usize, head: Record, form: Form) -> Nodes
 }
 
 // The node at p.
-pub(crate) fn node_at(t: &[u8], p: usize) -> Node
-    requires { Readable t.now p }
+pub(crate) fn node_at(t: &Stream<'_>, p: usize) -> Node
+    requires { p < 2 ^ 60 }
     ensures { NodeIs t.now p result }
 {
-    let head = fetch(t, p);
+    let head = t.fetch(p);
     let form = form_of(head);
     let below = nodes_below(t, p, head, form);
     Node {

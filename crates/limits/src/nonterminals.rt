@@ -3,7 +3,7 @@ ghost use Rattle.std.specs.Prelude.{◌≡◌};
 ghost use Rattle.limits.specs.Tables.{ProductionTable};
 ghost use Rattle.limits.specs.Bits.{is_marked, marked, Nonterminals};
 
-use stream::record::fetch;
+use stream::Stream;
 
 // The words of 64 bits that have a bit for each number.
 pub const WORDS: usize = 1024;
@@ -27,13 +27,13 @@ pub fn mark(bits: &mut [u64; WORDS], n: u16)
 }
 
 // The nonterminals that the productions are of.
-pub fn nonterminals(g: &[u8], productions: &[u16]) -> [u64; WORDS]
+pub fn nonterminals(g: &Stream<'_>, productions: &[u16]) -> [u64; WORDS]
     requires { ProductionTable g.now productions.now }
     ensures { Nonterminals g.now result }
 {
     let mut bits = [0u64; WORDS];
     for &p in productions {
-        let head = fetch(g, p as usize);
+        let head = g.fetch(p as usize);
         mark(&mut bits, head.b);
     }
     bits

@@ -1,16 +1,14 @@
 // Refusal 4 of a template set: parameters, depth and loops.
 ghost use Rattle.std.specs.Prelude.{◌≡◌, ◌<◌};
-ghost use Rattle.std.proofs.Math.Option.{none};
-ghost use Rattle.rules.specs.Blocks.{stream_length};
 ghost use Rattle.rules.specs.Limits.{loops_below, template_limits, templates_limits};
 ghost use Rattle.stream.specs.Fault.{fault_of};
-ghost use Rattle.limits.specs.Rows.{NodeRow, nodes_within};
+ghost use Rattle.limits.specs.Rows.{RowNear, nodes_within};
 ghost use Rattle.limits.specs.Tables.{TemplateTable};
 
 use crate::DEEPEST;
 use crate::node::node_at;
 use rules::Form;
-use stream::record::fetch;
+use stream::Stream;
 
 // So many parameters a template may have.
 const PARAMETERS: u8 = 8;
@@ -38,13 +36,13 @@ fn loops_inside(form: Form, loops: usize) -> usize
 
 // A row of nodes and all below them, where left levels may follow each other and so many loops stand around the row.
 fn nodes_within(
-    t: &[u8],
+    t: &Stream<'_>,
     first: usize,
     count: usize,
     left: usize,
     loops: usize,
 ) -> Result<(), usize>
-    requires { NodeRow t.now left first count }
+    requires { RowNear left first count }
     ensures { fault_of result ≡ nodes_within t.now left loops count first }
 {
     if count == 0 {
@@ -68,11 +66,10 @@ fn nodes_within(
 }
 
 // The limits of the template at p: its parameters, the depth of its body, the loops in it.
-fn template_limits(t: &[u8], p: u16) -> Result<(), usize>
-    requires { stream_length t.now ≡ none }
+fn template_limits(t: &Stream<'_>, p: u16) -> Result<(), usize>
     ensures { fault_of result ≡ template_limits t.now p }
 {
-    let head = fetch(t, p as usize);
+    let head = t.fetch(p as usize);
     if PARAMETERS < head.a {
         return Err(p as usize);
     }
@@ -80,7 +77,7 @@ fn template_limits(t: &[u8], p: u16) -> Result<(), usize>
 }
 
 // The place of the first template with over 8 parameters, or node that is over 200 deep or has over 16 loops around it.
-pub fn templates_limits(t: &[u8], templates: &[u16]) -> Result<(), usize>
+pub fn templates_limits(t: &Stream<'_>, templates: &[u16]) -> Result<(), usize>
     requires { TemplateTable t.now templates.now }
     ensures { fault_of result ≡ templates_limits t.now }
 {

@@ -4,7 +4,7 @@ use Rattle.records.proofs.NodeLaws.{form_is}
 use Rattle.limits.proofs.node.node_at.Goals as goal
 
 pub nodes_below-below-requires : goal.nodes_below-below-requires
-nodes_below-below-requires c = record { near = c.requires.near; fetched = c.fetch-head.ensures; form_is = form_is _ _ _ c.fetch-head.ensures _ c.form_of-form.ensures }
+nodes_below-below-requires c = record { near = c.requires; fetched = c.fetch-head.ensures; form_is = form_is _ _ _ c.fetch-head.ensures _ c.form_of-form.ensures }
 
 pub returns : goal.returns
 returns c = record {
