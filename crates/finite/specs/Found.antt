@@ -1,7 +1,6 @@
 -- What the search for refusal 13 is lent, and what its parts promise. The nonterminals that are found so far to derive a text are a set of bits.
 use Rattle.std.specs.Prelude.{ℕ, ◌-◌, ◌≤◌, ◌<◌, ◌≡◌, List, map, Bool, true, false, cond, length, get_or}
 use Rattle.std.proofs.Math.Option.{Option, none, some}
-use Rattle.rules.specs.Blocks.{stream_length}
 use Rattle.rules.specs.Faults.{need, every}
 use Rattle.rules.specs.Records.{field_b, heads}
 use Rattle.rules.specs.Grammar.{class, classes, productions, element_size, element_at, elements}
@@ -13,9 +12,8 @@ use Rattle.limits.specs.Bits.{is_marked}
 use Rattle.laws.specs.Faults.{In}
 use Rattle.theorems.specs.Rounds.{Within}
 
--- a grammar of right length that 5 let through, and its classes; and its productions
+-- a grammar that 5 let through, and its classes; and its productions
 pub record ClassesAsk (g cs : List ℕ) : Type 0 where
-  pub sized : stream_length g ≡ none
   pub classes_are : cs ≡ classes g
   pub few_classes : length cs ≤ 256
   pub named : grammar_names g ≡ none
@@ -39,16 +37,11 @@ pub record NotedTo (g : List ℕ) (n : ℕ) (lexemes : List Bool) : Type 0 where
 
 -- class n at p, with what is noted of the classes before it
 pub record ClassAsks (g : List ℕ) (n p : ℕ) (lexemes : List Bool) : Type 0 where
-  pub sized : stream_length g ≡ none
   pub a_class : class g n ≡ some p
   pub named : grammar_names g ≡ none
   pub noted : NotedTo g n lexemes
 
--- a grammar of right length, with what is noted of its classes; the element at e of it
-pub record Readable (g : List ℕ) (lexemes : List Bool) : Type 0 where
-  pub sized : stream_length g ≡ none
-  pub noted : Noted g lexemes
-
+-- what is noted of the classes of a grammar, and the element at e of it
 pub record ElementAsks (g : List ℕ) (lexemes : List Bool) (e : ℕ) (element : Record) : Type 0 where
   pub noted : Noted g lexemes
   pub fetched : Fetched g e element
@@ -64,12 +57,12 @@ pub record Sound (g found : List ℕ) : Type 0 where
 
 -- what a part of the search is lent: the production at p, or all of them, and what is found so far
 pub record TryAsks (g : List ℕ) (lexemes : List Bool) (p : ℕ) (found : List ℕ) : Type 0 where
-  pub readable : Readable g lexemes
+  pub noted : Noted g lexemes
   pub a_production : In p (productions g)
   pub sound : Sound g found
 
 pub record SearchAsks (g : List ℕ) (lexemes : List Bool) (ps found : List ℕ) : Type 0 where
-  pub readable : Readable g lexemes
+  pub noted : Noted g lexemes
   pub productions_are : ps ≡ productions g
   pub sound : Sound g found
 

@@ -1,14 +1,12 @@
 // Which classes have a lexeme: found once for each class, however many elements name it.
 ghost use Rattle.std.specs.Prelude.{◌≡◌, ◌≤◌};
-ghost use Rattle.std.proofs.Math.Option.{none};
-ghost use Rattle.rules.specs.Blocks.{stream_length};
 ghost use Rattle.rules.specs.Records.{row};
 ghost use Rattle.rules.specs.Finite.{overlap, overlap_some, xml_intervals, has_character, some_character, plain_has_lexeme, has_lexeme};
 ghost use Rattle.finite.specs.Found.{ClassesAsk, ClassAsks, is_noted, Noted};
 
 use records::class::is_escaped;
 use records::range::range_at;
-use stream::record::fetch;
+use stream::Stream;
 
 // So many classes a grammar has at most.
 const CLASSES: usize = 256;
@@ -41,8 +39,7 @@ fn holds_xml(lowest: usize, highest: usize) -> bool
 
 // Whether the range at r holds one.
 #[tactic(auto, unfolding(rules::specs::Finite::has_character))]
-fn has_character(g: &[u8], r: usize) -> bool
-    requires { stream_length g.now ≡ none }
+fn has_character(g: &Stream<'_>, r: usize) -> bool
     ensures { result ≡ has_character g.now r }
 {
     let range = range_at(g, r);
@@ -50,8 +47,8 @@ fn has_character(g: &[u8], r: usize) -> bool
 }
 
 // Whether one of so many ranges from record first on does.
-fn some_character(g: &[u8], first: usize, count: u16) -> bool
-    requires { (stream_length g.now ≡ none) × (first ≤ 65536) }
+fn some_character(g: &Stream<'_>, first: usize, count: u16) -> bool
+    requires { first ≤ 65536 }
     ensures { result ≡ some_character g.now (row count first) }
 {
     let end = first + count as usize;
@@ -60,11 +57,10 @@ fn some_character(g: &[u8], first: usize, count: u16) -> bool
 
 // Whether the plain class at p has a lexeme: the empty one, or one of so many characters.
 #[tactic(auto, unfolding(rules::specs::Finite::plain_has_lexeme, rules::specs::Lexeme::ranges))]
-fn plain_has_lexeme(g: &[u8], p: u16) -> bool
-    requires { stream_length g.now ≡ none }
+fn plain_has_lexeme(g: &Stream<'_>, p: u16) -> bool
     ensures { result ≡ plain_has_lexeme g.now p }
 {
-    let head = fetch(g, p as usize);
+    let head = g.fetch(p as usize);
     head.b <= head.c && (head.b == 0 || some_character(g, p as usize + 1, head.d))
 }
 
@@ -77,11 +73,11 @@ pub(crate) fn is_noted(lexemes: &[bool], c: u16) -> bool
 }
 
 // Whether class n has one, whose head is at p. An escaped class has one if the plain class has that it names: an earlier one, which is noted.
-fn has_lexeme(g: &[u8], n: usize, p: u16, lexemes: &[bool]) -> bool
+fn has_lexeme(g: &Stream<'_>, n: usize, p: u16, lexemes: &[bool]) -> bool
     requires { ClassAsks g.now n p lexemes.now }
     ensures { result ≡ has_lexeme g.now n }
 {
-    let head = fetch(g, p as usize);
+    let head = g.fetch(p as usize);
     if is_escaped(head) {
         return is_noted(lexemes, head.b);
     }
@@ -89,7 +85,7 @@ fn has_lexeme(g: &[u8], n: usize, p: u16, lexemes: &[bool]) -> bool
 }
 
 // Whether each class has a lexeme, by its number.
-pub(crate) fn class_lexemes(g: &[u8], classes: &[u16]) -> [bool; CLASSES]
+pub(crate) fn class_lexemes(g: &Stream<'_>, classes: &[u16]) -> [bool; CLASSES]
     requires { ClassesAsk g.now classes.now }
     ensures { Noted g.now result }
 {

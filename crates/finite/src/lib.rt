@@ -17,11 +17,11 @@ use lexemes::class_lexemes;
 use limits::nonterminals::{WORDS, is_marked};
 use lists::by_lists;
 use productions::try_production;
-use stream::record::fetch;
+use stream::Stream;
 
 // Tries every production, from the last to the first or the other way round. Whether one more nonterminal was found.
 fn round(
-    g: &[u8],
+    g: &Stream<'_>,
     lexemes: &[bool],
     productions: &[u16],
     back: bool,
@@ -44,7 +44,7 @@ fn round(
 
 // Rounds until one finds nothing more, which is the first where the lists were right; and after each of the others the lists again. There are no more
 // than productions, as each of them finds one.
-fn rounds(g: &[u8], lexemes: &[bool], productions: &[u16], found: &mut [u64; WORDS])
+fn rounds(g: &Stream<'_>, lexemes: &[bool], productions: &[u16], found: &mut [u64; WORDS])
     requires { SearchAsks g.now lexemes.now productions.now found.old }
     ensures { AllFound g.now found.new }
 {
@@ -57,12 +57,12 @@ fn rounds(g: &[u8], lexemes: &[bool], productions: &[u16], found: &mut [u64; WOR
 }
 
 // The place of the first production whose nonterminal isn't found.
-fn first_unfound(g: &[u8], productions: &[u16], found: &[u64; WORDS]) -> Result<(), usize>
+fn first_unfound(g: &Stream<'_>, productions: &[u16], found: &[u64; WORDS]) -> Result<(), usize>
     requires { ProductionTable g.now productions.now }
     ensures { fault_of result ≡ unfound g.now found.now }
 {
     for &p in productions {
-        let head = fetch(g, p as usize);
+        let head = g.fetch(p as usize);
         if !is_marked(found, head.b) {
             return Err(p as usize);
         }
@@ -72,7 +72,7 @@ fn first_unfound(g: &[u8], productions: &[u16], found: &[u64; WORDS]) -> Result<
 
 // The place of the first production whose nonterminal derives no text, of a grammar that 5 let through: found in a round from the last production to
 // the first, or in one more the other way round, or by the lists.
-pub fn grammar_finite(g: &[u8], classes: &[u16], productions: &[u16]) -> Result<(), usize>
+pub fn grammar_finite(g: &Stream<'_>, classes: &[u16], productions: &[u16]) -> Result<(), usize>
     requires { FiniteAsks g.now classes.now productions.now }
     ensures { fault_of result ≡ grammar_finite g.now }
 {

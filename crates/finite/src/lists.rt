@@ -7,7 +7,7 @@ ghost use Rattle.finite.specs.Found.{Grown, SearchAsks};
 
 use crate::productions::{try_production, waiting};
 use limits::nonterminals::WORDS;
-use stream::record::fetch;
+use stream::Stream;
 
 // The lists of all nonterminals: those with the same low bits share one, at most 8 of them.
 const LISTS: usize = 8192;
@@ -48,7 +48,7 @@ fn enlist(lists: &mut Lists, list: usize, k: usize) {
 
 // Production k goes on from the element at which it waits.
 fn advance(
-    g: &[u8],
+    g: &Stream<'_>,
     lexemes: &[bool],
     productions: &[u16],
     k: usize,
@@ -66,7 +66,7 @@ fn advance(
     entry.at = (rest.at % 65536) as u16;
     entry.left = rest.left;
     if 0 < rest.left {
-        let element = fetch(g, rest.at);
+        let element = g.fetch(rest.at);
         if element.a == 2 {
             enlist(lists, element.b as usize % LISTS, k);
         }
@@ -77,7 +77,7 @@ fn advance(
 
 // All that wait for nonterminal n go on. (Their list is taken away before, as some may come back to it.)
 fn wake(
-    g: &[u8],
+    g: &Stream<'_>,
     lexemes: &[bool],
     productions: &[u16],
     n: u16,
@@ -104,7 +104,7 @@ fn wake(
 
 // Every production begins to wait at its first element.
 fn begin(
-    g: &[u8],
+    g: &Stream<'_>,
     lexemes: &[bool],
     productions: &[u16],
     found: &mut [u64; WORDS],
@@ -114,7 +114,7 @@ fn begin(
     ensures { Grown g.now found.old found.new }
 {
     for (k, &p) in productions.iter().enumerate() {
-        let head = fetch(g, p as usize);
+        let head = g.fetch(p as usize);
         if let Some(entry) = lists.entries.get_mut(k) {
             entry.at = p.saturating_add(1);
             entry.left = head.d;
@@ -124,7 +124,12 @@ fn begin(
 }
 
 // Tries productions as the lists tell. Each finds its nonterminal once at most.
-pub(crate) fn by_lists(g: &[u8], lexemes: &[bool], productions: &[u16], found: &mut [u64; WORDS])
+pub(crate) fn by_lists(
+    g: &Stream<'_>,
+    lexemes: &[bool],
+    productions: &[u16],
+    found: &mut [u64; WORDS],
+)
     requires { SearchAsks g.now lexemes.now productions.now found.old }
     ensures { Grown g.now found.old found.new }
 {
@@ -145,7 +150,7 @@ pub(crate) fn by_lists(g: &[u8], lexemes: &[bool], productions: &[u16], found: &
             return;
         };
         lists.firsts[DUE] = after(&lists, k);
-        let head = fetch(g, p as usize);
+        let head = g.fetch(p as usize);
         wake(g, lexemes, productions, head.b, found, &mut lists);
     }
 }

@@ -3,16 +3,23 @@ ghost use Rattle.std.specs.Prelude.{◌≡◌, ◌≤◌, eqb};
 ghost use Rattle.rules.specs.Grammar.{element_at};
 ghost use Rattle.rules.specs.Finite.{derivable};
 ghost use Rattle.limits.specs.Bits.{is_marked};
-ghost use Rattle.finite.specs.Found.{ElementAsks, Readable, row_derivable, TryAsks, Tried};
+ghost use Rattle.finite.specs.Found.{ElementAsks, Noted, row_derivable, TryAsks, Tried};
 
 use crate::lexemes::is_noted;
 use limits::nonterminals::{WORDS, is_marked, mark};
 use records::element::size_of;
-use stream::record::{Record, fetch};
+use stream::Stream;
+use stream::record::Record;
 
 // Whether the element at e derives a text. A repetition may be empty.
 #[tactic(auto, unfolding(rules::specs::Finite::derivable, rules::specs::Grammar::element_at, rules::specs::Grammar::element_numbered))]
-fn is_derivable(g: &[u8], e: usize, element: Record, lexemes: &[bool], found: &[u64; WORDS]) -> bool
+fn is_derivable(
+    g: &Stream<'_>,
+    e: usize,
+    element: Record,
+    lexemes: &[bool],
+    found: &[u64; WORDS],
+) -> bool
     requires { ElementAsks g.now lexemes.now e element }
     ensures { result ≡ derivable g.now (is_marked found.now) (element_at g.now e) }
 {
@@ -34,18 +41,18 @@ pub(crate) struct Rest {
 
 // Of so many elements from the one at first on. (Where the rest begins is for the lists: nothing is promised of it.)
 pub(crate) fn waiting(
-    g: &[u8],
+    g: &Stream<'_>,
     lexemes: &[bool],
     first: usize,
     count: u16,
     found: &[u64; WORDS],
 ) -> Rest
-    requires { Readable g.now lexemes.now × (first ≤ 65536) }
+    requires { (Noted g.now lexemes.now) × (first ≤ 65536) }
     ensures { eqb result.left 0 ≡ row_derivable g.now found.now count first }
 {
     let mut at = first;
     for turn in 0..count {
-        let element = fetch(g, at);
+        let element = g.fetch(at);
         if !is_derivable(g, at, element, lexemes, found) {
             return Rest {
                 at,
@@ -58,11 +65,16 @@ pub(crate) fn waiting(
 }
 
 // The nonterminal of the production at p is found, if no element of it waits. Whether it wasn't before.
-pub(crate) fn try_production(g: &[u8], lexemes: &[bool], p: u16, found: &mut [u64; WORDS]) -> bool
+pub(crate) fn try_production(
+    g: &Stream<'_>,
+    lexemes: &[bool],
+    p: u16,
+    found: &mut [u64; WORDS],
+) -> bool
     requires { TryAsks g.now lexemes.now p found.old }
     ensures { Tried g.now p found.old found.new result }
 {
-    let head = fetch(g, p as usize);
+    let head = g.fetch(p as usize);
     if is_marked(found, head.b) {
         return false;
     }

@@ -11,7 +11,7 @@ use Rattle.finite.proofs.round.Goals.{then-back, else-back}
 pub try_production-more-requires : goal.try_production-more-requires
 try_production-more-requires c =
     let l : c.if-back.i < length c.args.productions.now = elim c.if-back.branch [ then-back w ↦ omega arith | else-back w ↦ omega arith ] in
-    record { readable = c.requires.readable; a_production = in_table _ _ _ c.requires.productions_are l; sound = c.loop-turn.invariant.sound }
+    record { noted = c.requires.noted; a_production = in_table _ _ _ c.requires.productions_are l; sound = c.loop-turn.invariant.sound }
 
 pub loop-turn-preserved : goal.loop-turn-preserved
 unfolding turned

@@ -7,7 +7,7 @@ pub loop-n-init : goal.loop-n-init
 loop-n-init c = noted_start _
 
 pub has_lexeme-requires : goal.has_lexeme-requires
-has_lexeme-requires c = record { sized = c.requires.sized; a_class = a_class _ _ _ c.requires.classes_are c.loop-n-test.true; named = c.requires.named; noted = c.loop-n.invariant }
+has_lexeme-requires c = record { a_class = a_class _ _ _ c.requires.classes_are c.loop-n-test.true; named = c.requires.named; noted = c.loop-n.invariant }
 
 pub loop-n-preserved : goal.loop-n-preserved
 loop-n-preserved c = noted_next _ _ _ _ c.loop-n.invariant (omega arith) c.has_lexeme.ensures
