@@ -20,6 +20,7 @@ mod writer;
 use at::At;
 use sources::Sources;
 use state::{Run, come_out};
+use stream::Stream;
 use tables::head_at;
 pub use tables::mark;
 use variables::Frame;
@@ -51,11 +52,11 @@ fn start(node: usize, fuel: u32) -> At
 }
 
 // The walk from template 0's body on, with the value as its one variable. What it leaves in the scratch is cleared. (Its streams and tables come one
-// by one: they are no Sources before it, since this signature stays as it was.)
+// by one: they are no Sources before it, since its parameters stay what they were.)
 pub fn run(
-    g: &[u8],
-    t: &[u8],
-    v: &[u8],
+    g: &Stream<'_>,
+    t: &Stream<'_>,
+    v: &Stream<'_>,
     productions: &[u16],
     templates: &[u16],
     firsts: &[u16],

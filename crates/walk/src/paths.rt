@@ -15,14 +15,13 @@ use crate::sources::Sources;
 use crate::tables::child_at;
 use crate::variables::Frame;
 use records::path::{step_at, steps_of, variable_of};
-use stream::record::fetch;
 
 // Field j of the value at w, if that is a record that has it.
 fn field(s: &Sources<'_>, w: u16, j: u16) -> Option<u16>
     requires { (ValueLent s.now.value.now s.now.firsts.now s.now.places.now) × (Stands s.now.value.now w) }
     ensures { Finds s.now.value.now (on_found (as_record s.now.value.now w) none (λ ws. nth ws j)) result }
 {
-    let head = fetch(s.value, usize::from(w));
+    let head = s.value.fetch(usize::from(w));
     if head.kind == 4 && j < head.d {
         Some(child_at(s.firsts, s.places, w, j))
     } else {
@@ -35,7 +34,7 @@ pub fn path_value(s: &Sources<'_>, scratch: &[u16], variables: Frame, p: usize) 
     requires { FollowsIn (sources_of s.now) variables.base variables.vars scratch.now }
     ensures { Finds s.now.value.now (path_value s.now.templates.now s.now.value.now (frame variables.base variables.vars scratch.now) p) result }
 {
-    let path = fetch(s.templates, p);
+    let path = s.templates.fetch(p);
     let mut w = variables.variable(scratch, variable_of(path))?;
     for i in 0..steps_of(path) {
         w = field(s, w, step_at(path, i))?;

@@ -1,7 +1,5 @@
 // What stands between the items of a sequence.
 ghost use Rattle.std.specs.Prelude.{ℕ, ◌≤◌, ◌≡◌, length};
-ghost use Rattle.std.proofs.Math.Option.{none};
-ghost use Rattle.rules.specs.Blocks.{stream_length};
 ghost use Rattle.walk.specs.Nodes.{fills_at, Between, due_at, separate_at};
 ghost use Rattle.walk.specs.Run.{RanFrom, seen};
 
@@ -9,6 +7,7 @@ use crate::at::At;
 use crate::state::{Progress, Stop};
 use crate::writer::write;
 use records::element::{is_repetition, text_length};
+use stream::Stream;
 use stream::record::Record;
 
 // The place of the sequence, which is that of a separator's 12; the record of the element that it stands for, behind which the separator lies;
@@ -47,8 +46,8 @@ pub fn is_due(sep: Separator, before: usize) -> bool
 }
 
 // Writes the separator before an item that is not the first of its sequence.
-pub fn separate(g: &[u8], sep: Separator, out: &mut [u8], at: At) -> Result<Progress, Stop>
-    requires { (stream_length g.now ≡ none) × (at.bytes ≤ length out.old) }
+pub fn separate(g: &Stream<'_>, sep: Separator, out: &mut [u8], at: At) -> Result<Progress, Stop>
+    requires { at.bytes ≤ length out.old }
     ensures { (before : ℕ) → (before ≡ 0 → ⊥) → RanFrom (separate_at g.now sep before at out.old) at (seen result) out.old out.new }
 {
     write(g, sep.element, sep.length, out, at.placed(sep.sequence))

@@ -1,14 +1,12 @@
 // What the tables tell: the heads of productions and templates by their numbers, which classes are escaped, and the children of a value.
 ghost use Rattle.std.specs.Prelude.{◌≡◌, List, ℕ, ◌+◌, ◌-◌, ◌≤◌, ◌<◌, length, get_or};
-ghost use Rattle.std.proofs.Math.Option.{none};
 ghost use Rattle.rules.specs.Records.{nth};
-ghost use Rattle.rules.specs.Blocks.{stream_length};
 ghost use Rattle.rules.specs.Grammar.{production};
 ghost use Rattle.walk.specs.Lookups.{lookup_of};
 ghost use Rattle.walk.specs.Marks.{ProductionHeads, escapes_at, mark_of, Marked};
 
 use records::class::is_escaped;
-use stream::record::fetch;
+use stream::Stream;
 
 // The head with this number.
 pub fn head_at(heads: &[u16], number: u16) -> Option<u16>
@@ -38,15 +36,15 @@ pub fn production_at(heads: &[u16], number: u16) -> Option<u16>
 
 // Whether the position of an element of the grammar asks for a lexeme of an escaped class. Element 0 stands for a nonterminal. Most grammars have
 // no escaped class, and then no marks: there no element is looked at.
-pub fn is_escaped_at(g: &[u8], heads: &[u16], element: usize) -> bool
-    requires { (stream_length g.now ≡ none) × (ProductionHeads g.now heads.now) × (1 ≤ length heads.now) }
+pub fn is_escaped_at(g: &Stream<'_>, heads: &[u16], element: usize) -> bool
+    requires { (ProductionHeads g.now heads.now) × (1 ≤ length heads.now) }
     ensures { result ≡ escapes_at g.now element }
 {
     let marks = marks_in(heads);
     if marks == 0 || element == 0 {
         return false;
     }
-    let e = fetch(g, element);
+    let e = g.fetch(element);
     let class = usize::from(e.b);
     if e.a != 1 || marks <= class {
         return false;
@@ -55,16 +53,14 @@ pub fn is_escaped_at(g: &[u8], heads: &[u16], element: usize) -> bool
 }
 
 // The mark of the class whose head is at p: 1 for an escaped one.
-fn mark_of(g: &[u8], p: u16) -> u16
-    requires { stream_length g.now ≡ none }
+fn mark_of(g: &Stream<'_>, p: u16) -> u16
     ensures { result ≡ mark_of g.now p }
 {
-    u16::from(is_escaped(fetch(g, usize::from(p))))
+    u16::from(is_escaped(g.fetch(usize::from(p))))
 }
 
 // Puts marks in the place of the heads of classes. The answer is how many marks there are: none, where no class is escaped.
-pub fn mark(g: &[u8], classes: &mut [u16]) -> usize
-    requires { stream_length g.now ≡ none }
+pub fn mark(g: &Stream<'_>, classes: &mut [u16]) -> usize
     ensures { Marked g.now classes.old classes.new result }
 {
     for class in classes.iter_mut() {

@@ -2,8 +2,6 @@
 // at most 201 levels deep, whatever the lists hold; items, children and elements are walked by loops. Each is given its node, and lent what a
 // walk reads, the output and the scratch.
 ghost use Rattle.std.specs.Prelude.{◌≡◌, cond, ◌+◌, ◌*◌, ◌≤◌, ◌<◌, ◌^◌, eqb};
-ghost use Rattle.std.proofs.Math.Option.{none};
-ghost use Rattle.rules.specs.Blocks.{stream_length};
 ghost use Rattle.rules.specs.Records.{field_c, after};
 ghost use Rattle.rules.specs.Templates.{body, form_of, first, second};
 ghost use Rattle.stream.specs.Record.{Fetched};
@@ -22,20 +20,20 @@ use crate::writer::{place, write};
 use records::element::size_of;
 use records::node::{form_of, is_for, size_at, size_in};
 use rules::Form;
-use stream::record::{Record, fetch};
+use stream::Stream;
+use stream::record::Record;
 
 // The body of the template at a place.
-pub fn body_of(t: &[u8], template: u16) -> usize
-    requires { stream_length t.now ≡ none }
+pub fn body_of(t: &Stream<'_>, template: u16) -> usize
     ensures { (result ≡ body t.now template) × (result < 65792) }
 {
     let p = usize::from(template);
-    p + 1 + usize::from(fetch(t, p).a)
+    p + 1 + usize::from(t.fetch(p).a)
 }
 
 // The branch of an if that is taken, by what its yes/no says.
-fn branch_of(t: &[u8], node: usize, a: u8) -> usize
-    requires { (stream_length t.now ≡ none) × (InReach 1 node) }
+fn branch_of(t: &Stream<'_>, node: usize, a: u8) -> usize
+    requires { InReach 1 node }
     ensures { (result ≡ cond (eqb a 1) (first node) (second t.now node)) × (result ≤ node + 65537) }
 {
     let yes = node + 2;
@@ -43,8 +41,8 @@ fn branch_of(t: &[u8], node: usize, a: u8) -> usize
 }
 
 // The arm of a match for the case of this number.
-fn arm_of(t: &[u8], node: usize, case: u8) -> usize
-    requires { (stream_length t.now ≡ none) × (InReach 1 node) }
+fn arm_of(t: &Stream<'_>, node: usize, case: u8) -> usize
+    requires { InReach 1 node }
     ensures { (result ≡ after (field_c t.now) case (first node)) × (result ≤ node + 2 + 65535 * case) }
 {
     let mut arm = node + 2;
@@ -66,7 +64,7 @@ fn sequence_items(
     requires { (Formed Form.Sequence (sources_of s.now) at out.old scratch.old) × (Fetched s.now.templates.now at.node head) }
     ensures { VisitedFrom (form_end Form.Sequence (sources_of s.now) at out.old scratch.old) at (seen result) out.old out.new scratch.old scratch.new }
 {
-    let e = fetch(s.grammar, at.element);
+    let e = s.grammar.fetch(at.element);
     if !fills(at.element, e) {
         return Err(at.stuck());
     }
@@ -75,7 +73,7 @@ fn sequence_items(
     let mut n = 0;
     let mut here = at;
     for _ in 0..head.d {
-        let next = fetch(s.templates, item);
+        let next = s.templates.fetch(item);
         if is_for(next) {
             let turns = for_node(here.below(item, 0), sep, n, s, out, scratch)?;
             here = here.after(turns.so_far);
@@ -113,7 +111,7 @@ fn for_node(
     let Some(w) = path_value(s, scratch, here.frame, path) else {
         return Err(here.stuck());
     };
-    let list = fetch(s.value, usize::from(w));
+    let list = s.value.fetch(usize::from(w));
     if list.kind != 3 {
         return Err(here.stuck());
     }
@@ -172,13 +170,13 @@ fn build_items(
         return Err(at.stuck());
     };
     let place = usize::from(production);
-    let count = fetch(s.grammar, place).d;
+    let count = s.grammar.fetch(place).d;
     let mut element = place + 1;
     let mut child = at.node + 1;
     let mut used = 0;
     let mut here = at;
     for _ in 0..count {
-        let e = fetch(s.grammar, element);
+        let e = s.grammar.fetch(element);
         let end = if e.a == 0 {
             write(s.grammar, element, e.b, out, here)?
         } else {
@@ -234,7 +232,7 @@ fn if_branch(at: At, s: &Sources<'_>, out: &mut [u8], scratch: &mut [u16]) -> Re
     let Some(w) = path_value(s, scratch, at.frame, path) else {
         return Err(at.stuck());
     };
-    let head = fetch(s.value, usize::from(w));
+    let head = s.value.fetch(usize::from(w));
     if head.kind != 2 {
         return Err(at.stuck());
     }
@@ -259,7 +257,7 @@ fn match_arm(
     let Some(w) = path_value(s, scratch, at.frame, path) else {
         return Err(at.stuck());
     };
-    let case = fetch(s.value, usize::from(w));
+    let case = s.value.fetch(usize::from(w));
     if case.kind != 5 {
         return Err(at.stuck());
     }
@@ -280,7 +278,7 @@ pub fn visit(at: At, s: &Sources<'_>, out: &mut [u8], scratch: &mut [u16]) -> Re
     ensures { VisitedFrom (visit_end (sources_of s.now) at out.old scratch.old) at (seen result) out.old out.new scratch.old scratch.new }
 {
     let here = at.entered()?;
-    let head = fetch(s.templates, here.node);
+    let head = s.templates.fetch(here.node);
     match form_of(head) {
         Form::Build => build_items(here, head, s, out, scratch),
         Form::Literal => write(s.templates, here.node, head.b, out, here),

@@ -7,9 +7,6 @@ use Rattle.walk.proofs.run.Goals as goal
 pub returns-in_default : goal.returns-in_default
 returns-in_default c = rw c.come_out.ensures (start_missing c.requires (sym c.in_default.ensures) c.start.ensures (ap stopped_of c.stuck.ensures) c.clear.ensures)
 
-pub body_of-body-requires : goal.body_of-body-requires
-body_of-body-requires c = c.requires.lent.templates_sized
-
 pub bind-requires : goal.bind-requires
 bind-requires c = omega (arith, scratch_room c.requires)
 

@@ -265,10 +265,10 @@ pub visit-build_items-requires : goal.visit-build_items-requires
 visit-build_items-requires t c = let h = (goal.at.visit-build_items-requires t c).After-form_of in (omega (arith, c.decreases, visit_falls t h), (visit_formed t h c.in-Build.is, c.fetch-head.ensures))
 
 pub visit-write-requires : goal.visit-write-requires
-visit-write-requires t c = let h = (goal.at.visit-write-requires t c).After-form_of in (c.requires.lent.templates_sized, (visit_formed t h c.in-Literal.is).visitable.room)
+visit-write-requires t c = let h = (goal.at.visit-write-requires t c).After-form_of in (visit_formed t h c.in-Literal.is).visitable.room
 
 pub visit-place-requires : goal.visit-place-requires
-visit-place-requires t c = let h = (goal.at.visit-place-requires t c).After-form_of in let f = visit_formed t h c.in-Place.is in (follows f, omega (arith, f.level, f.visitable.near), f.visitable.room, f.visitable.lent.grammar_sized, f.visitable.lent.productions_are, heads_some f.visitable.lent.productions_are)
+visit-place-requires t c = let h = (goal.at.visit-place-requires t c).After-form_of in let f = visit_formed t h c.in-Place.is in (follows f, omega (arith, f.level, f.visitable.near), f.visitable.room, f.visitable.lent.productions_are, heads_some f.visitable.lent.productions_are)
 
 pub visit-expand_body-requires : goal.visit-expand_body-requires
 visit-expand_body-requires t c = let h = (goal.at.visit-expand_body-requires t c).After-form_of in (omega (arith, c.decreases, visit_falls t h), (visit_formed t h c.in-Expand.is, c.fetch-head.ensures))

@@ -11,16 +11,16 @@ pub returns-then-head-ne1 : goal.returns-then-head-ne1
 returns-then-head-ne1 c = ran_stuck c.args.at c.requires.2 (ap stopped_of c.stuck-then-head-ne1.ensures) (place_other _ _ _ _ _ _ _ (sym c.in-Some.ensures.is) _ (rw c.from-i.ensures at c.fetch-head.ensures).kind c.if-head-ne1.true)
 
 pub as_it_stands-requires : goal.as_it_stands-requires
-as_it_stands-requires c = (c.requires.3, c.requires.4, c.requires.5, c.requires.0.value_lent.sized)
+as_it_stands-requires c = (c.requires.3, c.requires.4)
 
 pub write-requires : goal.write-requires
-write-requires c = (c.requires.0.value_lent.sized, c.requires.2)
+write-requires c = c.requires.2
 
 pub returns-then-as_it_stands : goal.returns-then-as_it_stands
 returns-then-as_it_stands c = ran_is (place_text _ _ _ _ _ _ _ (sym c.in-Some.ensures.is) _ (rw c.from-i.ensures at c.fetch-head.ensures).kind c.if-head-ne1.false _ (rw c.from-i.ensures at c.fetch-head.ensures).b (rw c.from-i.ensures at c.as_it_stands.ensures) c.if-as_it_stands.true) (rw c.from-i.ensures at c.write.ensures)
 
 pub write_escaped-requires : goal.write_escaped-requires
-write_escaped-requires c = (c.requires.0.value_lent.sized, c.requires.2)
+write_escaped-requires c = c.requires.2
 
 pub returns-else-as_it_stands : goal.returns-else-as_it_stands
 returns-else-as_it_stands c = ran_is (place_escaped _ _ _ _ _ _ _ (sym c.in-Some.ensures.is) _ (rw c.from-i.ensures at c.fetch-head.ensures).kind c.if-head-ne1.false _ (rw c.from-i.ensures at c.fetch-head.ensures).b (rw c.from-i.ensures at c.as_it_stands.ensures) c.if-as_it_stands.false) (rw c.from-i.ensures at c.write_escaped.ensures)
