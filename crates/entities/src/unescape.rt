@@ -42,6 +42,7 @@ fn measure(text: &[u8]) -> Option<usize>
     let mut u = between();
     let mut n = 0;
     let mut at = 0;
+    // Runs and entities go on by as much as they have, so no `for` has these two places.
     loop {
         let here = ahead(text, at, u.due);
         n += here - at;

@@ -6,6 +6,7 @@ ghost use Rattle.entities.specs.Utf8.{shape, calm, due_in, resumed, next_shape};
 use crate::first_bytes::{least_next, most_next};
 
 // Between two bytes of well-formed UTF-8: how many bytes of a character are still due, the next of them from low to high.
+// (The scan of crate lexeme goes the same way: it has a character's bits and a count besides, which nothing here would read.)
 #[derive(Clone, Copy)]
 pub struct Utf8 {
     pub due: u8,

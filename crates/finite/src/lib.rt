@@ -19,7 +19,8 @@ use lists::by_lists;
 use productions::try_production;
 use stream::Stream;
 
-// Tries every production, from the last to the first or the other way round. Whether one more nonterminal was found.
+// Tries every production, from the last to the first (`back`) or the other way round, which is one contract and one loop. Whether one more nonterminal
+// was found.
 fn round(
     g: &Stream<'_>,
     lexemes: &[bool],

@@ -26,7 +26,8 @@ struct Entry {
     left: u16,
 }
 
-// The first production of each list, and what is kept of all of them. In a list a production is its number plus 1, and 0 is none.
+// The first production of each list, and what is kept of all of them. In a list a production is its number plus 1, and 0 is none: two
+// bytes each, since an Option would double what is cleared.
 #[derive(Drop)]
 struct Lists {
     firsts: [u16; LISTS + 1],

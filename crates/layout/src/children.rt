@@ -9,6 +9,7 @@ use stream::Stream;
 use stream::record::{Place, forward, place_of};
 
 // As `chained`, of the n children from record p on; and their places go into the row that begins at `used`.
+// (That function with a write more: with the write handed in neither would be plainer.)
 fn put_row(
     v: &Stream<'_>,
     n: usize,

@@ -205,6 +205,7 @@ fn template_right(t: &Stream<'_>, p: usize, r: Record) -> bool
 }
 
 // The templates from record p on, and the zero records after the last.
+// (Not by `row_end` either: templates have no number.)
 fn templates_from(t: &Stream<'_>, p: usize) -> bool
     ensures { result ≡ rest_right t.now p }
 {

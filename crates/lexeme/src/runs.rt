@@ -53,6 +53,7 @@ fn by_four(part: &[u8], from: usize, words: &[u64; 4]) -> usize
     ensures { Plain words.now part.now from result }
 {
     let mut i = from;
+    // A step of four, whose last turn may go back: chunks would have to say where they stopped.
     while i + 4 <= part.len() {
         if !are_in(part, i, words) {
             return by_one(part, i, words);

@@ -139,6 +139,7 @@ pub(crate) fn scan_part(
 {
     let mut s = start;
     let mut i = 0;
+    // The index jumps behind runs, so no iterator has it.
     while i < part.len() {
         if s.due != 0 {
             s = later(g, p, many, set, table, s, part[i])?;

@@ -34,7 +34,8 @@ fn loops_inside(form: Form, loops: usize) -> usize
     }
 }
 
-// A row of nodes and all below them, where left levels may follow each other and so many loops stand around the row.
+// A row of nodes and all below them, where left levels may follow each other and so many loops stand around the row. (The loop of `nodes_named` with
+// another test and a number more: a test that is handed in would go down 200 levels, and be no plainer.)
 fn nodes_within(
     t: &Stream<'_>,
     first: usize,

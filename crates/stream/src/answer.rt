@@ -4,7 +4,8 @@ ghost use Rattle.rules.specs.Answers.{answer};
 
 use rules::Answer;
 
-// A refusal before anything was written, by its number: the kind of its stream, or 0, and the place there.
+// A refusal before anything was written, by its number, as the definitions name it (crate feed has an enum for those of whole sets): the kind of its
+// stream, or 0, and the place there.
 pub fn refused(number: u8, kind: u8, place: usize) -> Answer
     ensures { result ≡ answer number kind place 0 0 }
 {

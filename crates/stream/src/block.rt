@@ -13,7 +13,7 @@ pub(crate) fn word_at(b: &[u8], at: usize) -> usize
     usize::from(u16::from_le_bytes([b[at], b[at + 1]]))
 }
 
-// 1 grammar, 2 templates, 3 value.
+// 1 grammar, 2 templates, 3 value. A number, and no enum: C hands it to pack and unpack, a block has it as a byte, and any other one is refusal 2.
 pub(crate) fn is_kind(kind: u8) -> bool
     ensures { result ≡ is_kind kind }
 {

@@ -131,6 +131,7 @@ pub fn block_fault(kind: u8, s: &[u8]) -> Result<(), usize>
 {
     let blocks = s.len() / 512;
     let mut n = 0;
+    // A step of four, and the first four among which one is wrong are gone over from there: a `for` would have to hand n on.
     while n + 4 <= blocks {
         if !are_right(kind, s, n) {
             return fault_from(kind, s, n);

@@ -50,6 +50,7 @@ pub(crate) fn fnv1a_four(starts: Four, a: &[u8], b: &[u8], c: &[u8], d: &[u8]) -
     let mut x = starts.b;
     let mut y = starts.c;
     let mut z = starts.d;
+    // An index: four zips would be no plainer.
     for i in 0..a.len() {
         w = step(w, a[i]);
         x = step(x, b[i]);

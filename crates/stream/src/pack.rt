@@ -50,6 +50,7 @@ fn put_blocks(kind: u8, payload: &[u8], out: &mut [u8])
 {
     let blocks = (payload.len() + 503) / 504;
     let mut start = START;
+    // By number, which the block has in its head; the payload of the last one may be short.
     for n in 0..blocks {
         let from = 504 * n;
         let to = (from + 504).min(payload.len());

@@ -1,4 +1,4 @@
-// A node to visit, how it is made from another, and the runs that end or go on there.
+// A node to visit, how it is made from another, and how a run goes on or stops there.
 ghost use Rattle.std.specs.Prelude.{◌≡◌, ◌≤◌, ◌<◌, ◌^◌};
 ghost use Rattle.walk.specs.Nodes.{Entered, counted_at, after_at, below_at, placed_at, bound_at, framed_at, progress_at, stopped_at};
 ghost use Rattle.walk.specs.Run.{going_of};

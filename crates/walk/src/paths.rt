@@ -42,7 +42,8 @@ pub fn path_value(s: &Sources<'_>, scratch: &[u16], variables: Frame, p: usize) 
     Some(w)
 }
 
-// Whether n paths in a row from p on all find values. If `stored`, these become a frame right behind this one.
+// Whether n paths in a row from p on all find values. If `stored`, these become a frame right behind this one. (A flag: two functions would
+// say twice how paths are looked for.)
 pub fn pass(
     s: &Sources<'_>,
     scratch: &mut [u16],
