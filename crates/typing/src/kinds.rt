@@ -1,7 +1,6 @@
 // Types by their numbers, and the types that paths find.
 ghost use Rattle.std.specs.Prelude.{◌≡◌};
 ghost use Rattle.std.proofs.Math.Option.{none};
-ghost use Rattle.rules.specs.Blocks.{stream_length};
 ghost use Rattle.rules.specs.Faults.{on_found};
 ghost use Rattle.rules.specs.Records.{nth};
 ghost use Rattle.rules.specs.Templates.{no_type, type_at, type_of};
@@ -11,7 +10,7 @@ ghost use Rattle.typing.specs.Asks.{TypeTable};
 
 use crate::Kind;
 use records::path::{step_at, steps_of, variable_of};
-use stream::record::fetch;
+use stream::Stream;
 
 // The head of number n in a table of heads.
 pub fn head(table: &[u16], n: u16) -> Option<u16>
@@ -21,11 +20,10 @@ pub fn head(table: &[u16], n: u16) -> Option<u16>
 }
 
 // The type whose head is at h.
-fn type_at(t: &[u8], h: u16) -> Kind
-    requires { stream_length t.now ≡ none }
+fn type_at(t: &Stream<'_>, h: u16) -> Kind
     ensures { kind_form t.now result ≡ type_at t.now h }
 {
-    let r = fetch(t, usize::from(h));
+    let r = t.fetch(usize::from(h));
     match r.a {
         0 => Kind::Text(r.b),
         1 => Kind::YesNo,
@@ -37,7 +35,7 @@ fn type_at(t: &[u8], h: u16) -> Kind
 }
 
 // Type n.
-pub fn type_of(t: &[u8], types: &[u16], n: u16) -> Kind
+pub fn type_of(t: &Stream<'_>, types: &[u16], n: u16) -> Kind
     requires { TypeTable t.now types.now }
     ensures { kind_form t.now result ≡ type_of t.now n }
 {
@@ -48,7 +46,7 @@ pub fn type_of(t: &[u8], types: &[u16], n: u16) -> Kind
 }
 
 // The type of field j of type n, if type n is a record that has it.
-fn field_of(t: &[u8], types: &[u16], n: u16, j: u16) -> Option<u16>
+fn field_of(t: &Stream<'_>, types: &[u16], n: u16, j: u16) -> Option<u16>
     requires { TypeTable t.now types.now }
     ensures { found result ≡ on_found (field_types (type_of t.now n)) none (λ tys. nth tys j) }
 {
@@ -56,18 +54,18 @@ fn field_of(t: &[u8], types: &[u16], n: u16, j: u16) -> Option<u16>
         return None;
     };
     if j < d {
-        Some(fetch(t, usize::from(h) + 1 + usize::from(j)).b)
+        Some(t.fetch(usize::from(h) + 1 + usize::from(j)).b)
     } else {
         None
     }
 }
 
 // The type that the path at p finds, from variables of these types.
-pub fn path_type(t: &[u8], types: &[u16], vars: &[u16], p: usize) -> Option<u16>
+pub fn path_type(t: &Stream<'_>, types: &[u16], vars: &[u16], p: usize) -> Option<u16>
     requires { TypeTable t.now types.now }
     ensures { found result ≡ path_type t.now vars.now p }
 {
-    let r = fetch(t, p);
+    let r = t.fetch(p);
     let mut ty = vars.get(variable_of(r)).copied()?;
     for i in 0..steps_of(r) {
         ty = field_of(t, types, ty, step_at(r, i))?;
@@ -76,7 +74,7 @@ pub fn path_type(t: &[u8], types: &[u16], vars: &[u16], p: usize) -> Option<u16>
 }
 
 // What the path at p finds: missing, if it finds nothing.
-pub fn path_kind(t: &[u8], types: &[u16], vars: &[u16], p: usize) -> Kind
+pub fn path_kind(t: &Stream<'_>, types: &[u16], vars: &[u16], p: usize) -> Kind
     requires { TypeTable t.now types.now }
     ensures { kind_form t.now result ≡ on_found (path_type t.now vars.now p) no_type (type_of t.now) }
 {

@@ -1,8 +1,6 @@
 // The check of a node and of all that stands below it, at most 200 levels deep: a node and a row of nodes, by turns.
 ghost use Rattle.std.specs.Prelude.{◌≡◌, ◌+◌, ◌<◌, length, take};
-ghost use Rattle.std.proofs.Math.Option.{none};
 ghost use Rattle.rules.specs.Faults.{every};
-ghost use Rattle.rules.specs.Blocks.{stream_length};
 ghost use Rattle.rules.specs.Typing.{misfit};
 ghost use Rattle.stream.specs.Record.{Fetched};
 ghost use Rattle.typing.specs.Answers.{site_of, entry_of, brings_of, brought, bindings, Bound, FrameIn, sites_in, Checked};
@@ -12,11 +10,18 @@ use crate::asked::position_at;
 use crate::checker::Checker;
 use crate::{Below, Brings, Frame, Misfit, Positions, VARIABLES};
 use records::node::size_in;
-use stream::record::{Record, fetch};
+use stream::Stream;
+use stream::record::Record;
 
 // Binds what node i of a row brings: its type comes behind those of `count` variables. The answer is how many there are then.
-fn bind(t: &[u8], scope: &mut [u16; VARIABLES], count: usize, brings: Brings, i: usize) -> usize
-    requires { (stream_length t.now ≡ none) × (i < 65536) × (Scope scope.old (count + brought brings)) }
+fn bind(
+    t: &Stream<'_>,
+    scope: &mut [u16; VARIABLES],
+    count: usize,
+    brings: Brings,
+    i: usize,
+) -> usize
+    requires { (i < 65536) × (Scope scope.old (count + brought brings)) }
     ensures { Bound scope.old count (bindings t.now brings i) scope.new result }
 {
     match brings {
@@ -26,13 +31,13 @@ fn bind(t: &[u8], scope: &mut [u16; VARIABLES], count: usize, brings: Brings, i:
             count + 1
         }
         Brings::Contents(h) => {
-            scope[count] = fetch(t, usize::from(h) + 1 + i).b;
+            scope[count] = t.fetch(usize::from(h) + 1 + i).b;
             count + 1
         }
     }
 }
 
-impl Checker<'_> {
+impl Checker<'_, '_> {
     // The frame of node i of a row, which is at a place and has `count` variables in scope beside what it brings. One match answers for its position
     // and its variable: a build's row, which brings nothing, then costs no more than its positions.
     fn frame_in(
@@ -76,7 +81,7 @@ impl Checker<'_> {
         let mut at = below.first;
         for i in 0..below.count {
             let f = self.frame_in(scope, count, below.positions, at, i);
-            let head = fetch(self.t, f.node);
+            let head = self.t.fetch(f.node);
             self.check(scope, f, head, left)?;
             at += size_in(head);
         }

@@ -13,7 +13,7 @@ use crate::{Below, Brings, Frame, Kind, Positions};
 use lexeme::{is_lexeme, source_of};
 use records::node::form_of;
 use rules::{Form, Position};
-use stream::record::{Record, fetch};
+use stream::record::Record;
 
 // The class that a position asks for.
 fn asks_class(p: Position) -> Option<u16>
@@ -79,7 +79,7 @@ fn suits_sequence(f: Frame, r: Record) -> Option<Below>
     })
 }
 
-impl Checker<'_> {
+impl Checker<'_, '_> {
     // A build: of a production of its nonterminal, with a child for each element that is no keyword, in that element's position.
     fn suits_build(&self, f: Frame, r: Record) -> Option<Below>
         requires { (RoomBelow 1 f.node) × (Fetched self.now.t.now f.node r) }
@@ -88,7 +88,7 @@ impl Checker<'_> {
         let n = asks_nonterminal(f.position)?;
         let q = head(self.productions, r.b)?;
         let at = usize::from(q);
-        if fetch(self.g, at).b != n || self.asked[at] != r.d {
+        if self.g.fetch(at).b != n || self.asked[at] != r.d {
             return None;
         }
         Some(Below {
@@ -131,7 +131,7 @@ impl Checker<'_> {
             let Some(has) = path_type(self.t, self.types, vars, f.node + 1 + i) else {
                 return false;
             };
-            let r = fetch(self.t, q + 1 + i);
+            let r = self.t.fetch(q + 1 + i);
             if r.b != has {
                 return false;
             }
@@ -151,7 +151,7 @@ impl Checker<'_> {
             return false;
         };
         let q = usize::from(h);
-        let p = fetch(self.t, q);
+        let p = self.t.fetch(q);
         let parameters = u16::from(p.a);
         if p.b != n || r.d != parameters {
             return false;

@@ -1,7 +1,5 @@
 // Refusal 7: every template's body against the grammar.
 ghost use Rattle.std.specs.Prelude.{◌≡◌, map, ◌+◌, ◌≤◌, ◌<◌, length, take};
-ghost use Rattle.std.proofs.Math.Option.{none};
-ghost use Rattle.rules.specs.Blocks.{stream_length};
 ghost use Rattle.rules.specs.Records.{field_a, field_b, row};
 ghost use Rattle.rules.specs.Templates.{templates as templateHeads};
 ghost use Rattle.rules.specs.Typing.{declared_type, templates_typing};
@@ -14,28 +12,28 @@ use crate::checker::Checker;
 use crate::kinds::head;
 use crate::{Frame, LEVELS, RECORDS, VARIABLES};
 use rules::Position;
-use stream::record::fetch;
+use stream::Stream;
 
 // The types that n parameters of the template at q name.
-fn parameter_types(t: &[u8], q: u16, n: usize) -> [u16; VARIABLES]
-    requires { (stream_length t.now ≡ none) × (n ≤ 8) }
+fn parameter_types(t: &Stream<'_>, q: u16, n: usize) -> [u16; VARIABLES]
+    requires { n ≤ 8 }
     ensures { (take n result ≡ map (field_b t.now) (row n (q + 1))) × (length result ≡ 24) }
 {
     let p = usize::from(q) + 1;
     let mut slots = [0u16; VARIABLES];
     for i in 0..n {
-        slots[i] = fetch(t, p + i).b;
+        slots[i] = t.fetch(p + i).b;
     }
     slots
 }
 
 // The frame of the body of the template at q.
-fn body_frame(t: &[u8], q: u16) -> Frame
-    requires { (stream_length t.now ≡ none) × (field_a t.now q ≤ 8) }
+fn body_frame(t: &Stream<'_>, q: u16) -> Frame
+    requires { field_a t.now q ≤ 8 }
     ensures { BodyOf t.now q result }
 {
     let at = usize::from(q);
-    let r = fetch(t, at);
+    let r = t.fetch(at);
     let count = usize::from(r.a);
     Frame {
         node: at + 1 + count,
@@ -45,21 +43,21 @@ fn body_frame(t: &[u8], q: u16) -> Frame
 }
 
 // The declared type: that of the one parameter of template 0.
-pub fn declared_type(t: &[u8], templates: &[u16]) -> Option<u16>
-    requires { (stream_length t.now ≡ none) × (templates.now ≡ templateHeads t.now) }
+pub fn declared_type(t: &Stream<'_>, templates: &[u16]) -> Option<u16>
+    requires { templates.now ≡ templateHeads t.now }
     ensures { found result ≡ declared_type t.now }
 {
     let q = usize::from(head(templates, 0)?);
-    if fetch(t, q).a != 1 {
+    if t.fetch(q).a != 1 {
         return None;
     }
-    Some(fetch(t, q + 1).b)
+    Some(t.fetch(q + 1).b)
 }
 
 // Offends at the place of the first node, in any template, that does not suit its position; at 0 if there is no declared type.
-pub fn templates_typing(
-    g: &[u8],
-    t: &[u8],
+pub fn templates_typing<'s>(
+    g: &Stream<'s>,
+    t: &Stream<'s>,
     classes: &[u16],
     sets: &[u16],
     productions: &[u16],
@@ -87,7 +85,7 @@ pub fn templates_typing(
     for q in templates {
         let f = body_frame(t, *q);
         let mut scope = parameter_types(t, *q, f.count);
-        if let Err(misfit) = checker.check(&mut scope, f, fetch(t, f.node), LEVELS) {
+        if let Err(misfit) = checker.check(&mut scope, f, t.fetch(f.node), LEVELS) {
             return Err(misfit.node);
         }
     }

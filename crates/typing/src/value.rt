@@ -1,7 +1,5 @@
 // Refusal 8: the value against its declared type.
 ghost use Rattle.std.specs.Prelude.{◌≡◌, ◌<◌};
-ghost use Rattle.std.proofs.Math.Option.{none};
-ghost use Rattle.rules.specs.Blocks.{stream_length};
 ghost use Rattle.rules.specs.Faults.{every, at};
 ghost use Rattle.rules.specs.Typing.{has_form, mistyped, value_typing};
 ghost use Rattle.rules.specs.Value.{value_size};
@@ -16,8 +14,8 @@ use crate::templates::declared_type;
 use crate::{Kind, LEVELS};
 use lexeme::{Source, admits};
 use records::value::size_of;
-use stream::record::{Record, fetch};
-use stream::text::text_after;
+use stream::Stream;
+use stream::record::Record;
 
 // How many values stand directly below one of a kind whose record is r.
 fn child_count(kind: Kind, r: Record) -> usize
@@ -32,29 +30,28 @@ fn child_count(kind: Kind, r: Record) -> usize
 
 // The kind by which the values below one of a kind are typed: its own; but the one child of a case, whose number is given, comes as an item of
 // the type of that case's content.
-fn kind_below(t: &[u8], kind: Kind, number: u8) -> Kind
-    requires { stream_length t.now ≡ none }
+fn kind_below(t: &Stream<'_>, kind: Kind, number: u8) -> Kind
     ensures { result ≡ kind_below t.now kind number }
 {
     match kind {
-        Kind::Cases(h, _) => Kind::Items(fetch(t, usize::from(h) + 1 + usize::from(number)).b),
+        Kind::Cases(h, _) => Kind::Items(t.fetch(usize::from(h) + 1 + usize::from(number)).b),
         _ => kind,
     }
 }
 
 // The type of child i of a value of a kind: the item type, or that of field i. The child of a case comes as an item, by kind_below.
-fn child_type(t: &[u8], kind: Kind, i: usize) -> u16
-    requires { (stream_length t.now ≡ none) × (i < 65536) }
+fn child_type(t: &Stream<'_>, kind: Kind, i: usize) -> u16
+    requires { i < 65536 }
     ensures { result ≡ child_type t.now kind i }
 {
     match kind {
         Kind::Items(ty) => ty,
-        Kind::Fields(h, _) => fetch(t, usize::from(h) + 1 + i).b,
+        Kind::Fields(h, _) => t.fetch(usize::from(h) + 1 + i).b,
         _ => 0,
     }
 }
 
-impl ValueChecker<'_> {
+impl ValueChecker<'_, '_> {
     // Whether the value at w, whose record is r, is of a kind, whatever stands below it.
     fn has_form(&self, kind: Kind, w: usize, r: Record) -> bool
         requires { Fetched self.now.v.now w r }
@@ -62,14 +59,14 @@ impl ValueChecker<'_> {
     {
         match kind {
             Kind::Text(c) => {
-                let text = text_after(self.v, w, usize::from(r.b));
+                let text = self.v.text_after(w, usize::from(r.b));
                 r.kind == 1
                     && admits(
                         self.g,
                         self.classes,
                         self.sets,
                         Source::Plain(c),
-                        self.v,
+                        self.v.bytes(),
                         text,
                     )
             }
@@ -90,7 +87,7 @@ impl ValueChecker<'_> {
         let mut next = first;
         for i in 0..n {
             let w = next;
-            let r = fetch(self.v, w);
+            let r = self.v.fetch(w);
             let own = type_of(self.t, self.types, child_type(self.t, kind, i));
             if left == 0 || !self.has_form(own, w, r) {
                 return Err(w);
@@ -110,10 +107,10 @@ impl ValueChecker<'_> {
 }
 
 // Offends at the place of the first value that is not of its type: the whole value is to be of the declared type, as a row of one.
-pub fn value_typing(
-    g: &[u8],
-    t: &[u8],
-    v: &[u8],
+pub fn value_typing<'s>(
+    g: &Stream<'s>,
+    t: &Stream<'s>,
+    v: &Stream<'s>,
     classes: &[u16],
     sets: &[u16],
     types: &[u16],

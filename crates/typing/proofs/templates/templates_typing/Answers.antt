@@ -13,10 +13,10 @@ pub loop-q-init : goal.loop-q-init
 loop-q-init c = whole_is _ _ _ c.requires.templates_are _ (there _ c.declared_type.ensures c.if-is_none.ensures).1
 
 pub body_frame-f-requires : goal.body_frame-f-requires
-body_frame-f-requires c = (c.requires.sized_t, few_parameters _ _ c.requires.templates_are c.requires.limits _ c.loop-q-test.true)
+body_frame-f-requires c = few_parameters _ _ c.requires.templates_are c.requires.limits _ c.loop-q-test.true
 
 pub parameter_types-scope-requires : goal.parameter_types-scope-requires
-parameter_types-scope-requires c = (c.requires.sized_t, omega (arith, c.body_frame-f.ensures.count_is, few_parameters _ _ c.requires.templates_are c.requires.limits _ c.loop-q-test.true))
+parameter_types-scope-requires c = omega (arith, c.body_frame-f.ensures.count_is, few_parameters _ _ c.requires.templates_are c.requires.limits _ c.loop-q-test.true)
 
 pub invariant_of-checker : goal.invariant_of-checker
 invariant_of-checker c = record { ready = record { lexemes = c.requires.lexemes; builds = record { productions_are = c.requires.productions_are; filled = c.fill.ensures; sized = c.requires.sized_g }; types = record { types_are = c.requires.types_are; sized = c.requires.sized_t }; templates_are = c.requires.templates_are } }

@@ -3,7 +3,7 @@ use Rattle.typing.proofs.NodeLaws.{entry_asked, frame_alike, frame_asked, alike_
 use Rattle.typing.proofs.checker.Checker.frame_in.Goals as goal
 
 pub bind-requires : goal.bind-requires
-bind-requires c = (c.args.self.now.ready.types.sized, c.requires.0, alike_room _ c.in-Alike.is c.requires.2)
+bind-requires c = (c.requires.0, alike_room _ c.in-Alike.is c.requires.2)
 
 pub bounds-self-from : goal.bounds-self-from
 bounds-self-from c = omega (arith, entry_asked c.args.i c.in-Asked.is, c.requires.1, c.from.ensures)

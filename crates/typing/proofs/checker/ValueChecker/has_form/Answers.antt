@@ -4,7 +4,7 @@ use Rattle.typing.proofs.ValueLaws.{text_read, text_other, yes_no_is, items_is, 
 use Rattle.typing.proofs.checker.ValueChecker.has_form.Goals as goal
 
 pub returns-then-r-eq1 : goal.returns-then-r-eq1
-returns-then-r-eq1 c = rw c.in-Text.is (c.admits.ensures ∙ text_read _ _ _ _ c.requires _ _ (rw c.from.ensures at c.text_after-text.ensures) c.if-r-eq1.true)
+returns-then-r-eq1 c = rw c.in-Text.is (rw c.bytes.ensures.bytes at c.admits.ensures ∙ text_read _ _ _ _ c.requires _ _ (rw c.from.ensures at c.text_after-text.ensures) c.if-r-eq1.true)
 
 pub returns-else-r-eq1 : goal.returns-else-r-eq1
 returns-else-r-eq1 c = rw c.in-Text.is (ne_eqb _ _ c.if-r-eq1.false ∙ text_other _ _ _ _ c.requires _ c.if-r-eq1.false)
