@@ -24,6 +24,7 @@ use Rattle.std.specs.Result.{IsErrAnd, MatchResult}
 use Rattle.std.proofs.lemmas.Result.{err_from_is_err_and}
 use Rattle.walk.specs.declared.state.Run.{Run}
 use Rattle.stream.specs.Fault.{fault_of}
+use Rattle.stream.specs.Whole.{Whole}
 use Rattle.feed.specs.declared.verdict.Kind.{Kind}
 use Rattle.feed.specs.declared.verdict.Refusal.{Refusal}
 use Rattle.feed.specs.declared.verdict.Rule.{Rule}
@@ -101,15 +102,29 @@ pub lengths_three : (a b c : Option ℕ) (g t v : List ℕ) → a ≡ stream_len
 unfolding bytes_of
 lengths_three a b c g t v ea eb ec = rw (ea, eb, ec) (over_three (λ s. stream_length (bytes_of s)) g t v)
 
-pub blocks_two : (a b : Option ℕ) (g t : List ℕ) → a ≡ stream_blocks 1 g → b ≡ stream_blocks 2 t
+-- 1 lets streams through
+pub sized_two : (p q g t : List ℕ) (next : Unit {0} → Option Answer) → p ≡ g → q ≡ t → Whole p → Whole q
+    → next tt ≡ try 1 (over (λ s. stream_length (bytes_of s)) (two g t)) next
+unfolding first_of both placed try accept
+sized_two p q g t next eg et p_whole q_whole =
+    went_on 1 (first_of none none none) _ next refl (lengths_two none none g t (rw (← eg) (sym p_whole.sized)) (rw (← et) (sym q_whole.sized)))
+
+pub sized_three : (p q r g t v : List ℕ) (next : Unit {0} → Option Answer) → p ≡ g → q ≡ t → r ≡ v → Whole p → Whole q → Whole r
+    → next tt ≡ try 1 (over (λ s. stream_length (bytes_of s)) (three g t v)) next
+unfolding first_of both placed try accept
+sized_three p q r g t v next eg et ev p_whole q_whole r_whole =
+    went_on 1 (first_of none none none) _ next refl
+    (lengths_three none none none g t v (rw (← eg) (sym p_whole.sized)) (rw (← et) (sym q_whole.sized)) (rw (← ev) (sym r_whole.sized)))
+
+pub blocks_two : (a b : Option ℕ) (p q g t : List ℕ) → p ≡ g → q ≡ t → a ≡ stream_blocks 1 p → b ≡ stream_blocks 2 q
     → first_of a b none ≡ over (λ s. stream_blocks (stream_kind s) (bytes_of s)) (two g t)
 unfolding bytes_of stream_kind
-blocks_two a b g t ea eb = rw (ea, eb) (over_two (λ s. stream_blocks (stream_kind s) (bytes_of s)) g t)
+blocks_two a b p q g t eg et ea eb = rw (ea, eb, eg, et) (over_two (λ s. stream_blocks (stream_kind s) (bytes_of s)) g t)
 
-pub blocks_three : (a b c : Option ℕ) (g t v : List ℕ) → a ≡ stream_blocks 1 g → b ≡ stream_blocks 2 t → c ≡ stream_blocks 3 v
+pub blocks_three : (a b c : Option ℕ) (p q r g t v : List ℕ) → p ≡ g → q ≡ t → r ≡ v → a ≡ stream_blocks 1 p → b ≡ stream_blocks 2 q → c ≡ stream_blocks 3 r
     → first_of a b c ≡ over (λ s. stream_blocks (stream_kind s) (bytes_of s)) (three g t v)
 unfolding bytes_of stream_kind
-blocks_three a b c g t v ea eb ec = rw (ea, eb, ec) (over_three (λ s. stream_blocks (stream_kind s) (bytes_of s)) g t v)
+blocks_three a b c p q r g t v eg et ev ea eb ec = rw (ea, eb, ec, eg, et, ev) (over_three (λ s. stream_blocks (stream_kind s) (bytes_of s)) g t v)
 
 pub layouts_two : (a b : Option ℕ) (g t : List ℕ) → a ≡ grammar_layout g → b ≡ templates_layout t → first_of a b none ≡ over layout_of (two g t)
 unfolding layout_of

@@ -23,7 +23,7 @@ use Rattle.typing.specs.Asks.{TemplatesAsk}
 use Rattle.walk.specs.Marks.{ProductionHeads}
 use Rattle.walk.specs.Asks.{sources, Walkable}
 use Rattle.feed.specs.Verdict.{SetLaid}
-use Rattle.feed.specs.Asks.{Tabled, ValueSized, HeadsAsk, HeadsFilled, Room, ChildrenRoom, GrammarRoom, StreamsLaid}
+use Rattle.feed.specs.Asks.{Tabled, ValueSized, HeadsAsk, HeadsFilled, Room, GrammarRoom, StreamsLaid}
 use Rattle.feed.proofs.OrderLaws.{two_laid, three_laid}
 use Rattle.feed.proofs.EndLaws.{paths_fit}
 
@@ -37,12 +37,6 @@ small_room s l = record { room = small_records s l; few = omega arith }
 
 pub large_room : (s : List ℕ) → stream_length s ≡ none → Room s 8064
 large_room s e = record { room = few_records s e; few = omega arith }
-
-pub small_children : (v : List ℕ) → length v ≤ 4096 → ChildrenRoom v 504
-small_children v l = record { room = λ e. small_records v l; few = omega arith }
-
-pub large_children : (v : List ℕ) → ChildrenRoom v 8064
-large_children v = record { room = few_records v; few = omega arith }
 
 -- and an entry to spare
 pub small_heads : (g : List ℕ) → length g ≤ 4096 → GrammarRoom g 505

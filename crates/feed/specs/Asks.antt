@@ -15,10 +15,10 @@ use Rattle.feed.specs.declared.set.Heads.{Heads}
 use Rattle.feed.specs.declared.verdict.Refusal.{Refusal}
 use Rattle.feed.specs.Verdict.{verdict_of, streams_refusal, set_judgement, judgement}
 
--- the two rows of a table have room for the children of a value of right length
+-- the two rows of a table have room for the children of a value
 pub record ChildRoom (v firsts places : List ℕ) : Type 0 where
-  pub in_firsts : stream_length v ≡ none → record_count v ≤ length firsts
-  pub in_places : stream_length v ≡ none → record_count v ≤ length places
+  pub in_firsts : record_count v ≤ length firsts
+  pub in_places : record_count v ≤ length places
 
 -- the verdict is that of 1 to 3; if all passed, the table is that of the value's children
 pub record AllJudged (g t v firsts places : List ℕ) (r : Result (Unit {0}) Refusal) : Type 0 where
@@ -72,14 +72,9 @@ pub record HeadsJudged (g t : List ℕ) (value : Maybe (List ℕ)) (of-g of-t : 
   pub heads : Heads
   pub tables : HeadsFilled g t of-g of-t heads
 
--- an array of n numbers has room for the heads of a stream
+-- an array of n numbers has room for the heads of a stream, or for the children of a value
 pub record Room (s : List ℕ) (n : ℕ) : Type 0 where
   pub room : record_count s ≤ n
-  pub few : n ≤ 65536
-
--- for the children of a value, if it has a right length
-pub record ChildrenRoom (v : List ℕ) (n : ℕ) : Type 0 where
-  pub room : stream_length v ≡ none → record_count v ≤ n
   pub few : n ≤ 65536
 
 -- for the heads of a grammar, and an entry to spare, as the walk has a number behind them

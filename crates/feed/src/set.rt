@@ -16,14 +16,15 @@ use limits::names::templates_names;
 use limits::nonterminals::nonterminals;
 use limits::templates::templates_limits;
 use limits::value::value_limits;
+use stream::Stream;
 use typing::templates::templates_typing;
 use typing::value::value_typing;
 
 // A grammar and a template set, with the heads of each kind by their numbers.
 #[derive(Clone, Copy)]
 struct Set<'a> {
-    g: &'a [u8],
-    t: &'a [u8],
+    g: &'a Stream<'a>,
+    t: &'a Stream<'a>,
     classes: &'a [u16],
     productions: &'a [u16],
     types: &'a [u16],
@@ -41,8 +42,7 @@ pub(crate) struct Heads {
 }
 
 // What refusal 4 says of a value, if one comes.
-fn value_depth(value: Option<&[u8]>) -> Result<(), usize>
-    requires { ValueSized (option_copied value) }
+fn value_depth(value: Option<&Stream<'_>>) -> Result<(), usize>
     ensures { fault_of result ≡ depth_of (option_copied value.entry) }
 {
     match value {
@@ -98,11 +98,11 @@ impl Set<'_> {
     fn fits_small(&self) -> bool
         ensures { IsTrue result → 128 * length self.now.classes.now ≤ 4096 }
     {
-        128 * self.classes.len() + self.g.len() / 8 <= SMALL_TABLE
+        128 * self.classes.len() + self.g.bytes().len() / 8 <= SMALL_TABLE
     }
 
     // 4 to 8, with a table of class sets of N numbers.
-    fn judge_over<const N: usize>(&self, value: Option<&[u8]>) -> Result<(), Refusal>
+    fn judge_over<const N: usize>(&self, value: Option<&Stream<'_>>) -> Result<(), Refusal>
         requires room { SetsRoom self.now.classes.now N }
         requires value_sized { ValueSized (option_copied value) }
         ensures { verdict_of result ≡ judgement self.now.g.now self.now.t.now (option_copied value.entry) }
@@ -125,7 +125,7 @@ impl Set<'_> {
     }
 
     // The same. Small grammars, which are most, take a small table, which is sooner cleared.
-    fn judge_tabled(&self, value: Option<&[u8]>) -> Result<(), Refusal>
+    fn judge_tabled(&self, value: Option<&Stream<'_>>) -> Result<(), Refusal>
         requires { ValueSized (option_copied value) }
         ensures { verdict_of result ≡ judgement self.now.g.now self.now.t.now (option_copied value.entry) }
     {
@@ -141,9 +141,9 @@ impl Set<'_> {
 // lent. The class sets lie on this function's stack, and are gone when the walk starts: check and evaluate both judge by it, and it is too large
 // for the compiler to put it into either.
 pub(crate) fn judge<'a>(
-    g: &'a [u8],
-    t: &'a [u8],
-    value: Option<&[u8]>,
+    g: &'a Stream<'a>,
+    t: &'a Stream<'a>,
+    value: Option<&Stream<'_>>,
     gheads: &mut [u16],
     theads: &mut [u16],
 ) -> Result<Heads, Refusal>

@@ -1,4 +1,4 @@
-// Refusals 1 to 3, "each over grammar, templates, value before the next".
+// Refusals 2 and 3 of streams that 1 let through, "each over grammar, templates, value before the next".
 ghost use Rattle.std.specs.Prelude.{◌≡◌, [], ◌∷◌};
 ghost use Rattle.rules.specs.Answers.{grammar, templates, value, accept};
 ghost use Rattle.feed.specs.Asks.{ChildRoom, AllJudged};
@@ -8,15 +8,15 @@ use crate::verdict::{Kind, Refusal, Rule, at_first, first};
 use layout::grammar::grammar_layout;
 use layout::template::templates_layout;
 use layout::value::value_layout;
-use stream::blocks::{block_fault, length_fault};
+use stream::Stream;
+use stream::blocks::block_fault;
 
 // Of a grammar and a template set.
-pub(crate) fn judge_two(g: &[u8], t: &[u8]) -> Result<(), Refusal>
+pub(crate) fn judge_two(g: &Stream<'_>, t: &Stream<'_>) -> Result<(), Refusal>
     ensures { verdict_of result ≡ streams_refusal (grammar g.now ∷ templates t.now ∷ []) accept }
 {
-    first(Rule::Length, length_fault(g), length_fault(t), Ok(()))?;
-    let of_g = block_fault(Kind::Grammar as u8, g);
-    let of_t = block_fault(Kind::Templates as u8, t);
+    let of_g = block_fault(Kind::Grammar as u8, g.bytes());
+    let of_t = block_fault(Kind::Templates as u8, t.bytes());
     first(Rule::Blocks, of_g, of_t, Ok(()))?;
     let of_g = at_first(grammar_layout(g));
     let of_t = at_first(templates_layout(t));
@@ -25,24 +25,18 @@ pub(crate) fn judge_two(g: &[u8], t: &[u8]) -> Result<(), Refusal>
 
 // Of these and a value, whose children go into a table on the way.
 pub(crate) fn judge_all(
-    g: &[u8],
-    t: &[u8],
-    v: &[u8],
+    g: &Stream<'_>,
+    t: &Stream<'_>,
+    v: &Stream<'_>,
     firsts: &mut [u16],
     places: &mut [u16],
 ) -> Result<(), Refusal>
     requires { ChildRoom v.now firsts.old places.old }
     ensures { AllJudged g.now t.now v.now firsts.new places.new result }
 {
-    first(
-        Rule::Length,
-        length_fault(g),
-        length_fault(t),
-        length_fault(v),
-    )?;
-    let of_g = block_fault(Kind::Grammar as u8, g);
-    let of_t = block_fault(Kind::Templates as u8, t);
-    let of_v = block_fault(Kind::Value as u8, v);
+    let of_g = block_fault(Kind::Grammar as u8, g.bytes());
+    let of_t = block_fault(Kind::Templates as u8, t.bytes());
+    let of_v = block_fault(Kind::Value as u8, v.bytes());
     first(Rule::Blocks, of_g, of_t, of_v)?;
     let of_g = at_first(grammar_layout(g));
     let of_t = at_first(templates_layout(t));
