@@ -102,17 +102,17 @@ pub lengths_three : (a b c : Option ℕ) (g t v : List ℕ) → a ≡ stream_len
 unfolding bytes_of
 lengths_three a b c g t v ea eb ec = rw (ea, eb, ec) (over_three (λ s. stream_length (bytes_of s)) g t v)
 
--- 1 lets streams through
-pub sized_two : (p q g t : List ℕ) (next : Unit {0} → Option Answer) → p ≡ g → q ≡ t → Whole p → Whole q
+-- 1 lets whole streams through
+pub whole_two : (p q g t : List ℕ) (next : Unit {0} → Option Answer) → p ≡ g → q ≡ t → Whole p → Whole q
     → next tt ≡ try 1 (over (λ s. stream_length (bytes_of s)) (two g t)) next
 unfolding first_of both placed try accept
-sized_two p q g t next eg et p_whole q_whole =
+whole_two p q g t next eg et p_whole q_whole =
     went_on 1 (first_of none none none) _ next refl (lengths_two none none g t (rw (← eg) (sym p_whole.sized)) (rw (← et) (sym q_whole.sized)))
 
-pub sized_three : (p q r g t v : List ℕ) (next : Unit {0} → Option Answer) → p ≡ g → q ≡ t → r ≡ v → Whole p → Whole q → Whole r
+pub whole_three : (p q r g t v : List ℕ) (next : Unit {0} → Option Answer) → p ≡ g → q ≡ t → r ≡ v → Whole p → Whole q → Whole r
     → next tt ≡ try 1 (over (λ s. stream_length (bytes_of s)) (three g t v)) next
 unfolding first_of both placed try accept
-sized_three p q r g t v next eg et ev p_whole q_whole r_whole =
+whole_three p q r g t v next eg et ev p_whole q_whole r_whole =
     went_on 1 (first_of none none none) _ next refl
     (lengths_three none none none g t v (rw (← eg) (sym p_whole.sized)) (rw (← et) (sym q_whole.sized)) (rw (← ev) (sym r_whole.sized)))
 
@@ -196,14 +196,13 @@ first_none a b c e =
     let y = (both_iff _ _).0 x.1 in
     ((placed_iff 1 a).0 x.0, (placed_iff 2 b).0 y.0, (placed_iff 3 c).0 y.1)
 
-pub two_sized : (g t : List ℕ) → over (λ s. stream_length (bytes_of s)) (two g t) ≡ none → (stream_length g ≡ none) × (stream_length t ≡ none)
-unfolding bytes_of
-two_sized g t e = let a = first_none _ _ _ (over_two (λ s. stream_length (bytes_of s)) g t ∙ e) in (a.0, a.1)
+pub two_sized : (a b : Option ℕ) (g t : List ℕ) → none ≡ try 1 (first_of a b none) accept → a ≡ stream_length g → b ≡ stream_length t
+    → (stream_length g ≡ none) × (stream_length t ≡ none)
+two_sized a b g t e ea eb = let l = first_none a b none (passed 1 _ _ e refl) in (sym ea ∙ l.0, sym eb ∙ l.1)
 
-pub three_sized : (g t v : List ℕ) → over (λ s. stream_length (bytes_of s)) (three g t v) ≡ none
+pub three_sized : (a b c : Option ℕ) (g t v : List ℕ) → none ≡ try 1 (first_of a b c) accept → a ≡ stream_length g → b ≡ stream_length t → c ≡ stream_length v
     → (stream_length g ≡ none) × (stream_length t ≡ none) × (stream_length v ≡ none)
-unfolding bytes_of
-three_sized g t v e = first_none _ _ _ (over_three (λ s. stream_length (bytes_of s)) g t v ∙ e)
+three_sized a b c g t v e ea eb ec = let l = first_none a b c (passed 1 _ _ e refl) in (sym ea ∙ l.0, sym eb ∙ l.1, sym ec ∙ l.2)
 
 pub two_laid : (g t : List ℕ) → streams_refusal (two g t) accept ≡ none → LaidGrammar g × LaidTemplates t
 unfolding streams_refusal bytes_of layout_of
