@@ -70,6 +70,15 @@ fn inside(s: &[u8], at: usize) -> Record
     }
 }
 
+// The record at a place whose 8 bytes lie among those of a stream: nothing is tested, not even that blocks are whole.
+pub fn fetch_in(s: &[u8], p: Place) -> Record
+    requires { p.at + 8 ≤ length s.now }
+    ensures { (i : ℕ) → p ≡ place_of i → Fetched s.now i result }
+{
+    let at = p.at;
+    inside(s, at)
+}
+
 impl Stream<'_> {
     // Record i: two tests and one address. Blocks are whole, so that no record is cut short; past the end all fields are 0.
     pub fn fetch(&self, i: usize) -> Record
@@ -106,9 +115,7 @@ impl Stream<'_> {
         requires { p.at + 8 ≤ length self.now }
         ensures { (i : ℕ) → p ≡ place_of i → Fetched self.now i result }
     {
-        let s = self.bytes();
-        let at = p.at;
-        inside(s, at)
+        fetch_in(self.bytes(), p)
     }
 }
 
