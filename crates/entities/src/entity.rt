@@ -37,7 +37,8 @@ pub struct Plain {
     pub length: usize,
 }
 
-// The byte whose entity a text begins with, which has an ampersand there.
+// The byte whose entity a text begins with, which has an ampersand there. (Inlined, as plain_at is.)
+#[inline(always)]
 fn entity_at(text: &[u8]) -> Option<Plain>
     requires { get_or text.now 0 0 ≡ 0x26 }
     ensures { Reads text.now result }
